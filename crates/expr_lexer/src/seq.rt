@@ -1,0 +1,120 @@
+ghost use Rattle.std.specs.Prelude.{◌≡◌, ◌↔◌, [], ◌∷◌, ◌++◌, length, IfOk, IfErr, OnOk, OnErr, IsTrue};
+ghost use Rattle.std.specs.List.{AllZip};
+ghost use Rattle.std.specs.Cmp.Lexicographic.{pointwise, lists_equiv, lists_per};
+ghost use Rattle.std.specs.Slice.Iter.{iter_rest};
+
+use std::alloc::{AllocError as NoMemory, AllocFailed, Global};
+use std::marker::Model;
+use std::slice;
+
+/// A list that grows at its end, which contracts see as the list of its items.
+#[derive(Debug, Drop)]
+pub struct Seq<T> {
+    items: Vec<T>,
+}
+
+impl<T> Model for Seq<T> {
+    ghost use Rattle.std.specs.Prelude.{List};
+
+    ghost Value = { List T };
+
+    ghost view = { λ s. s.items.items };
+}
+
+impl<T> Seq<T> {
+    /// The empty list, which takes no memory until it grows.
+    pub fn new(alloc: Global) -> Seq<T>
+        ensures { result ≡ [] }
+    {
+        Seq {
+            items: Vec::new(alloc),
+        }
+    }
+
+    /// The items, lent.
+    pub fn as_slice(&self) -> &[T]
+        ensures { result.now ≡ self.now }
+    {
+        self.items.as_slice()
+    }
+
+    /// Goes over the items in order.
+    pub fn iter(&self) -> slice::Iter<'_, T>
+        ensures { iter_rest result ≡ self.now }
+    {
+        self.items.iter()
+    }
+
+    /// How many items there are.
+    pub fn len(&self) -> usize
+        ensures { result ≡ length self.now }
+    {
+        self.items.len()
+    }
+
+    /// Whether there is no item.
+    pub fn is_empty(&self) -> bool
+        ensures { IsTrue result ↔ (self.now ≡ []) }
+    {
+        self.items.is_empty()
+    }
+
+    /// Adds `item` at the end. Where memory is refused the list stays as it was, and the error gives the
+    /// item back.
+    pub fn push(&mut self, item: T) -> Result<(), AllocFailed<T>>
+        ensures ok { OnOk result (self.new ≡ self.old ++ item ∷ []) }
+        ensures unchanged { OnErr result (self.new ≡ self.old) }
+        ensures given_back { IfErr result (λ refused. refused.value ≡ item) }
+    {
+        self.items.push(item)
+    }
+}
+
+impl<T: Clone> Seq<T> {
+    /// A list of copies of the items, in their order.
+    pub fn try_clone(&self) -> Result<Seq<T>, NoMemory>
+        ensures { IfOk result (λ copy. AllZip T.is_clone self.now copy) }
+    {
+        Ok(Seq {
+            items: self.items.clone()?,
+        })
+    }
+}
+
+impl<T> From<Vec<T>> for Seq<T> {
+    ghost from_gives = { λ vector seq. seq ≡ vector.items };
+
+    fn from(items: Vec<T>) -> Seq<T> {
+        Seq { items }
+    }
+}
+
+impl<T> From<Seq<T>> for Vec<T> {
+    ghost from_gives = { λ seq vector. vector.items ≡ seq };
+
+    fn from(seq: Seq<T>) -> Vec<T> {
+        seq.items
+    }
+}
+
+impl<T: Clone> Clone for Seq<T> {
+    ghost is_clone = { AllZip T.is_clone };
+
+    fn clone(&self) -> Result<Seq<T>, NoMemory> {
+        self.try_clone()
+    }
+}
+
+impl<T: PartialEq> PartialEq for Seq<T> {
+    ghost eq = { pointwise T.eq };
+
+    ghost laws = { lists_per T.laws };
+
+    fn eq(&self, other: &Seq<T>) -> bool {
+        self.items == other.items
+    }
+}
+
+impl<T: Eq> Eq for Seq<T> {
+    ghost laws = { lists_equiv T.Eq.laws };
+}

@@ -1,0 +1,69 @@
+use super::{Bytes, Seq, Text};
+use std::alloc::Global;
+use std::test::Fail;
+
+fn text(alloc: Global, from: &str) -> Result<Text, Fail> {
+    Ok(Text::from(String::from_str(alloc, from)?))
+}
+
+#[test]
+fn texts(rt: HostRuntime) -> Result<(), Fail> {
+    let alloc = rt.alloc();
+    let music = text(alloc, "Music")?;
+    let musik = Text::copied(alloc, "Musik")?;
+    assert_eq!(rt; music.as_str(), "Music");
+    assert_eq!(rt; music.len(), 5);
+    assert!(rt; !music.is_empty());
+    assert!(rt; text(alloc, "")?.is_empty());
+    assert!(rt; music == music.try_clone()?);
+    assert!(rt; music == music.clone()?);
+    assert!(rt; music != musik);
+    assert!(rt; music < musik);
+    assert!(rt; text(alloc, "Mus")? < music);
+    assert!(rt; text(alloc, "é")? > text(alloc, "z")?);
+    assert_eq!(rt;
+        format!(in alloc; "{music} {music:?}")?.as_str(),
+        "Music \"Music\""
+    );
+    assert_eq!(rt; String::from(music).as_str(), "Music");
+    Ok(())
+}
+
+#[test]
+fn bytes(rt: HostRuntime) -> Result<(), Fail> {
+    let alloc = rt.alloc();
+    let low = Bytes::from(vec![in alloc; 0u8, 127]?);
+    let high = Bytes::copied(alloc, &[0, 128])?;
+    assert_eq!(rt; low.as_slice(), [0u8, 127].as_slice());
+    assert_eq!(rt; low.len(), 2);
+    assert!(rt; Bytes::from(Vec::new(alloc)).is_empty());
+    assert!(rt; low == low.try_clone()?);
+    assert!(rt; low == low.clone()?);
+    assert!(rt; low != high);
+    assert!(rt; low < high);
+    assert_eq!(rt; Vec::from(high).as_slice(), [0u8, 128].as_slice());
+    Ok(())
+}
+
+#[test]
+fn lists(rt: HostRuntime) -> Result<(), Fail> {
+    let alloc = rt.alloc();
+    let mut names = Seq::new(alloc);
+    assert!(rt; names.is_empty());
+    names.push(text(alloc, "Artist")?)?;
+    names.push(text(alloc, "Song")?)?;
+    assert_eq!(rt; names.len(), 2);
+    let copies = names.try_clone()?;
+    assert!(rt; copies == names);
+    assert!(rt; copies == copies.clone()?);
+    let mut bytes = 0usize;
+    for name in copies.iter() {
+        bytes = bytes.saturating_add(name.len());
+    }
+    assert_eq!(rt; bytes, 10);
+    let back = Vec::from(names);
+    assert_eq!(rt; back.len(), 2);
+    assert_eq!(rt; back[1].as_str(), "Song");
+    assert!(rt; Seq::from(back).as_slice() == copies.as_slice());
+    Ok(())
+}
