@@ -1,0 +1,92 @@
+ghost use Rattle.std.specs.Prelude.{◌≡◌, IfOk};
+
+use crate::keys::KeyNames;
+use expr_lexer::{Seq, Text};
+use std::alloc::AllocError as NoMemory;
+
+/// The attributes of an item that an index keeps: those of the keys, these and the named ones, or all.
+#[derive(Debug, PartialEq, Eq, Drop)]
+pub enum Projection {
+    KeysOnly,
+    Include(Seq<Text>),
+    All,
+}
+
+impl Projection {
+    /// An equal projection.
+    pub fn try_clone(&self) -> Result<Projection, NoMemory>
+        ensures { IfOk result (λ copy. copy ≡ self.now) }
+    {
+        Ok(match self {
+            Projection::KeysOnly => Projection::KeysOnly,
+            Projection::Include(names) => Projection::Include(names.try_clone()?),
+            Projection::All => Projection::All,
+        })
+    }
+}
+
+impl Clone for Projection {
+    ghost is_clone = { λ projection copy. copy ≡ projection };
+
+    fn clone(&self) -> Result<Projection, NoMemory> {
+        self.try_clone()
+    }
+}
+
+/// An index that shares the table's partition key and sorts by an attribute of its own.
+#[derive(Debug, PartialEq, Eq, Drop)]
+pub struct LocalIndex {
+    pub name: Text,
+    pub keys: KeyNames,
+    pub projection: Projection,
+}
+
+impl LocalIndex {
+    /// An equal index.
+    pub fn try_clone(&self) -> Result<LocalIndex, NoMemory>
+        ensures { IfOk result (λ copy. copy ≡ self.now) }
+    {
+        Ok(LocalIndex {
+            name: self.name.try_clone()?,
+            keys: self.keys.try_clone()?,
+            projection: self.projection.try_clone()?,
+        })
+    }
+}
+
+impl Clone for LocalIndex {
+    ghost is_clone = { λ index copy. copy ≡ index };
+
+    fn clone(&self) -> Result<LocalIndex, NoMemory> {
+        self.try_clone()
+    }
+}
+
+/// An index with a key of its own, which may differ from the table's in both parts.
+#[derive(Debug, PartialEq, Eq, Drop)]
+pub struct GlobalIndex {
+    pub name: Text,
+    pub keys: KeyNames,
+    pub projection: Projection,
+}
+
+impl GlobalIndex {
+    /// An equal index.
+    pub fn try_clone(&self) -> Result<GlobalIndex, NoMemory>
+        ensures { IfOk result (λ copy. copy ≡ self.now) }
+    {
+        Ok(GlobalIndex {
+            name: self.name.try_clone()?,
+            keys: self.keys.try_clone()?,
+            projection: self.projection.try_clone()?,
+        })
+    }
+}
+
+impl Clone for GlobalIndex {
+    ghost is_clone = { λ index copy. copy ≡ index };
+
+    fn clone(&self) -> Result<GlobalIndex, NoMemory> {
+        self.try_clone()
+    }
+}

@@ -1,0 +1,14 @@
+//! The schema of a table, and the check that finds the first rule that it breaks.
+#![tactic(auto)]
+
+mod definition;
+mod fault;
+mod index;
+mod keys;
+mod schema;
+
+pub use definition::{Definition, KeyKind};
+pub use fault::SchemaFault;
+pub use index::{GlobalIndex, LocalIndex, Projection};
+pub use keys::KeyNames;
+pub use schema::Schema;

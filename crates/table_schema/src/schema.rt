@@ -1,0 +1,50 @@
+ghost use Rattle.std.specs.Prelude.{◌≡◌, IfOk};
+
+use crate::definition::Definition;
+use crate::index::{GlobalIndex, LocalIndex};
+use crate::keys::KeyNames;
+use expr_lexer::{Seq, Text};
+use std::alloc::AllocError as NoMemory;
+
+/// What a table was made with.
+#[derive(Debug, PartialEq, Eq, Drop)]
+pub struct Schema {
+    pub name: Text,
+    pub definitions: Seq<Definition>,
+    pub keys: KeyNames,
+    pub locals: Seq<LocalIndex>,
+    pub globals: Seq<GlobalIndex>,
+    /// Whether the table is billed by request, and not by the units below.
+    pub on_demand: bool,
+    pub read_units: u64,
+    pub write_units: u64,
+    /// When the table was made, in microseconds.
+    pub created: u64,
+}
+
+impl Schema {
+    /// An equal schema.
+    pub fn try_clone(&self) -> Result<Schema, NoMemory>
+        ensures { IfOk result (λ copy. copy ≡ self.now) }
+    {
+        Ok(Schema {
+            name: self.name.try_clone()?,
+            definitions: self.definitions.try_clone()?,
+            keys: self.keys.try_clone()?,
+            locals: self.locals.try_clone()?,
+            globals: self.globals.try_clone()?,
+            on_demand: self.on_demand,
+            read_units: self.read_units,
+            write_units: self.write_units,
+            created: self.created,
+        })
+    }
+}
+
+impl Clone for Schema {
+    ghost is_clone = { λ schema copy. copy ≡ schema };
+
+    fn clone(&self) -> Result<Schema, NoMemory> {
+        self.try_clone()
+    }
+}
