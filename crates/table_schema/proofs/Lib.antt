@@ -1,0 +1,5 @@
+pub mod Pairs
+pub mod Names
+pub mod Chains
+pub mod Rules
+pub mod Faults

@@ -1,0 +1,7 @@
+pub mod Name
+pub mod Key
+pub mod Index
+pub mod Rule
+pub mod Fault
+pub mod FaultName
+pub mod Indexes

@@ -1,5 +1,7 @@
-ghost use Rattle.std.specs.Prelude.{◌≡◌, IfOk};
+ghost use Rattle.std.specs.Prelude.{◌≡◌, ◌≢◌, IfOk, IsTrue, ◌↔◌, All, Any, AllPairs};
+ghost use Rattle.table_schema.specs.Name.{IsAttributeName};
 
+use crate::name::is_attribute_name;
 use expr_lexer::Text;
 use std::alloc::AllocError as NoMemory;
 
@@ -36,4 +38,36 @@ impl Clone for Definition {
     fn clone(&self) -> Result<Definition, NoMemory> {
         self.try_clone()
     }
+}
+
+/// Whether one of the definitions has the name.
+pub fn define(definitions: &[Definition], name: &Text) -> bool
+    ensures { IsTrue result ↔ Any (λ d. d.name ≡ name.now) definitions.now }
+{
+    definitions
+        .iter()
+        .any(|definition| definition.name == *name)
+}
+
+/// Whether every definition has a name that it may have.
+pub fn are_named(definitions: &[Definition]) -> bool
+    ensures { IsTrue result ↔ All (λ d. IsAttributeName d.name) definitions.now }
+{
+    definitions
+        .iter()
+        .all(|definition| is_attribute_name(&definition.name))
+}
+
+/// Whether no two definitions have one name.
+pub fn are_distinct(definitions: &[Definition]) -> bool
+    ensures { IsTrue result ↔ AllPairs (λ d e. d.name ≢ e.name) definitions.now }
+{
+    let mut rest = definitions;
+    while let Some((first, others)) = rest.split_first() {
+        if define(others, &first.name) {
+            return false;
+        }
+        rest = others;
+    }
+    true
 }

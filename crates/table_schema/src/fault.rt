@@ -1,3 +1,6 @@
+ghost use Rattle.std.specs.Prelude.{◌≡◌, Some};
+ghost use Rattle.table_schema.specs.FaultName.{name_of};
+
 use std::error::Error;
 use std::fmt;
 
@@ -17,7 +20,10 @@ pub enum SchemaFault {
 
 impl SchemaFault {
     /// The fault's name, as error texts show it.
-    pub fn name(self) -> &'static str {
+    #[tactic(auto, unfolding(crate::specs::FaultName::name_of))]
+    fn name(self) -> &'static str
+        ensures { result.now ≡ name_of self }
+    {
         match self {
             SchemaFault::BadName => "BadName",
             SchemaFault::BadKeySchema => "BadKeySchema",
@@ -32,6 +38,8 @@ impl SchemaFault {
 }
 
 impl fmt::Display for SchemaFault {
+    ghost output = { λ fault. Some (name_of fault) };
+
     fn fmt<W: fmt::Write>(&self, f: &mut fmt::Formatter<W>) -> fmt::Result {
         f.write_str(self.name())
     }

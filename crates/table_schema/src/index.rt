@@ -1,4 +1,5 @@
-ghost use Rattle.std.specs.Prelude.{◌≡◌, IfOk};
+ghost use Rattle.std.specs.Prelude.{◌≡◌, IfOk, IsTrue, ◌↔◌};
+ghost use Rattle.table_schema.specs.Index.{IsProjection};
 
 use crate::keys::KeyNames;
 use expr_lexer::{Seq, Text};
@@ -22,6 +23,16 @@ impl Projection {
             Projection::Include(names) => Projection::Include(names.try_clone()?),
             Projection::All => Projection::All,
         })
+    }
+
+    /// Whether an index may keep so many named attributes.
+    pub(crate) fn is_valid(&self) -> bool
+        ensures { IsTrue result ↔ IsProjection self.now }
+    {
+        match self {
+            Projection::KeysOnly | Projection::All => true,
+            Projection::Include(names) => matches!(names.len(), 1..=20),
+        }
     }
 }
 

@@ -1,4 +1,5 @@
-ghost use Rattle.std.specs.Prelude.{◌≡◌, IfOk};
+ghost use Rattle.std.specs.Prelude.{◌≡◌, IfOk, IsTrue, ◌↔◌};
+ghost use Rattle.table_schema.specs.Key.{Names, AreApart, IsLocalTo};
 
 use expr_lexer::Text;
 use std::alloc::AllocError as NoMemory;
@@ -22,6 +23,36 @@ impl KeyNames {
             None => None,
         };
         Ok(KeyNames { partition, sort })
+    }
+
+    /// Whether the attribute is a part of the key.
+    pub(crate) fn names(&self, name: &Text) -> bool
+        ensures { IsTrue result ↔ Names self.now name.now }
+    {
+        if self.partition == *name {
+            return true;
+        }
+        match &self.sort {
+            Some(sort) => *sort == *name,
+            None => false,
+        }
+    }
+
+    /// Whether the sort key, if there is one, is another attribute than the partition key.
+    pub(crate) fn are_apart(&self) -> bool
+        ensures { IsTrue result ↔ AreApart self.now }
+    {
+        match &self.sort {
+            Some(sort) => self.partition != *sort,
+            None => true,
+        }
+    }
+
+    /// Whether these may be the keys of a local index of a table with the keys `table`.
+    pub(crate) fn are_local_to(&self, table: &KeyNames) -> bool
+        ensures { IsTrue result ↔ IsLocalTo table.now self.now }
+    {
+        self.partition == table.partition && self.sort.is_some() && table.sort.is_some()
     }
 }
 

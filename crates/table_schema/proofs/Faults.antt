@@ -1,0 +1,9 @@
+use Rattle.std.proofs.Common.{Ok, Err}
+use Rattle.std.specs.Prelude.{◌↔◌, IsOk, Result}
+use Rattle.table_schema.specs.declared.schema.Schema.{Schema}
+use Rattle.table_schema.specs.declared.fault.SchemaFault.{SchemaFault}
+use Rattle.table_schema.specs.Rule.{IsFreeOf, IsValid}
+
+-- a schema with a fault is not valid
+pub refused : (schema : Schema) (fault : SchemaFault) → ¬ (IsFreeOf fault schema) → IsOk {T = Unit {0}} (Err fault) ↔ IsValid schema
+refused schema fault broken = (λ ok. absurd (cc), λ valid. absurd (broken (valid fault)))

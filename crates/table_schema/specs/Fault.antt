@@ -1,0 +1,20 @@
+use Rattle.std.specs.Prelude.{ℕ, ◌<◌}
+use Rattle.table_schema.specs.declared.schema.Schema.{Schema}
+use Rattle.table_schema.specs.declared.fault.SchemaFault.{SchemaFault}
+use Rattle.table_schema.specs.declared.fault.SchemaFault.TheVariants.{BadName, BadKeySchema, BadDefinition, DefinitionMismatch, BadIndexName, BadIndexKey, BadProjection, TooManyIndexes}
+use Rattle.table_schema.specs.Rule.{IsFreeOf}
+
+abbrev pub number_of : SchemaFault → ℕ
+number_of BadName = 1
+number_of BadKeySchema = 2
+number_of BadDefinition = 3
+number_of DefinitionMismatch = 4
+number_of BadIndexName = 5
+number_of BadIndexKey = 6
+number_of BadProjection = 7
+number_of TooManyIndexes = 8
+
+-- this fault is there, and none of a lesser number
+abbrev pub IsFirstFault : Schema → SchemaFault → Type 0
+IsFirstFault schema fault =
+    (¬ (IsFreeOf fault schema)) × ((lesser : SchemaFault) → number_of lesser < number_of fault → IsFreeOf lesser schema)
