@@ -1,0 +1,12 @@
+//! HTTP/1.1 at the edge: the messages of a byte stream, and the bytes of replies.
+#![tactic(auto)]
+
+mod fault;
+mod field;
+mod head;
+mod message;
+mod reader;
+
+pub use fault::{HttpFault, NextEnd};
+pub use message::Message;
+pub use reader::Reader;

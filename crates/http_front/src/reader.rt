@@ -1,0 +1,199 @@
+//! The messages of a byte stream, one after the other.
+ghost use Rattle.std.specs.Prelude.{◌≡◌, ◌⊎◌, ℕ, List, [], ◌++◌, ◌<◌, ◌≤◌, length, take, drop, option_map, vec_len, Option, Some, None, IfOk, IfErr, OnOk, IfSome, IfNone, IsErrOf, IsTrue, IsFalse};
+ghost use Rattle.std.specs.Io.KnownBytes.{prepend_known, Keeps, Consumes, IsAtEnd};
+ghost use Rattle.httparse.specs.Spans.{IsWithin, span_bytes};
+ghost use Rattle.ddb_outside.specs.Causes.{Rose};
+ghost use Rattle.http_front.specs.Heads.{max_body};
+ghost use Rattle.http_front.specs.Messages.{IsMessage, IsRefusedAs, IsShortHead, IsShortBody, IsPartial, IsCutAt, told};
+ghost use Rattle.http_front.specs.Ends.{IfRefused, IfCut, IsOutside, IsCutOrOutside, IsCutWith, IsRefusalWith};
+ghost use Rattle.http_front.specs.Spans.{HasHead, MovesTo};
+
+use crate::fault::{HttpFault, NextEnd};
+use crate::head::{Head, ROOM, find_head};
+use crate::message::Message;
+use bytes::BytesMut;
+use ddb_outside::Source;
+use expr_lexer::Bytes;
+use httparse::spans::{EMPTY_HEADER_SPAN, HeaderSpan, Span};
+use std::alloc::{AllocError as NoMemory, Global};
+use std::marker::Model;
+
+/// The most bytes of one read.
+const PIECE: usize = 4_096;
+
+/// Reads messages from a source. A contract sees the bytes that were read and not yet handed out.
+#[derive(Drop)]
+pub struct Reader {
+    alloc: Global,
+    held: BytesMut,
+    spans: Vec<HeaderSpan>,
+}
+
+impl Model for Reader {
+    ghost use Rattle.std.specs.Prelude.{List, ℕ, length, ◌≡◌};
+
+    ghost Value = { List ℕ };
+
+    ghost view = { λ r. r.held.items };
+
+    ghost invariant = { λ r. length r.spans.items ≡ 5462 };
+}
+
+/// How a fault is answered: in this release each as BadHead.
+fn told(_fault: HttpFault) -> HttpFault
+    ensures { result ≡ told _fault }
+{
+    HttpFault::BadHead
+}
+
+impl Reader {
+    /// A reader that holds nothing yet.
+    pub fn make(alloc: Global) -> Result<Reader, NoMemory>
+        ensures { IfOk result (λ reader. reader ≡ []) }
+    {
+        Ok(Reader {
+            alloc,
+            held: BytesMut::new(alloc),
+            spans: vec![in alloc; EMPTY_HEADER_SPAN; ROOM]?,
+        })
+    }
+
+    /// The next message of the bytes that are held and of those that `source` still has, None where
+    /// they end before it begins (RFC 9112, section 2). The source is read in pieces of 4,096 bytes,
+    /// and only while what is held has neither a whole message nor a refusal.
+    ///
+    /// Refused comes where no message can be there, Cut where the input ends inside one, ReadFault
+    /// where the source failed. After an error nothing is said of what the reader holds.
+    pub fn next<S: Source>(&mut self, source: &mut S) -> Result<Option<Message>, NextEnd>
+        ensures message { IfOk result (λ o. IfSome o (λ m. (text : List ℕ) × IsMessage text m
+            × Consumes (prepend_known self.old (S.left source.old)) (prepend_known self.new (S.left source.new)) text)) }
+        ensures end { IfOk result (λ o. IfNone o (IsAtEnd (prepend_known self.old (S.left source.old)))) }
+        ensures cut { IfErr result (λ e. IfCut e (λ got. IfSome (prepend_known self.old (S.left source.old)) (IsCutAt got))) }
+        ensures refused { IfErr result (λ e. IfRefused e (λ fault. IfSome (prepend_known self.old (S.left source.old)) (IsRefusedAs fault))) }
+
+        // A failure is the source's, and rose its count; the count never falls.
+        ensures fault { IsErrOf result NextEnd.ReadFault → Rose (S.faults source.old) (S.faults source.new) }
+        ensures later { S.faults source.old ≤ S.faults source.new }
+
+        // The source loses bytes from its front alone, and none while what is held decides.
+        ensures suffix { (taken : List ℕ) × Consumes (S.left source.old) (S.left source.new) taken }
+        ensures quiet { ¬ (IsPartial self.old) → source.new ≡ source.old }
+        ensures bounded { IfOk result (λ o. IfSome o (λ m. length m.body ≤ max_body)) }
+    {
+        loop {
+            if let Some(head) = self.look()? {
+                return Ok(Some(self.take_message(head, source)?));
+            }
+            if !self.take_in(source)? {
+                return self.end_of_input();
+            }
+        }
+    }
+
+    /// The head at the front of what is held, None where it is still to be completed.
+    fn look(&mut self) -> Result<Option<Head>, NextEnd>
+        ensures same { self.new ≡ self.old }
+        ensures head { IfOk result (λ o. IfSome o (HasHead self.old)) }
+        ensures none { IfOk result (λ o. IfNone o (IsShortHead self.old)) }
+        ensures refused { IfErr result (λ e. IsRefusalWith e (λ fault. IsRefusedAs fault self.old)) }
+    {
+        match find_head(self.held.as_slice(), &mut self.spans) {
+            Ok(found) => Ok(found),
+            Err(fault) => Err(NextEnd::Refused(told(fault))),
+        }
+    }
+
+    /// Reads one piece. False where the source has come to its end.
+    fn take_in<S: Source>(&mut self, source: &mut S) -> Result<bool, NextEnd>
+        ensures more { IfOk result (λ more. IsTrue more → length self.old < length self.new) }
+        ensures known { OnOk result (Keeps (prepend_known self.old (S.left source.old)) (prepend_known self.new (S.left source.new))) }
+        ensures end { IfOk result (λ more. IsFalse more → IsAtEnd (S.left source.new) × (self.new ≡ self.old)) }
+        ensures outside { IfErr result IsOutside }
+        ensures fault { IsErrOf result NextEnd.ReadFault → Rose (S.faults source.old) (S.faults source.new) }
+        ensures later { S.faults source.old ≤ S.faults source.new }
+        ensures suffix { (taken : List ℕ) × Consumes (S.left source.old) (S.left source.new) taken }
+    {
+        let mut piece = [0u8; PIECE];
+        let Ok(count) = source.read(&mut piece) else {
+            return Err(NextEnd::ReadFault);
+        };
+        self.held.extend_from_slice(&piece[..count])?;
+        Ok(0 < count)
+    }
+
+    /// What is answered where the input ends before the next message is whole.
+    fn end_of_input(&self) -> Result<Option<Message>, NextEnd>
+        ensures none { IfOk result (λ o. (o ≡ None) × (self.now ≡ [])) }
+        ensures cut { IfErr result (λ e. IsCutWith e (λ got. (0 < length self.now) × (got ≡ length self.now))) }
+    {
+        if self.held.is_empty() {
+            Ok(None)
+        } else {
+            Err(NextEnd::Cut {
+                got: self.held.len() as u64,
+            })
+        }
+    }
+
+    /// Takes the message of an accepted head, and reads on where its body is not whole yet.
+    fn take_message<S: Source>(&mut self, head: Head, source: &mut S) -> Result<Message, NextEnd>
+        requires { HasHead self.old head }
+        ensures message { IfOk result (λ m. (text : List ℕ) × IsMessage text m
+            × Consumes (prepend_known self.old (S.left source.old)) (prepend_known self.new (S.left source.new)) text) }
+        ensures cut { IfErr result (λ e. IsCutOrOutside e (λ got. IfSome (prepend_known self.old (S.left source.old)) (IsCutAt got))) }
+        ensures fault { IsErrOf result NextEnd.ReadFault → Rose (S.faults source.old) (S.faults source.new) }
+        ensures later { S.faults source.old ≤ S.faults source.new }
+        ensures suffix { (taken : List ℕ) × Consumes (S.left source.old) (S.left source.new) taken }
+        ensures quiet { ¬ (IsShortBody self.old) → source.new ≡ source.old }
+        ensures bounded { IfOk result (λ m. length m.body ≤ max_body) }
+    {
+        let target = self.operation(head.target)?;
+        let mut body = self.start_body(head)?;
+        while body.len() < head.size {
+            if !self.take_in(source)? {
+                return Err(NextEnd::Cut {
+                    got: (head.len + body.len()) as u64,
+                });
+            }
+            self.move_to(&mut body, head.size)?;
+        }
+        Ok(Message {
+            target,
+            body: Bytes::from(body),
+            last: head.last,
+        })
+    }
+
+    /// A copy of the operation's name.
+    fn operation(&self, target: Option<Span>) -> Result<Option<Bytes>, NoMemory>
+        requires { IfSome target (IsWithin (length self.now)) }
+        ensures { IfOk result (λ name. name ≡ option_map (span_bytes self.now) target) }
+    {
+        match target {
+            Some(span) => Ok(Some(Bytes::copied(self.alloc, span.of(self.held.as_slice()))?)),
+            None => Ok(None),
+        }
+    }
+
+    /// Takes the head off, and as much of the body as is held. All room for the body is made here.
+    fn start_body(&mut self, head: Head) -> Result<Vec<u8>, NoMemory>
+        requires { head.len ≤ length self.old }
+        ensures { IfOk result (λ body. MovesTo [] (drop head.len self.old) head.size body.items self.new) }
+    {
+        let mut body = Vec::with_capacity(self.alloc, head.size)?;
+        self.held.advance(head.len);
+        self.move_to(&mut body, head.size)?;
+        Ok(body)
+    }
+
+    /// Moves the front of what is held to the end of the body, until that has its size.
+    fn move_to(&mut self, body: &mut Vec<u8>, size: usize) -> Result<(), NoMemory>
+        requires { vec_len body.old ≤ size }
+        ensures { OnOk result (MovesTo body.old.items self.old size body.new.items self.new) }
+    {
+        let count = self.held.len().min(size - body.len());
+        body.extend_from_slice(&self.held.as_slice()[..count])?;
+        self.held.advance(count);
+        Ok(())
+    }
+}
