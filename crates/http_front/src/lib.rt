@@ -6,7 +6,9 @@ mod field;
 mod head;
 mod message;
 mod reader;
+mod stream;
 
 pub use fault::{HttpFault, NextEnd};
 pub use message::Message;
 pub use reader::Reader;
+pub use stream::one_reading;
