@@ -7,8 +7,10 @@ mod head;
 mod message;
 mod reader;
 mod stream;
+mod writer;
 
 pub use fault::{HttpFault, NextEnd};
 pub use message::Message;
 pub use reader::Reader;
 pub use stream::one_reading;
+pub use writer::{refuse, reply};
