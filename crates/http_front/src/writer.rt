@@ -84,6 +84,7 @@ fn put_head(out: &mut [u8], status: u16, size: usize, count: u64, last: bool) ->
 }
 
 /// Puts the status line of a status that is answered.
+#[tactic(auto, unfolding(crate::specs::Replies::status_line))]
 fn put_status_line(out: &mut [u8], status: u16) -> usize
     requires status { IsAnswered status }
     requires room { 64 ≤ length out.old }
