@@ -1,3 +1,4 @@
 pub mod Causes
 pub mod Clocks
 pub mod Memory
+pub mod Writes

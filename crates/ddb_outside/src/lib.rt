@@ -14,7 +14,7 @@ mod source;
 
 pub use clock::{Clock, ListClock, StepClock, SystemClock};
 pub use failed::Failed;
-pub use sink::{MemSink, Sink, StdSink};
+pub use sink::{MemSink, Sink, StdSink, write_all};
 pub use source::{MemSource, Source, StdSource};
 
 #[cfg(test)]

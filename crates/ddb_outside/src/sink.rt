@@ -1,7 +1,8 @@
-ghost use Rattle.std.specs.Prelude.{◌≡◌, ℕ, ◌<◌, ◌≤◌, List, Option, length, [], Some, IfOk};
+ghost use Rattle.std.specs.Prelude.{◌≡◌, ℕ, ◌<◌, ◌≤◌, List, Option, length, [], Some, IfOk, OnOk, OnErr};
 ghost use Rattle.std.specs.Io.{WritesAtMost};
-ghost use Rattle.std.specs.Io.KnownBytes.{WriteAppends};
+ghost use Rattle.std.specs.Io.KnownBytes.{Appends, WriteAppends};
 ghost use Rattle.ddb_outside.specs.Causes.{HasCause};
+ghost use Rattle.ddb_outside.specs.Writes.{AppendsFront};
 
 use crate::failed::Failed;
 use expr_lexer::{Bytes, Seq};
@@ -22,6 +23,20 @@ pub trait Sink {
         ensures progress { 0 < length piece.now → IfOk result (λ count. 0 < count) }
         ensures bytes { WriteAppends (written self.old) (written self.new) result piece.now }
         ensures cause { HasCause (faults self.old) (faults self.new) result };
+}
+
+/// Writes all of a text, in as few writes as the sink takes it in. Where the sink fails, a front of the
+/// text was written.
+pub fn write_all<K: Sink>(sink: &mut K, text: &[u8]) -> Result<(), Failed>
+    ensures ok { OnOk result (Appends (K.written sink.old) (K.written sink.new) text.now) }
+    ensures failed { OnErr result (AppendsFront (K.written sink.old) (K.written sink.new) text.now) }
+    ensures cause { HasCause (K.faults sink.old) (K.faults sink.new) result }
+{
+    let mut at = 0;
+    while at < text.len() {
+        at += sink.write(&text[at..])?;
+    }
+    Ok(())
 }
 
 /// A sink in memory: it takes pieces of at most a length, and the writes that a list names fail.

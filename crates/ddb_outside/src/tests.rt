@@ -39,8 +39,9 @@ fn sink_in_memory(rt: HostRuntime) -> Result<(), Fail> {
     assert_eq!(rt; sink.write(b"P"), Err(Failed));
     assert_eq!(rt; sink.write(b"P"), Ok(1));
     assert_eq!(rt; sink.write(b""), Ok(0));
+    assert_eq!(rt; write_all(&mut sink, b"/1.1 200"), Ok(()));
     let (written, failing) = sink.into_parts();
-    assert_eq!(rt; written.as_slice(), b"HTTP".as_slice());
+    assert_eq!(rt; written.as_slice(), b"HTTP/1.1 200".as_slice());
     assert_eq!(rt; failing.as_slice(), [1].as_slice());
     Ok(())
 }

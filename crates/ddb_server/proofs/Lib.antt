@@ -1,0 +1,4 @@
+pub mod Bodies
+pub mod Floats
+pub mod Progress
+pub mod OnlyWord

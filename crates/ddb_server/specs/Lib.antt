@@ -1,0 +1,7 @@
+pub mod Database
+pub mod Json
+pub mod Requests
+pub mod Tables
+pub mod Replies
+pub mod Sessions
+pub mod Programs

@@ -1,0 +1,36 @@
+//! A table server with the behaviour of Amazon DynamoDB's low-level API (2012-08-10).
+#![tactic(auto)]
+
+mod description;
+pub mod model;
+mod program;
+mod reply;
+mod request;
+mod session;
+
+use ddb_outside::{StdSink, StdSource, SystemClock};
+pub use program::run;
+use std::env;
+use std::process::ExitCode;
+
+fn main(rt: HostRuntime) -> ExitCode {
+    let words = words(&rt);
+    let mut source = StdSource::new(rt.stdin());
+    let mut sink = StdSink::new(rt.stdout());
+    let mut clock = SystemClock::from_first_look(&rt);
+    ExitCode::from(run(&rt, words.as_slice(), &mut source, &mut sink, &mut clock))
+}
+
+// The words of the command line after the program's name; none where the system does not tell them.
+fn words(rt: &(impl std::rt::Env + AllocGlobal)) -> Vec<String> {
+    let Ok(words) = env::args(rt) else {
+        return Vec::new(rt.alloc());
+    };
+    words
+        .skip(1)
+        .collect(rt.alloc())
+        .unwrap_or(Vec::new(rt.alloc()))
+}
+
+#[cfg(test)]
+mod tests;

@@ -1,0 +1,307 @@
+use crate::run;
+use ddb_outside::{ListClock, MemSink, MemSource, StepClock};
+use expr_lexer::{Bytes, Seq};
+use std::alloc::Global;
+use std::test::Fail;
+
+// CreateTable of the table Music.
+const MUSIC: &str =
+    "POST / HTTP/1.1\r\nHost: localhost:8000\r\nX-Amz-Target: DynamoDB_20120810.CreateTable\r\n\
+    Content-Type: application/x-amz-json-1.0\r\nContent-Length: 183\r\n\r\n\
+    {\"AttributeDefinitions\":[{\"AttributeName\":\"Artist\",\"AttributeType\":\"S\"}],\
+    \"KeySchema\":[{\"AttributeName\":\"Artist\",\"KeyType\":\"HASH\"}],\"TableName\":\"Music\",\
+    \"BillingMode\":\"PAY_PER_REQUEST\"}";
+
+// The reply to it, as the first message of its connection.
+const MUSIC_MADE: &str =
+    "HTTP/1.1 200 OK\r\nContent-Type: application/x-amz-json-1.0\r\nContent-Length: 433\r\n\
+    x-amzn-RequestId: 00000000000000000000000000000001\r\n\r\n\
+    {\"TableDescription\":{\"AttributeDefinitions\":[{\"AttributeName\":\"Artist\",\"AttributeType\":\"S\"}],\
+    \"BillingModeSummary\":{\"BillingMode\":\"PAY_PER_REQUEST\"},\"CreationDateTime\":0,\
+    \"KeySchema\":[{\"AttributeName\":\"Artist\",\"KeyType\":\"HASH\"}],\
+    \"ProvisionedThroughput\":{\"NumberOfDecreasesToday\":0,\"ReadCapacityUnits\":0,\"WriteCapacityUnits\":0},\
+    \"TableArn\":\"arn:aws:dynamodb:ddblocal:000000000000:table/Music\",\"TableName\":\"Music\",\
+    \"TableStatus\":\"ACTIVE\"}}";
+
+// The reply to the same message again, as the second of its connection.
+const MUSIC_EXISTS: &str =
+    "HTTP/1.1 400 Bad Request\r\nContent-Type: application/x-amz-json-1.0\r\nContent-Length: 108\r\n\
+    x-amzn-RequestId: 00000000000000000000000000000002\r\n\r\n\
+    {\"__type\":\"com.amazonaws.dynamodb.v20120810#ResourceInUseException\",\
+    \"message\":\"Table already exists: Music\"}";
+
+const REFUSED: &str = "HTTP/1.1 400 Bad Request\r\nContent-Length: 0\r\nConnection: close\r\n\r\n";
+
+const USAGE: &str =
+    "usage: ddb_server stdio|serve|load [--partitions N] [--port N] [--workers N] [--start N] [--clients N] [--count N]\n";
+
+fn numbers(alloc: Global, from: &[u64]) -> Result<Seq<u64>, Fail> {
+    Ok(Seq::from(Vec::from_slice(alloc, from)?))
+}
+
+fn words(alloc: Global, from: &[&str]) -> Result<Vec<String>, Fail> {
+    let mut words = Vec::new(alloc);
+    for word in from {
+        words.push(String::from_str(alloc, word)?)?;
+    }
+    Ok(words)
+}
+
+// The status and the output of `stdio` over an input that comes in pieces.
+fn stdio(rt: &HostRuntime, input: &str, piece: usize) -> Result<(u8, String), Fail> {
+    let alloc = rt.alloc();
+    let content = Bytes::copied(alloc, input.as_bytes())?;
+    let mut source = MemSource::make(content, piece.max(1), Seq::new(alloc));
+    let mut sink = MemSink::make(alloc, piece.max(1), Seq::new(alloc));
+    let mut clock = StepClock::make(0, 0);
+    let status = run(
+        rt,
+        words(alloc, &["stdio"])?.as_slice(),
+        &mut source,
+        &mut sink,
+        &mut clock,
+    );
+    Ok((
+        status,
+        String::from_utf8(Vec::from(sink.into_parts().0))
+            .ok()
+            .ok_or("text")?,
+    ))
+}
+
+#[test]
+fn sessions(rt: HostRuntime) -> Result<(), Fail> {
+    let alloc = rt.alloc();
+    let twice = format!(in alloc; "{MUSIC}{MUSIC}")?;
+    let both = format!(in alloc; "{MUSIC_MADE}{MUSIC_EXISTS}")?;
+    for piece in [1, 2, 3, 7, 4_096] {
+        assert_eq!(rt; stdio(&rt, twice.as_str(), piece)?, (0, both.clone()?));
+    }
+    assert_eq!(rt; stdio(&rt, "", 1)?, (0, String::new(alloc)));
+    for end in 1..MUSIC.len() {
+        let front = MUSIC.get(..end).ok_or("ASCII")?;
+        assert_eq!(rt; stdio(&rt, front, 4_096)?, (5, String::new(alloc)));
+    }
+    let refused = format!(in alloc; "{MUSIC}GET / HTTP/1.1\r\n\r\n{MUSIC}")?;
+    let output = format!(in alloc; "{MUSIC_MADE}{REFUSED}")?;
+    assert_eq!(rt; stdio(&rt, refused.as_str(), 4_096)?, (0, output));
+    Ok(())
+}
+
+#[test]
+fn last_message(rt: HostRuntime) -> Result<(), Fail> {
+    let alloc = rt.alloc();
+    let (start, rest) = MUSIC.split_once("Host").ok_or("head")?;
+    let input = format!(in alloc; "{start}Connection: close\r\nHost{rest}{MUSIC}")?;
+    let (head, body) = MUSIC_MADE.split_once("\r\n\r\n").ok_or("head")?;
+    let output = format!(in alloc; "{head}\r\nConnection: close\r\n\r\n{body}")?;
+    assert_eq!(rt; stdio(&rt, input.as_str(), 4_096)?, (0, output));
+    Ok(())
+}
+
+#[test]
+fn faults(rt: HostRuntime) -> Result<(), Fail> {
+    let alloc = rt.alloc();
+    let stdio = words(alloc, &["stdio"])?;
+    let content = Bytes::copied(alloc, MUSIC.as_bytes())?;
+    let mut source = MemSource::make(content, 4_096, numbers(alloc, &[1])?);
+    let mut sink = MemSink::make(alloc, 4_096, Seq::new(alloc));
+    let mut clock = StepClock::make(0, 0);
+    assert_eq!(rt;
+        run(&rt, stdio.as_slice(), &mut source, &mut sink, &mut clock),
+        1
+    );
+    assert_eq!(rt; sink.into_parts().0.as_slice(), MUSIC_MADE.as_bytes());
+    let content = Bytes::copied(alloc, MUSIC.as_bytes())?;
+    let mut source = MemSource::make(content, 4_096, Seq::new(alloc));
+    let mut sink = MemSink::make(alloc, 4_096, numbers(alloc, &[0])?);
+    assert_eq!(rt;
+        run(&rt, stdio.as_slice(), &mut source, &mut sink, &mut clock),
+        3
+    );
+    assert!(rt; sink.into_parts().0.is_empty());
+    Ok(())
+}
+
+#[test]
+fn other_words(rt: HostRuntime) -> Result<(), Fail> {
+    let alloc = rt.alloc();
+    let cases: [&[&str]; 5] = [
+        &[],
+        &["stdio", "--"],
+        &["stdio", "stdio"],
+        &["Stdio"],
+        &["help"],
+    ];
+    for case in cases {
+        let mut source = MemSource::make(Bytes::from(Vec::new(alloc)), 1, Seq::new(alloc));
+        let mut sink = MemSink::make(alloc, 7, Seq::new(alloc));
+        let mut clock = StepClock::make(0, 0);
+        let words = words(alloc, case)?;
+        assert_eq!(rt;
+            run(&rt, words.as_slice(), &mut source, &mut sink, &mut clock),
+            2
+        );
+        assert_eq!(rt; sink.into_parts().0.as_slice(), USAGE.as_bytes());
+    }
+    let mut source = MemSource::make(Bytes::from(Vec::new(alloc)), 1, Seq::new(alloc));
+    let mut sink = MemSink::make(alloc, 7, numbers(alloc, &[1])?);
+    let mut clock = StepClock::make(0, 0);
+    assert_eq!(rt; run(&rt, &[], &mut source, &mut sink, &mut clock), 3);
+    assert_eq!(rt; sink.into_parts().0.as_slice(), b"usage: ".as_slice());
+    Ok(())
+}
+
+// A message with this target and this body.
+fn message(alloc: Global, target: &str, body: &str) -> Result<String, Fail> {
+    let length = body.len();
+    Ok(format!(in alloc;
+        "POST / HTTP/1.1\r\nX-Amz-Target: {target}\r\nContent-Length: {length}\r\n\r\n{body}"
+    )?)
+}
+
+// The body of a CreateTable, with further members.
+fn create_table(alloc: Global, name: &str, more: &str) -> Result<String, Fail> {
+    Ok(format!(in alloc;
+        "{{\"AttributeDefinitions\":[{{\"AttributeName\":\"id\",\"AttributeType\":\"S\"}}],\
+        \"KeySchema\":[{{\"AttributeName\":\"id\",\"KeyType\":\"HASH\"}}],\"TableName\":\"{name}\",\
+        \"BillingMode\":\"PAY_PER_REQUEST\"{more}}}"
+    )?)
+}
+
+const TARGET: &str = "DynamoDB_20120810.CreateTable";
+
+#[test]
+fn forms(rt: HostRuntime) -> Result<(), Fail> {
+    let alloc = rt.alloc();
+    let built = [
+        create_table(alloc, "abc", "")?,
+        create_table(
+            alloc,
+            "abc",
+            ",\"ProvisionedThroughput\":null,\"Unknown\":[1]",
+        )?,
+        create_table(alloc, "a.b-C_0", ",\"Tags\":[]")?,
+    ];
+    for body in &built {
+        let input = message(alloc, TARGET, body.as_str())?;
+        let (status, output) = stdio(&rt, input.as_str(), 4_096)?;
+        assert_eq!(rt; status, 0);
+        assert!(rt; output.as_str().starts_with("HTTP/1.1 200 OK\r\n"));
+    }
+    let other = [
+        create_table(alloc, "ab", "")?,
+        create_table(alloc, "a/b", "")?,
+        create_table(alloc, "abc", ",\"ProvisionedThroughput\":{}")?,
+        create_table(alloc, "abc", ",\"LocalSecondaryIndexes\":[]")?,
+        create_table(alloc, "abc", ",\"GlobalSecondaryIndexes\":[]")?,
+        create_table(alloc, "abc", ",\"BillingMode\":\"PROVISIONED\"")?,
+        create_table(alloc, "abc", ",\"TableName\":5")?,
+        create_table(alloc, "abc", ",\"KeySchema\":[]")?,
+        create_table(
+            alloc,
+            "abc",
+            ",\"KeySchema\":[{\"AttributeName\":\"id\",\"KeyType\":\"RANGE\"}]",
+        )?,
+        create_table(
+            alloc,
+            "abc",
+            ",\"KeySchema\":[{\"AttributeName\":\"ID\",\"KeyType\":\"HASH\"}]",
+        )?,
+        create_table(
+            alloc,
+            "abc",
+            ",\"AttributeDefinitions\":[{\"AttributeName\":\"id\",\"AttributeType\":\"N\"}]",
+        )?,
+        String::from_str(alloc, "")?,
+        String::from_str(alloc, "{")?,
+        String::from_str(alloc, "[]")?,
+    ];
+    for body in &other {
+        let input = message(alloc, TARGET, body.as_str())?;
+        assert_eq!(rt; stdio(&rt, input.as_str(), 4_096)?, (0, not_built(alloc)?));
+    }
+    for target in [
+        "",
+        "DynamoDB_20120810.createtable",
+        "DynamoDB_20120810.PutItem",
+    ] {
+        let input = message(alloc, target, built[0].as_str())?;
+        assert_eq!(rt; stdio(&rt, input.as_str(), 4_096)?, (0, not_built(alloc)?));
+    }
+    Ok(())
+}
+
+// The reply to a first message of a form that is not built.
+fn not_built(alloc: Global) -> Result<String, Fail> {
+    Ok(String::from_str(
+        alloc,
+        "HTTP/1.1 400 Bad Request\r\nContent-Type: application/x-amz-json-1.0\r\nContent-Length: 84\r\n\
+        x-amzn-RequestId: 00000000000000000000000000000001\r\n\r\n\
+        {\"__type\":\"com.amazon.coral.validate#ValidationException\",\"message\":\"Not built yet\"}",
+    )?)
+}
+
+#[test]
+fn limit_of_tables(rt: HostRuntime) -> Result<(), Fail> {
+    let alloc = rt.alloc();
+    let mut input = String::new(alloc);
+    for i in 0..257u16 {
+        let body = create_table(alloc, format!(in alloc; "table{i}")?.as_str(), "")?;
+        input.push_str(message(alloc, TARGET, body.as_str())?.as_str())?;
+    }
+    let body = create_table(alloc, "table7", "")?;
+    input.push_str(message(alloc, TARGET, body.as_str())?.as_str())?;
+    let (status, output) = stdio(&rt, input.as_str(), 4_096)?;
+    assert_eq!(rt; status, 0);
+    assert_eq!(rt; output.as_str().matches("HTTP/1.1 200 OK\r\n").count(), 256);
+    let replies =
+        "HTTP/1.1 400 Bad Request\r\nContent-Type: application/x-amz-json-1.0\r\nContent-Length: 101\r\n\
+        x-amzn-RequestId: 00000000000000000000000000000257\r\n\r\n\
+        {\"__type\":\"com.amazonaws.dynamodb.v20120810#LimitExceededException\",\"message\":\"There are 256 tables\"}\
+        HTTP/1.1 400 Bad Request\r\nContent-Type: application/x-amz-json-1.0\r\nContent-Length: 109\r\n\
+        x-amzn-RequestId: 00000000000000000000000000000258\r\n\r\n\
+        {\"__type\":\"com.amazonaws.dynamodb.v20120810#ResourceInUseException\",\"message\":\"Table already exists: table7\"}";
+    assert!(rt; output.as_str().ends_with(replies));
+    Ok(())
+}
+
+#[test]
+fn moments(rt: HostRuntime) -> Result<(), Fail> {
+    let alloc = rt.alloc();
+    let mut input = String::new(alloc);
+    for name in ["one", "two", "three"] {
+        let body = create_table(alloc, name, "")?;
+        input.push_str(message(alloc, TARGET, body.as_str())?.as_str())?;
+    }
+    let mut source = MemSource::make(
+        Bytes::copied(alloc, input.as_bytes())?,
+        4_096,
+        Seq::new(alloc),
+    );
+    let mut sink = MemSink::make(alloc, 4_096, Seq::new(alloc));
+    // The clock goes back at the second message, and the moment stays.
+    let mut clock = ListClock::make(numbers(alloc, &[7_999_999, 5_000_000, 8_000_000])?);
+    assert_eq!(rt;
+        run(
+            &rt,
+            words(alloc, &["stdio"])?.as_slice(),
+            &mut source,
+            &mut sink,
+            &mut clock
+        ),
+        0
+    );
+    let output = String::from_utf8(Vec::from(sink.into_parts().0))
+        .ok()
+        .ok_or("text")?;
+    assert_eq!(rt;
+        output.as_str().matches("\"CreationDateTime\":7,").count(),
+        2
+    );
+    assert_eq!(rt;
+        output.as_str().matches("\"CreationDateTime\":8,").count(),
+        1
+    );
+    Ok(())
+}
