@@ -5,7 +5,7 @@ use Rattle.table_schema.specs.declared.keys.KeyNames.{KeyNames}
 abbrev pub Names : KeyNames → List ℕ → Type 0
 Names keys name = (keys.partition ≡ name) ⊎ (keys.sort ≡ Some name)
 
--- the sort key, if there is one, is not the partition key again
+-- no attribute is both parts of the key
 abbrev pub AreApart : KeyNames → Type 0
 AreApart keys = IfSome keys.sort (λ sort. keys.partition ≢ sort)
 

@@ -1,10 +1,10 @@
 ghost use Rattle.std.specs.Prelude.{IsTrue, ◌↔◌, IsOk, IfErr, All};
 ghost use Rattle.table_schema.specs.Key.{IsLocalTo};
 ghost use Rattle.table_schema.specs.Index.{indexes_of};
-ghost use Rattle.table_schema.specs.Rule.{HasDefinitions, Defines, Keys, DefinesAll, DefinesEveryKey, DefinesItsKeys, HasIndexNames, HasIndexKeys, HasFewIndexes, IsValid};
+ghost use Rattle.table_schema.specs.Rule.{HasValidDefinitions, Defines, IsKeyAttribute, DefinesParts, DefinesEveryKey, DefinesItsKeys, HasValidIndexNames, HasValidIndexKeys, HasFewIndexes, IsValid};
 ghost use Rattle.table_schema.specs.Fault.{IsFirstFault};
 
-use crate::definition::{are_distinct, are_named, define};
+use crate::definition::{contain_name, have_distinct_names, have_valid_names};
 use crate::fault::SchemaFault;
 use crate::indexes::Indexes;
 use crate::keys::KeyNames;
@@ -12,11 +12,18 @@ use crate::name::is_table_name;
 use crate::schema::Schema;
 use expr_lexer::Text;
 
+/// The most local indexes of a table.
 const MAX_LOCALS: usize = 5;
 
+/// The most global indexes of a table.
 const MAX_GLOBALS: usize = 20;
 
-/// The fault of the least number, or none.
+/// Whether the schema keeps every rule: `Ok` exactly where it does, else the [`SchemaFault`] of the least number
+/// among those that are there.
+///
+/// It takes no memory, so names are compared pair by pair: the time grows with the square of the number of
+/// definitions and indexes. A valid table has at most 47 definitions and 25 indexes, but which fault of a
+/// hostile one comes first is still looked for among all its names.
 pub fn check_schema(schema: &Schema) -> Result<(), SchemaFault>
     ensures valid { IsOk result ↔ IsValid schema.now }
     ensures first { IfErr result (IsFirstFault schema.now) }
@@ -27,19 +34,19 @@ pub fn check_schema(schema: &Schema) -> Result<(), SchemaFault>
     if !schema.keys.are_apart() {
         return Err(SchemaFault::BadKeySchema);
     }
-    if !has_definitions(schema) {
+    if !has_valid_definitions(schema) {
         return Err(SchemaFault::BadDefinition);
     }
     if !defines_its_keys(schema) {
         return Err(SchemaFault::DefinitionMismatch);
     }
-    if !has_index_names(schema) {
+    if !has_valid_index_names(schema) {
         return Err(SchemaFault::BadIndexName);
     }
-    if !has_index_keys(schema) {
+    if !has_valid_index_keys(schema) {
         return Err(SchemaFault::BadIndexKey);
     }
-    if !Indexes::of(schema).have_projections() {
+    if !Indexes::of(schema).have_valid_projections() {
         return Err(SchemaFault::BadProjection);
     }
     if !has_few_indexes(schema) {
@@ -48,34 +55,36 @@ pub fn check_schema(schema: &Schema) -> Result<(), SchemaFault>
     Ok(())
 }
 
-fn has_definitions(schema: &Schema) -> bool
-    ensures { IsTrue result ↔ HasDefinitions schema.now }
+/// Whether the definitions have names that they may have, each once.
+fn has_valid_definitions(schema: &Schema) -> bool
+    ensures { IsTrue result ↔ HasValidDefinitions schema.now }
 {
     let definitions = schema.definitions.as_slice();
-    are_named(definitions) && are_distinct(definitions)
+    have_valid_names(definitions) && have_distinct_names(definitions)
 }
 
+/// Whether exactly the attributes of the keys are defined.
 #[tactic(auto, using(crate::proofs::Rules::both_ways, crate::proofs::Rules::used_from, crate::proofs::Rules::every_from))]
 fn defines_its_keys(schema: &Schema) -> bool
     ensures { IsTrue result ↔ DefinesItsKeys schema.now }
 {
-    are_used(schema) && defines_every_key(schema)
+    uses_its_definitions(schema) && defines_every_key(schema)
 }
 
 /// Whether every definition is of an attribute that serves in a key.
-fn are_used(schema: &Schema) -> bool
-    ensures { IsTrue result ↔ All (λ d. Keys schema.now d.name) schema.now.definitions }
+fn uses_its_definitions(schema: &Schema) -> bool
+    ensures { IsTrue result ↔ All (λ d. IsKeyAttribute schema.now d.name) schema.now.definitions }
 {
     schema
         .definitions
         .iter()
-        .all(|definition| serves_in_key(schema, &definition.name))
+        .all(|definition| has_key_attribute(schema, &definition.name))
 }
 
 /// Whether the table or an index has the attribute in its key.
-#[tactic(auto, unfolding(crate::specs::Rule::Keys))]
-fn serves_in_key(schema: &Schema, name: &Text) -> bool
-    ensures { IsTrue result ↔ Keys schema.now name.now }
+#[tactic(auto, unfolding(crate::specs::Rule::IsKeyAttribute))]
+fn has_key_attribute(schema: &Schema, name: &Text) -> bool
+    ensures { IsTrue result ↔ IsKeyAttribute schema.now name.now }
 {
     schema.keys.names(name) || Indexes::of(schema).any(|index| index.keys.names(name))
 }
@@ -85,20 +94,20 @@ fn serves_in_key(schema: &Schema, name: &Text) -> bool
 fn defines_every_key(schema: &Schema) -> bool
     ensures { IsTrue result ↔ DefinesEveryKey schema.now }
 {
-    defines_all(schema, &schema.keys) && defines_index_keys(schema)
+    defines_parts(schema, &schema.keys) && defines_index_keys(schema)
 }
 
 /// Whether the parts of every index's key are defined.
 fn defines_index_keys(schema: &Schema) -> bool
-    ensures { IsTrue result ↔ All (λ i. DefinesAll schema.now i.keys) (indexes_of schema.now) }
+    ensures { IsTrue result ↔ All (λ i. DefinesParts schema.now i.keys) (indexes_of schema.now) }
 {
-    Indexes::of(schema).all(|index| defines_all(schema, index.keys))
+    Indexes::of(schema).all(|index| defines_parts(schema, index.keys))
 }
 
 /// Whether the parts of a key are all defined.
-#[tactic(auto, unfolding(crate::specs::Rule::DefinesAll))]
-fn defines_all(schema: &Schema, keys: &KeyNames) -> bool
-    ensures { IsTrue result ↔ DefinesAll schema.now keys.now }
+#[tactic(auto, unfolding(crate::specs::Rule::DefinesParts))]
+fn defines_parts(schema: &Schema, keys: &KeyNames) -> bool
+    ensures { IsTrue result ↔ DefinesParts schema.now keys.now }
 {
     if !defines(schema, &keys.partition) {
         return false;
@@ -114,19 +123,21 @@ fn defines_all(schema: &Schema, keys: &KeyNames) -> bool
 fn defines(schema: &Schema, name: &Text) -> bool
     ensures { IsTrue result ↔ Defines schema.now name.now }
 {
-    define(schema.definitions.as_slice(), name)
+    contain_name(schema.definitions.as_slice(), name)
 }
 
-fn has_index_names(schema: &Schema) -> bool
-    ensures { IsTrue result ↔ HasIndexNames schema.now }
+/// Whether the indexes have names that they may have, each once.
+fn has_valid_index_names(schema: &Schema) -> bool
+    ensures { IsTrue result ↔ HasValidIndexNames schema.now }
 {
-    Indexes::of(schema).are_named() && Indexes::of(schema).are_distinct()
+    Indexes::of(schema).have_valid_names() && Indexes::of(schema).have_distinct_names()
 }
 
-fn has_index_keys(schema: &Schema) -> bool
-    ensures { IsTrue result ↔ HasIndexKeys schema.now }
+/// Whether the indexes have keys that they may have on this table.
+fn has_valid_index_keys(schema: &Schema) -> bool
+    ensures { IsTrue result ↔ HasValidIndexKeys schema.now }
 {
-    Indexes::of(schema).have_keys() && has_local_keys(schema)
+    Indexes::of(schema).have_keys_apart() && has_local_keys(schema)
 }
 
 /// Whether the key of every local index goes with that of the table.
@@ -139,6 +150,7 @@ fn has_local_keys(schema: &Schema) -> bool
         .all(|index| index.keys.are_local_to(&schema.keys))
 }
 
+/// Whether there are no more indexes of each kind than a table may have.
 fn has_few_indexes(schema: &Schema) -> bool
     ensures { IsTrue result ↔ HasFewIndexes schema.now }
 {

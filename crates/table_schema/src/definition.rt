@@ -13,7 +13,7 @@ pub enum KeyKind {
     B,
 }
 
-/// What a table says of one attribute that serves in a key.
+/// The name and the type of an attribute that serves in a key (API Reference: AttributeDefinition).
 #[derive(Debug, PartialEq, Eq, Drop)]
 pub struct Definition {
     pub name: Text,
@@ -41,7 +41,7 @@ impl Clone for Definition {
 }
 
 /// Whether one of the definitions has the name.
-pub fn define(definitions: &[Definition], name: &Text) -> bool
+pub fn contain_name(definitions: &[Definition], name: &Text) -> bool
     ensures { IsTrue result ↔ Any (λ d. d.name ≡ name.now) definitions.now }
 {
     definitions
@@ -50,7 +50,7 @@ pub fn define(definitions: &[Definition], name: &Text) -> bool
 }
 
 /// Whether every definition has a name that it may have.
-pub fn are_named(definitions: &[Definition]) -> bool
+pub fn have_valid_names(definitions: &[Definition]) -> bool
     ensures { IsTrue result ↔ All (λ d. IsAttributeName d.name) definitions.now }
 {
     definitions
@@ -59,12 +59,12 @@ pub fn are_named(definitions: &[Definition]) -> bool
 }
 
 /// Whether no two definitions have one name.
-pub fn are_distinct(definitions: &[Definition]) -> bool
+pub fn have_distinct_names(definitions: &[Definition]) -> bool
     ensures { IsTrue result ↔ AllPairs (λ d e. d.name ≢ e.name) definitions.now }
 {
     let mut rest = definitions;
     while let Some((first, others)) = rest.split_first() {
-        if define(others, &first.name) {
+        if contain_name(others, &first.name) {
             return false;
         }
         rest = others;

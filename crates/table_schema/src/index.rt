@@ -5,7 +5,8 @@ use crate::keys::KeyNames;
 use expr_lexer::{Seq, Text};
 use std::alloc::AllocError as NoMemory;
 
-/// The attributes of an item that an index keeps: those of the keys, these and the named ones, or all.
+/// The attributes of an item that an index keeps: those of the keys, those and the named ones, or all
+/// (API Reference: Projection).
 #[derive(Debug, PartialEq, Eq, Drop)]
 pub enum Projection {
     KeysOnly,
@@ -25,7 +26,7 @@ impl Projection {
         })
     }
 
-    /// Whether an index may keep so many named attributes.
+    /// Whether the attributes are named by 1 to 20 names, or not named.
     pub(crate) fn is_valid(&self) -> bool
         ensures { IsTrue result ↔ IsProjection self.now }
     {
@@ -44,7 +45,8 @@ impl Clone for Projection {
     }
 }
 
-/// An index that shares the table's partition key and sorts by an attribute of its own.
+/// An index that shares the table's partition key and sorts by an attribute of its own
+/// (API Reference: LocalSecondaryIndex).
 #[derive(Debug, PartialEq, Eq, Drop)]
 pub struct LocalIndex {
     pub name: Text,
@@ -73,7 +75,8 @@ impl Clone for LocalIndex {
     }
 }
 
-/// An index with a key of its own, which may differ from the table's in both parts.
+/// An index with a key of its own, which may differ from the table's in both parts
+/// (API Reference: GlobalSecondaryIndex).
 #[derive(Debug, PartialEq, Eq, Drop)]
 pub struct GlobalIndex {
     pub name: Text,

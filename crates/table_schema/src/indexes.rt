@@ -27,6 +27,7 @@ pub struct Indexes<'a> {
 }
 
 impl<'a> Indexes<'a> {
+    /// All indexes of the table.
     pub fn of(schema: &'a Schema) -> Indexes<'a>
         ensures { rest_of result ≡ indexes_of schema.now }
     {
@@ -37,25 +38,25 @@ impl<'a> Indexes<'a> {
     }
 
     /// Whether one of the indexes has the name.
-    pub fn have_named(mut self, name: &Text) -> bool
+    pub fn contain_name(mut self, name: &Text) -> bool
         ensures { IsTrue result ↔ Any (λ i. i.name ≡ name.now) (rest_of self.entry) }
     {
         self.any(|index| *index.name == *name)
     }
 
     /// Whether every index has a name that it may have.
-    pub fn are_named(mut self) -> bool
+    pub fn have_valid_names(mut self) -> bool
         ensures { IsTrue result ↔ All (λ i. IsTableName i.name) (rest_of self.entry) }
     {
         self.all(|index| is_table_name(index.name))
     }
 
     /// Whether no two indexes have one name.
-    pub fn are_distinct(mut self) -> bool
+    pub fn have_distinct_names(mut self) -> bool
         ensures { IsTrue result ↔ AllPairs (λ i j. i.name ≢ j.name) (rest_of self.entry) }
     {
         while let Some(index) = self.next() {
-            if self.have_named(index.name) {
+            if self.contain_name(index.name) {
                 return false;
             }
         }
@@ -63,14 +64,14 @@ impl<'a> Indexes<'a> {
     }
 
     /// Whether every index has a key of distinct parts.
-    pub fn have_keys(mut self) -> bool
+    pub fn have_keys_apart(mut self) -> bool
         ensures { IsTrue result ↔ All (λ i. AreApart i.keys) (rest_of self.entry) }
     {
         self.all(|index| index.keys.are_apart())
     }
 
     /// Whether every index keeps a number of named attributes that it may keep.
-    pub fn have_projections(mut self) -> bool
+    pub fn have_valid_projections(mut self) -> bool
         ensures { IsTrue result ↔ All (λ i. IsProjection i.projection) (rest_of self.entry) }
     {
         self.all(|index| index.projection.is_valid())

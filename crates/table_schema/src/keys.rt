@@ -5,7 +5,7 @@ use expr_lexer::Text;
 use std::alloc::AllocError as NoMemory;
 
 /// The names of the attributes that are the key of a table or of an index: the partition key (HASH) and,
-/// where there is one, the sort key (RANGE).
+/// where there is one, the sort key (RANGE) (API Reference: KeySchemaElement).
 #[derive(Debug, PartialEq, Eq, Drop)]
 pub struct KeyNames {
     pub partition: Text,

@@ -6,7 +6,7 @@ use crate::keys::KeyNames;
 use expr_lexer::{Seq, Text};
 use std::alloc::AllocError as NoMemory;
 
-/// What a table was made with.
+/// What a table was made with (API Reference: CreateTable, TableDescription).
 #[derive(Debug, PartialEq, Eq, Drop)]
 pub struct Schema {
     pub name: Text,
@@ -14,11 +14,13 @@ pub struct Schema {
     pub keys: KeyNames,
     pub locals: Seq<LocalIndex>,
     pub globals: Seq<GlobalIndex>,
-    /// Whether the table is billed by request, and not by the units below.
+    /// Whether the table is billed by request (PAY_PER_REQUEST), and not by the units below (PROVISIONED).
     pub on_demand: bool,
+    /// Read capacity units per second.
     pub read_units: u64,
+    /// Write capacity units per second.
     pub write_units: u64,
-    /// When the table was made, in microseconds.
+    /// The moment at which the table was made, in microseconds.
     pub created: u64,
 }
 

@@ -9,20 +9,20 @@ returns-then-not-is_table_name-clause-valid c = refused c.args.schema.now BadNam
 pub returns-then-not-are_apart-clause-valid : goal.returns-then-not-are_apart-clause-valid
 returns-then-not-are_apart-clause-valid c = refused c.args.schema.now BadKeySchema (search rules)
 
-pub returns-then-not-has_definitions-clause-valid : goal.returns-then-not-has_definitions-clause-valid
-returns-then-not-has_definitions-clause-valid c = refused c.args.schema.now BadDefinition (search rules)
+pub returns-then-not-has_valid_definitions-clause-valid : goal.returns-then-not-has_valid_definitions-clause-valid
+returns-then-not-has_valid_definitions-clause-valid c = refused c.args.schema.now BadDefinition (search rules)
 
 pub returns-then-not-defines_its_keys-clause-valid : goal.returns-then-not-defines_its_keys-clause-valid
 returns-then-not-defines_its_keys-clause-valid c = refused c.args.schema.now DefinitionMismatch (search rules)
 
-pub returns-then-not-has_index_names-clause-valid : goal.returns-then-not-has_index_names-clause-valid
-returns-then-not-has_index_names-clause-valid c = refused c.args.schema.now BadIndexName (search rules)
+pub returns-then-not-has_valid_index_names-clause-valid : goal.returns-then-not-has_valid_index_names-clause-valid
+returns-then-not-has_valid_index_names-clause-valid c = refused c.args.schema.now BadIndexName (search rules)
 
-pub returns-then-not-has_index_keys-clause-valid : goal.returns-then-not-has_index_keys-clause-valid
-returns-then-not-has_index_keys-clause-valid c = refused c.args.schema.now BadIndexKey (search rules)
+pub returns-then-not-has_valid_index_keys-clause-valid : goal.returns-then-not-has_valid_index_keys-clause-valid
+returns-then-not-has_valid_index_keys-clause-valid c = refused c.args.schema.now BadIndexKey (search rules)
 
-pub returns-then-not-have_projections-clause-valid : goal.returns-then-not-have_projections-clause-valid
-returns-then-not-have_projections-clause-valid c = refused c.args.schema.now BadProjection (search rules)
+pub returns-then-not-have_valid_projections-clause-valid : goal.returns-then-not-have_valid_projections-clause-valid
+returns-then-not-have_valid_projections-clause-valid c = refused c.args.schema.now BadProjection (search rules)
 
 pub returns-then-not-has_few_indexes-clause-valid : goal.returns-then-not-has_few_indexes-clause-valid
 returns-then-not-has_few_indexes-clause-valid c = refused c.args.schema.now TooManyIndexes (search rules)

@@ -1,6 +1,6 @@
 use Rattle.std.proofs.Common.{◌≢◌, ◌↔◌, AllPairs, length}
 use Rattle.table_schema.specs.Indexes.{rest_of}
-use Rattle.table_schema.proofs.indexes.Indexes.are_distinct.Given as goal
+use Rattle.table_schema.proofs.indexes.Indexes.have_distinct_names.Given as goal
 
 abbrev pub invariant-loop-index : goal.invariant-loop-index
 invariant-loop-index l =

@@ -1,5 +1,5 @@
 use Rattle.std.proofs.Common.{◌≢◌, ◌↔◌, AllPairs, length}
-use Rattle.table_schema.proofs.definition.are_distinct.Given as goal
+use Rattle.table_schema.proofs.definition.have_distinct_names.Given as goal
 
 abbrev pub invariant-loop-first : goal.invariant-loop-first
 invariant-loop-first l = AllPairs (λ d e. d.name ≢ e.name) l.rest ↔ AllPairs (λ d e. d.name ≢ e.name) l.fn.definitions
