@@ -1,5 +1,5 @@
-use Rattle.std.proofs.Common.{Ok, Err}
-use Rattle.std.specs.Prelude.{◌↔◌, IsOk, Result}
+use Rattle.std.proofs.Common.{Err}
+use Rattle.std.specs.Prelude.{◌↔◌, IsOk}
 use Rattle.table_schema.specs.declared.schema.Schema.{Schema}
 use Rattle.table_schema.specs.declared.fault.SchemaFault.{SchemaFault}
 use Rattle.table_schema.specs.Rule.{IsFreeOf, IsValid}

@@ -1,4 +1,4 @@
-use Rattle.std.proofs.Common.{◌≡◌, ◌≢◌, ℕ, zero, suc, ◌<◌, List, ◌∷◌, length, get_or, arith, sym, subst}
+use Rattle.std.proofs.Common.{◌≡◌, ◌≢◌, zero, suc, List, ◌∷◌, get_or, arith, sym, subst}
 use Rattle.std.specs.Prelude.{All, Any, AllPairs, ◌↔◌}
 use Rattle.std.proofs.lemmas.List.{get_or_default}
 

@@ -1,4 +1,4 @@
-use Rattle.std.proofs.Common.{◌≢◌, ◌↔◌, AllPairs, length}
+use Rattle.std.proofs.Common.{◌≢◌, ◌↔◌, AllPairs}
 use Rattle.table_schema.specs.Indexes.{rest_of}
 use Rattle.table_schema.proofs.indexes.Indexes.have_distinct_names.Given as goal
 
