@@ -4,7 +4,7 @@ use Rattle.table_schema.specs.declared.fault.SchemaFault.{SchemaFault}
 use Rattle.table_schema.specs.declared.fault.SchemaFault.TheVariants.{BadName, BadKeySchema, BadDefinition, DefinitionMismatch, BadIndexName, BadIndexKey, BadProjection, TooManyIndexes}
 use Rattle.table_schema.specs.Rule.{IsFreeOf}
 
--- the order in which faults are answered
+-- the fault's number: faults are answered in this order
 abbrev pub number_of : SchemaFault → ℕ
 number_of BadName = 1
 number_of BadKeySchema = 2

@@ -24,7 +24,7 @@ IsKeyAttribute schema name = Names schema.keys name ⊎ Any (λ i. Names i.keys 
 unfoldable pub DefinesItsKeys : Schema → Type 0
 DefinesItsKeys schema = (name : List ℕ) → Defines schema name ↔ IsKeyAttribute schema name
 
--- the parts of a key are all defined
+-- the parts of one key are all defined
 unfoldable pub DefinesParts : Schema → KeyNames → Type 0
 DefinesParts schema keys = (name : List ℕ) → Names keys name → Defines schema name
 

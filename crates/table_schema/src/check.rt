@@ -18,12 +18,12 @@ const MAX_LOCALS: usize = 5;
 /// The most global indexes of a table.
 const MAX_GLOBALS: usize = 20;
 
-/// Whether the schema keeps every rule: `Ok` exactly where it does, else the [`SchemaFault`] of the least number
-/// among those that are there.
+/// Whether the schema keeps every rule: `Ok` exactly where it does, else the [`SchemaFault`] of the least
+/// number among those that are there.
 ///
 /// It takes no memory, so names are compared pair by pair: the time grows with the square of the number of
 /// definitions and indexes. A valid table has at most 47 definitions and 25 indexes, but which fault of a
-/// hostile one comes first is still looked for among all its names.
+/// longer schema comes first is still looked for among all its names.
 pub fn check_schema(schema: &Schema) -> Result<(), SchemaFault>
     ensures valid { IsOk result ↔ IsValid schema.now }
     ensures first { IfErr result (IsFirstFault schema.now) }
