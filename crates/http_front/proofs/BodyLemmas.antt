@@ -17,7 +17,7 @@ pub front_is : (bytes : List ℕ) (found : Head) (h : HasHead bytes found) → t
 front_is bytes found h =
     ap (take found.len) h.reads.1 ∙ take_at (print_request h.head) h.rest found.len (sym h.len_is)
 
-pub message_of : (bytes : List ℕ) (found : Head) (message : Message) → HasHead bytes found
+message_of : (bytes : List ℕ) (found : Head) (message : Message) → HasHead bytes found
     → message.target ≡ option_map (span_bytes bytes) found.target → length message.body ≡ found.size
     → message.last ≡ found.last → IsMessage (take found.len bytes ++ message.body) message
 message_of bytes found message h target size last = record {
@@ -79,3 +79,15 @@ IfSome-taken P (Some xs) (Some ys) text held known none end holds =
 pub Consumes-join : (a b c : Option (List ℕ)) → ((first : List ℕ) × Consumes a b first)
     → ((second : List ℕ) × Consumes b c second) → (both : List ℕ) × Consumes a c both
 Consumes-join a b c first second = (first.0 ++ second.0, Consumes-trans a b c first.0 second.0 first.1 second.1)
+
+-- what is answered once the body is whole
+pub message_taken : {message : Message} (bytes : List ℕ) (found : Head) (body : List ℕ) (all left : Option (List ℕ))
+    → HasHead bytes found → message.target ≡ option_map (span_bytes bytes) found.target → message.body ≡ body
+    → length body ≡ found.size → message.last ≡ found.last → Consumes all left (take found.len bytes ++ body)
+    → (text : List ℕ) × IsMessage text message × Consumes all left text
+message_taken {message} bytes found body all left h target is size last known = (
+  take found.len bytes ++ body,
+  subst (λ b. IsMessage (take found.len bytes ++ b) message) is
+      (message_of bytes found message h target (ap length is ∙ size) last),
+  known,
+)

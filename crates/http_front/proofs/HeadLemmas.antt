@@ -95,15 +95,15 @@ lines_within : (bytes : List ℕ) (end : ℕ) → IsWholeLines bytes end → (li
     → EndsLine lines → length lines ≤ max_head → length lines ≤ end
 lines_within bytes end whole lines rest split (front, line) fits =
     elim (cases_lt (length front) end) [
-      inl below ↦ omega (arith, ap length line, length-append front (10 ∷ []))
+      | inl below ↦ omega (arith, ap length line, length-append front (10 ∷ []))
       | inr past ↦
-        let size = ap length line ∙ length-append front (10 ∷ []) in
-        let all = ap length split ∙ length-append lines rest in
-        let inside : length front < length lines = omega (arith, size) in
-        let feed : get_or bytes (length front) 0 ≡ 10 =
-        ap (λ l. get_or l (length front) 0) split ∙ get_or_append_left lines rest 0 (length front) inside
-        ∙ ap (λ l. get_or l (length front) 0) line ∙ get_or_at front 10 [] 0 (length front) refl in
-        absurd (whole.last (length front) past (omega (arith, size, all)) (omega (arith, size, fits)) feed)
+          let size = ap length line ∙ length-append front (10 ∷ []) in
+          let all = ap length split ∙ length-append lines rest in
+          let inside : length front < length lines = omega (arith, size) in
+          let feed : get_or bytes (length front) 0 ≡ 10 =
+          ap (λ l. get_or l (length front) 0) split ∙ get_or_append_left lines rest 0 (length front) inside
+          ∙ ap (λ l. get_or l (length front) 0) line ∙ get_or_at front 10 [] 0 (length front) refl in
+          absurd (whole.last (length front) past (omega (arith, size, all)) (omega (arith, size, fits)) feed)
     ]
 
 lines_front : (bytes : List ℕ) (end : ℕ) → IsWholeLines bytes end → (lines rest : List ℕ) → bytes ≡ lines ++ rest
@@ -127,10 +127,10 @@ reads_all bytes end head rest reads =
 no_head : (bytes : List ℕ) (end : ℕ) → IsWholeLines bytes end → HasNoRequest (take end bytes) → HasNoHead bytes
 no_head bytes end whole none head rest reads =
     elim (cases_lt max_head (length (print_request head))) [
-      inl past ↦ past
+      | inl past ↦ past
       | inr fits ↦
-        let front = lines_front bytes end whole (print_request head) rest reads.1 (EndsLine-print_request head) fits in
-        absurd (none head front.0 (reads.0, front.1))
+          let front = lines_front bytes end whole (print_request head) rest reads.1 (EndsLine-print_request head) fits in
+          absurd (none head front.0 (reads.0, front.1))
     ]
 
 not_dead : (bytes : List ℕ) (end : ℕ) → IsWholeLines bytes end → MayBecomeRequest (take end bytes) → IsDead bytes → ⊥
@@ -237,10 +237,10 @@ IsRefusedBy-too_long bytes end whole full none open_ =
 some_lines : (bytes : List ℕ) (end : ℕ) → IsWholeLines bytes end → NeverHasRequest (take end bytes) → EndsLine (take end bytes)
 some_lines bytes end whole never =
     elim (cases_lt 0 end) [
-      inl some ↦ whole.ends some
+      | inl some ↦ whole.ends some
       | inr none ↦
-        let nothing : take end bytes ≡ [] = nil_from_length _ (omega (arith, length-take-le end bytes whole.bound)) in
-        absurd (start_is_open (subst NeverHasRequest nothing never))
+          let nothing : take end bytes ≡ [] = nil_from_length _ (omega (arith, length-take-le end bytes whole.bound)) in
+          absurd (start_is_open (subst NeverHasRequest nothing never))
     ]
 
 pub IsRefusedBy-broken : (bytes : List ℕ) (end : ℕ) (fault : HttpFault) → IsWholeLines bytes end

@@ -50,10 +50,10 @@ IsDead-front bytes more full dead = record {
 HasNoHead-append : (bytes more : List ℕ) → max_head ≤ length bytes → HasNoHead bytes → HasNoHead (bytes ++ more)
 HasNoHead-append bytes more full none head rest reads =
     elim (cases_lt max_head (length (print_request head))) [
-      inl past ↦ past
+      | inl past ↦ past
       | inr fits ↦
-        none head (drop (length (print_request head)) bytes)
-        (reads.0, front_of bytes more (print_request head) rest reads.1 (omega (arith, fits)))
+          none head (drop (length (print_request head)) bytes)
+          (reads.0, front_of bytes more (print_request head) rest reads.1 (omega (arith, fits)))
     ]
 
 pub IsRefusedBy-append : (fault : HttpFault) (bytes more : List ℕ) → IsRefusedBy fault bytes → IsRefusedBy fault (bytes ++ more)
@@ -124,7 +124,7 @@ message_unique bytes text later text' later' m n is split is' split' =
     let size = ok_same _ _ _ is.accepted (ap verdict same.0 ∙ is'.accepted) in
     let parts = append_same m.body later n.body later' same.1 size in (
       message_same m n (is.target_is ∙ ap operation same.0 ∙ sym is'.target_is) parts.0
-      (is.last_is ∙ ap asks_to_close same.0 ∙ sym is'.last_is),
+          (is.last_is ∙ ap asks_to_close same.0 ∙ sym is'.last_is),
       parts.1,
     )
 

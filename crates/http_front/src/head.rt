@@ -48,11 +48,7 @@ fn whole_lines(bytes: &[u8]) -> usize
 }
 
 /// The body's length, or the first fault of a whole head.
-fn verdict(
-    bytes: &[u8],
-    request: &RequestSpans,
-    headers: &[HeaderSpan],
-) -> Result<usize, HttpFault>
+fn verdict(bytes: &[u8], request: &RequestSpans, headers: &[HeaderSpan]) -> Result<usize, HttpFault>
     requires method { IsWithin (length bytes.now) request.now.method }
     requires path { IsWithin (length bytes.now) request.now.path }
     requires headers { All (IsHeaderWithin (length bytes.now)) headers.now }
@@ -121,10 +117,7 @@ fn whole_head(lines: &[u8], spans: &mut [HeaderSpan]) -> Result<Option<Head>, Ht
 }
 
 /// The accepted head at the front, None where a head is still to be completed, or the fault.
-pub(crate) fn find_head(
-    bytes: &[u8],
-    spans: &mut [HeaderSpan],
-) -> Result<Option<Head>, HttpFault>
+pub(crate) fn find_head(bytes: &[u8], spans: &mut [HeaderSpan]) -> Result<Option<Head>, HttpFault>
     requires { length spans.old ≡ room }
     ensures head { IfOk result (λ o. IfSome o (HasHead bytes.now)) }
     ensures none { IfOk result (λ o. IfNone o (IsShortHead bytes.now)) }

@@ -5,5 +5,4 @@ ghost use Rattle.http_front.specs.Streams.{OneReading};
 /// nothing: its clause is the law.
 pub fn one_reading()
     ensures { OneReading }
-{
-}
+{}

@@ -1,8 +1,7 @@
 use Rattle.std.proofs.Common.{◌≡◌, ◌++◌, ◌<◌, ◌≤◌, rules, [], length, take, refl, sym, ap, ◌∙◌, subst, arith, append_assoc, append-nil, length-append}
 use Rattle.std.proofs.KnownBytes.{Consumes-kept}
-use Rattle.http_front.specs.Messages.{IsMessage, IsShortBody, IsCutAt}
-use Rattle.http_front.specs.declared.message.Message.{Message}
-use Rattle.http_front.proofs.BodyLemmas.{message_of, short_body, cut_body, Consumes-moved, IfSome-taken, Consumes-join}
+use Rattle.http_front.specs.Messages.{IsShortBody, IsCutAt}
+use Rattle.http_front.proofs.BodyLemmas.{message_taken, short_body, cut_body, Consumes-moved, IfSome-taken, Consumes-join}
 use Rattle.http_front.proofs.reader.Reader.take_message.Goals as goal
 
 pub returns-in_err-take_in-clause-suffix : goal.returns-in_err-take_in-clause-suffix
@@ -34,7 +33,7 @@ loop-self-preserved g c =
       later = omega (arith, inv.later, c.take_in.ensures.later);
       suffix = Consumes-join _ _ _ inv.suffix c.take_in.ensures.suffix;
       quiet = λ open_. absurd (open_ (subst IsShortBody (sym ((inv.quiet open_).1 ∙ ap (λ l. take c.args.head.len c.args.self.now ++ c.loop-self.body.items ++ l) (inv.all short) ∙ append-nil _))
-      (short_body c.args.self.now c.args.head c.loop-self.body.items c.requires short)));
+          (short_body c.args.self.now c.args.head c.loop-self.body.items c.requires short)));
     }
 
 pub returns-in_err-move_to-clause-suffix : goal.returns-in_err-move_to-clause-suffix
@@ -42,15 +41,6 @@ returns-in_err-move_to-clause-suffix g c = Consumes-join _ _ _ c.loop-self.invar
 
 pub returns-clause-message : goal.returns-clause-message
 returns-clause-message g c =
-    let front = take c.args.head.len c.args.self.now in
     let whole : length c.loop-self.body.items ≡ c.args.head.size = omega (arith, c.loop-self.body.ok.0) in
-    let message : Message = record {
-      target = c.loop-self.target-1;
-      body = c.from.result;
-      last = c.args.head.last;
-    } in (
-      front ++ c.loop-self.body.items,
-      subst (λ b. IsMessage (front ++ b) message) c.from.ensures
-      (message_of c.args.self.now c.args.head message c.requires c.loop-self.invariant.target (ap length c.from.ensures ∙ whole) refl),
-      c.loop-self.invariant.known,
-    )
+    message_taken c.args.self.now c.args.head c.loop-self.body.items _ _ c.requires c.loop-self.invariant.target
+    c.from.ensures whole refl c.loop-self.invariant.known
