@@ -70,6 +70,6 @@ refusal_end = codes "Content-Length: 0\r\nConnection: close\r\n\r\n"
 abbrev pub refusal : HttpFault → List ℕ
 refusal fault = status_line (status_of fault) ++ refusal_end
 
--- the known bytes grew by a front of the text
+-- the known bytes grew by a front of the text, as where a sink failed in the middle
 abbrev pub AppendsFront : Option (List ℕ) → Option (List ℕ) → List ℕ → Type 0
 AppendsFront old new text = (part : List ℕ) × (rest : List ℕ) × (text ≡ part ++ rest) × Appends old new part

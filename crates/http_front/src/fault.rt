@@ -3,7 +3,8 @@ ghost use Rattle.http_front.specs.declared.fault.NextEnd.TheVariants.{NoMemory};
 
 use std::alloc::AllocError;
 
-/// Why bytes are no message, each with the status code that answers it.
+/// Why bytes are no message, by the first check that fails. The status codes are those that answer it
+/// (RFC 9110, section 15).
 #[derive(Clone, Copy, Debug, PartialEq, Eq)]
 pub enum HttpFault {
     /// 400: no request head, more than 64 fields, or a Content-Length that is none or stands twice.
@@ -18,10 +19,10 @@ pub enum HttpFault {
     Target = 5,
 }
 
-/// Why there is no next message.
+/// Why no next message was answered.
 #[derive(Clone, Copy, Debug, PartialEq, Eq)]
 pub enum NextEnd {
-    /// What comes next is no message.
+    /// What comes next is no message. In this release the fault is always `BadHead`.
     Refused(HttpFault),
     /// The input ended inside a message, after `got` of its bytes.
     Cut { got: u64 },

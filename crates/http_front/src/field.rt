@@ -68,7 +68,8 @@ fn length_in(text: &[u8]) -> Result<usize, HttpFault>
 /// The body's length, by the one Content-Length field or by none.
 pub(crate) fn stated_length(bytes: &[u8], headers: &[HeaderSpan]) -> Result<usize, HttpFault>
     requires { All (IsHeaderWithin (length bytes.now)) headers.now }
-    ensures value { result ≡ stated_length (values_of (codes "content-length") (fields_at bytes.now headers.now)) }
+    ensures value { result
+        ≡ stated_length (values_of (codes "content-length") (fields_at bytes.now headers.now)) }
     ensures bounded { IfOk result (λ size. size ≤ max_body) }
 {
     match first_value(bytes, headers, b"content-length") {
@@ -128,7 +129,8 @@ fn has_close(value: &[u8]) -> bool
 /// Whether some Connection field has the word `close`.
 pub(crate) fn says_close(bytes: &[u8], headers: &[HeaderSpan]) -> bool
     requires { All (IsHeaderWithin (length bytes.now)) headers.now }
-    ensures { result ≡ list_any has_close (values_of (codes "connection") (fields_at bytes.now headers.now)) }
+    ensures { result
+        ≡ list_any has_close (values_of (codes "connection") (fields_at bytes.now headers.now)) }
 {
     for header in headers {
         if is_named(bytes, header, b"connection") && has_close(header.value.of(bytes)) {

@@ -21,7 +21,8 @@ use std::marker::Model;
 /// The most bytes of one read.
 const PIECE: usize = 4_096;
 
-/// Reads messages from a source. A contract sees the bytes that were read and not yet handed out.
+/// Reads messages from a source, one after the other. A contract sees a reader as the bytes that it
+/// holds: those that were read and not yet handed out.
 #[derive(Drop)]
 pub struct Reader {
     alloc: Global,
@@ -58,24 +59,31 @@ impl Reader {
         })
     }
 
-    /// The next message of the bytes that are held and of those that `source` still has, None where
-    /// they end before it begins (RFC 9112, section 2). The source is read in pieces of 4,096 bytes,
-    /// and only while what is held has neither a whole message nor a refusal.
+    /// The next message of the bytes that are held and of those that `source` still has, or None
+    /// where they end before one begins (RFC 9112, section 2).
     ///
     /// Refused comes where no message can be there, Cut where the input ends inside one, ReadFault
-    /// where the source failed. After an error nothing is said of what the reader holds.
+    /// where the source failed, NoMemory where memory was refused. After any of these nothing is said
+    /// of what the reader holds. Pieces of at most 4,096 bytes are read; no clause speaks of that.
     pub fn next<S: Source>(&mut self, source: &mut S) -> Result<Option<Message>, NextEnd>
+        // What is to come is what is held and then what the source has left: a message is taken from
+        // its front, None is its end, and a cut or a refusal is of all of it.
         ensures message { IfOk result (λ o. IfSome o (λ m. (text : List ℕ) × IsMessage text m
-            × Consumes (prepend_known self.old (S.left source.old)) (prepend_known self.new (S.left source.new)) text)) }
-        ensures end { IfOk result (λ o. IfNone o (IsAtEnd (prepend_known self.old (S.left source.old)))) }
-        ensures cut { IfErr result (λ e. IfCut e (λ got. IfSome (prepend_known self.old (S.left source.old)) (IsCutAt got))) }
-        ensures refused { IfErr result (λ e. IfRefused e (λ fault. IfSome (prepend_known self.old (S.left source.old)) (IsRefusedAs fault))) }
+            × Consumes (prepend_known self.old (S.left source.old))
+            (prepend_known self.new (S.left source.new)) text)) }
+        ensures end { IfOk result (λ o. IfNone o
+            (IsAtEnd (prepend_known self.old (S.left source.old)))) }
+        ensures cut { IfErr result (λ e. IfCut e (λ got.
+            IfSome (prepend_known self.old (S.left source.old)) (IsCutAt got))) }
+        ensures refused { IfErr result (λ e. IfRefused e (λ fault.
+            IfSome (prepend_known self.old (S.left source.old)) (IsRefusedAs fault))) }
 
-        // A failure is the source's, and rose its count; the count never falls.
-        ensures fault { IsErrOf result NextEnd.ReadFault → Rose (S.faults source.old) (S.faults source.new) }
+        // A failure is the source's own, by its count.
+        ensures fault { IsErrOf result NextEnd.ReadFault
+            → Rose (S.faults source.old) (S.faults source.new) }
         ensures later { S.faults source.old ≤ S.faults source.new }
 
-        // The source loses bytes from its front alone, and none while what is held decides.
+        // The source loses bytes at its front alone, and none while what is held decides.
         ensures suffix { (taken : List ℕ) × Consumes (S.left source.old) (S.left source.new) taken }
         ensures quiet { ¬ (IsPartial self.old) → source.new ≡ source.old }
         ensures bounded { IfOk result (λ o. IfSome o (λ m. length m.body ≤ max_body)) }
@@ -106,10 +114,13 @@ impl Reader {
     /// Reads one piece. False where the source has come to its end.
     fn take_in<S: Source>(&mut self, source: &mut S) -> Result<bool, NextEnd>
         ensures more { IfOk result (λ more. IsTrue more → length self.old < length self.new) }
-        ensures known { OnOk result (Keeps (prepend_known self.old (S.left source.old)) (prepend_known self.new (S.left source.new))) }
-        ensures end { IfOk result (λ more. IsFalse more → IsAtEnd (S.left source.new) × (self.new ≡ self.old)) }
+        ensures known { OnOk result (Keeps (prepend_known self.old (S.left source.old))
+            (prepend_known self.new (S.left source.new))) }
+        ensures end { IfOk result (λ more. IsFalse more
+            → IsAtEnd (S.left source.new) × (self.new ≡ self.old)) }
         ensures outside { IfErr result IsOutside }
-        ensures fault { IsErrOf result NextEnd.ReadFault → Rose (S.faults source.old) (S.faults source.new) }
+        ensures fault { IsErrOf result NextEnd.ReadFault
+            → Rose (S.faults source.old) (S.faults source.new) }
         ensures later { S.faults source.old ≤ S.faults source.new }
         ensures suffix { (taken : List ℕ) × Consumes (S.left source.old) (S.left source.new) taken }
     {
@@ -124,7 +135,8 @@ impl Reader {
     /// What is answered where the input ends before the next message is whole.
     fn end_of_input(&self) -> Result<Option<Message>, NextEnd>
         ensures none { IfOk result (λ o. (o ≡ None) × (self.now ≡ [])) }
-        ensures cut { IfErr result (λ e. IsCutWith e (λ got. (0 < length self.now) × (got ≡ length self.now))) }
+        ensures cut { IfErr result (λ e. IsCutWith e
+            (λ got. (0 < length self.now) × (got ≡ length self.now))) }
     {
         if self.held.is_empty() {
             Ok(None)
@@ -139,9 +151,12 @@ impl Reader {
     fn take_message<S: Source>(&mut self, head: Head, source: &mut S) -> Result<Message, NextEnd>
         requires { HasHead self.old head }
         ensures message { IfOk result (λ m. (text : List ℕ) × IsMessage text m
-            × Consumes (prepend_known self.old (S.left source.old)) (prepend_known self.new (S.left source.new)) text) }
-        ensures cut { IfErr result (λ e. IsCutOrOutside e (λ got. IfSome (prepend_known self.old (S.left source.old)) (IsCutAt got))) }
-        ensures fault { IsErrOf result NextEnd.ReadFault → Rose (S.faults source.old) (S.faults source.new) }
+            × Consumes (prepend_known self.old (S.left source.old))
+            (prepend_known self.new (S.left source.new)) text) }
+        ensures cut { IfErr result (λ e. IsCutOrOutside e (λ got.
+            IfSome (prepend_known self.old (S.left source.old)) (IsCutAt got))) }
+        ensures fault { IsErrOf result NextEnd.ReadFault
+            → Rose (S.faults source.old) (S.faults source.new) }
         ensures later { S.faults source.old ≤ S.faults source.new }
         ensures suffix { (taken : List ℕ) × Consumes (S.left source.old) (S.left source.new) taken }
         ensures quiet { ¬ (IsShortBody self.old) → source.new ≡ source.old }

@@ -15,9 +15,12 @@ const ROOM: usize = 4_096;
 /// As many zeros as a message's number has digits.
 const ZEROS: &[u8; 32] = b"00000000000000000000000000000000";
 
-/// Writes the reply to the message of this number (RFC 9112, section 4): `status` is 200, 400 or
-/// 500, `last` is whether the message asked for the end of the connection. It takes no memory. Where
-/// the sink fails, a front of the reply was written.
+/// Writes the reply to a message (RFC 9112, sections 4 and 6): its status, which is 200, 400 or 500,
+/// its body, the number of the message on its connection, from 1, and whether the message asked for
+/// the connection's end. It takes no memory. [`Failed`] comes where the sink failed, and then a front
+/// of the reply was written.
+///
+/// Where head and body together fit 4,096 bytes they are handed to the sink in one call.
 pub fn reply<K: Sink>(
     sink: &mut K,
     status: u16,
@@ -26,8 +29,10 @@ pub fn reply<K: Sink>(
     last: bool,
 ) -> Result<(), Failed>
     requires { IsReplyStatus status }
-    ensures ok { OnOk result (Appends (K.written sink.old) (K.written sink.new) (bytes_of status body.now count last)) }
-    ensures failed { OnErr result (AppendsFront (K.written sink.old) (K.written sink.new) (bytes_of status body.now count last)) }
+    ensures ok { OnOk result
+        (Appends (K.written sink.old) (K.written sink.new) (bytes_of status body.now count last)) }
+    ensures failed { OnErr result
+        (AppendsFront (K.written sink.old) (K.written sink.new) (bytes_of status body.now count last)) }
     ensures cause { HasCause (K.faults sink.old) (K.faults sink.new) result }
 {
     let mut out = [0u8; ROOM];
@@ -40,11 +45,13 @@ pub fn reply<K: Sink>(
     }
 }
 
-/// Writes the refusal of what is no message (RFC 9110, section 15). It takes no memory. Where the
-/// sink fails, a front of the refusal was written.
+/// Writes the refusal of what is no message (RFC 9110, section 15), which ends the connection. It
+/// takes no memory. [`Failed`] comes where the sink failed, and then a front of the refusal was
+/// written.
 pub fn refuse<K: Sink>(sink: &mut K, fault: HttpFault) -> Result<(), Failed>
     ensures ok { OnOk result (Appends (K.written sink.old) (K.written sink.new) (refusal fault)) }
-    ensures failed { OnErr result (AppendsFront (K.written sink.old) (K.written sink.new) (refusal fault)) }
+    ensures failed { OnErr result
+        (AppendsFront (K.written sink.old) (K.written sink.new) (refusal fault)) }
     ensures cause { HasCause (K.faults sink.old) (K.faults sink.new) result }
 {
     let mut out = [0u8; ROOM];
@@ -118,7 +125,8 @@ fn put_digits(out: &mut [u8], at: usize, digits: &[u8]) -> usize
     requires digits { length digits.now ≤ 32 }
     requires room { at + 32 ≤ length out.old }
     ensures end { result ≡ at + 32 }
-    ensures text { take result out.new ≡ take at out.old ++ (replicate (32 - length digits.now) 48 ++ digits.now) }
+    ensures text { take result out.new
+        ≡ take at out.old ++ (replicate (32 - length digits.now) 48 ++ digits.now) }
 {
     let zeros: &'static [u8] = ZEROS;
     let middle = put(out, at, &zeros[..32 - digits.len()]);
@@ -178,8 +186,10 @@ fn refusal_end() -> &'static [u8]
 
 /// Writes a head and then a body.
 fn write_both<K: Sink>(sink: &mut K, head: &[u8], body: &[u8]) -> Result<(), Failed>
-    ensures ok { OnOk result (Appends (K.written sink.old) (K.written sink.new) (head.now ++ body.now)) }
-    ensures failed { OnErr result (AppendsFront (K.written sink.old) (K.written sink.new) (head.now ++ body.now)) }
+    ensures ok { OnOk result
+        (Appends (K.written sink.old) (K.written sink.new) (head.now ++ body.now)) }
+    ensures failed { OnErr result
+        (AppendsFront (K.written sink.old) (K.written sink.new) (head.now ++ body.now)) }
     ensures cause { HasCause (K.faults sink.old) (K.faults sink.new) result }
 {
     write_text(sink, head)?;
