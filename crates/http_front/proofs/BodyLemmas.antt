@@ -1,15 +1,15 @@
 -- A message whose head is there, and whose body comes in pieces.
-use Rattle.std.proofs.Common.{◌≡◌, ℕ, ◌+◌, ◌<◌, ◌≤◌, List, [], ◌∷◌, ◌++◌, length, take, drop, refl, sym, ap, ◌∙◌, subst, arith, append_assoc, append-nil, length-append, Option, Some, None, inl, inr, IfSome}
+use Rattle.std.proofs.Common.{◌≡◌, ℕ, ◌+◌, ◌<◌, List, [], ◌++◌, length, take, refl, sym, ap, ◌∙◌, subst, arith, append_assoc, append-nil, length-append, Option, Some, None, inr, IfSome}
 use Rattle.std.specs.Prelude.{option_map, Ok}
-use Rattle.std.specs.Io.KnownBytes.{prepend_known, Keeps, Consumes, IsAtEnd}
-use Rattle.std.proofs.KnownBytes.{Consumes-trans, Consumes-kept}
-use Rattle.std.proofs.lemmas.List.{take_at, take-append-drop}
-use Rattle.httparse.specs.Grammar.{RequestHead, print_request, ReadsRequest}
+use Rattle.std.specs.Io.KnownBytes.{prepend_known, Consumes, IsAtEnd}
+use Rattle.std.proofs.KnownBytes.{Consumes-trans}
+use Rattle.std.proofs.lemmas.List.{take_at}
+use Rattle.httparse.specs.Grammar.{print_request}
 use Rattle.httparse.specs.Spans.{span_bytes}
 use Rattle.http_front.specs.declared.head.Head.{Head}
 use Rattle.http_front.specs.declared.message.Message.{Message}
-use Rattle.http_front.specs.Messages.{IsMessage, IsShortBody, IsPartial, IsCutAt}
-use Rattle.http_front.specs.Spans.{HasHead, MovesTo}
+use Rattle.http_front.specs.Messages.{IsMessage, IsShortBody, IsCutAt}
+use Rattle.http_front.specs.Spans.{HasHead}
 use Rattle.http_front.proofs.HeadLemmas.{EndsLine-print_request, EndsLine-some}
 
 -- the bytes of the head

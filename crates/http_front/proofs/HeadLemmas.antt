@@ -1,22 +1,22 @@
 -- A head and the whole lines at the front of the bytes.
-use Rattle.std.proofs.Common.{◌≡◌, ◌≢◌, ℕ, zero, suc, ◌+◌, ◌-◌, ◌*◌, ◌<◌, ◌≤◌, Bool, true, false, IsTrue, List, [], ◌∷◌, ◌++◌, length, get_or, take, drop, reverse, refl, sym, ap, ◌∙◌, subst, arith, append_assoc, append-nil, length-append, codes, Option, Some, None, lit<, lit≤, inl, inr, All, IfSome}
-use Rattle.std.specs.Prelude.{option_map, slice_range, ◌⊎◌, codes, Ok, Err}
+use Rattle.std.proofs.Common.{◌≡◌, ℕ, zero, suc, ◌*◌, ◌<◌, ◌≤◌, IsTrue, List, [], ◌∷◌, ◌++◌, length, get_or, take, drop, reverse, refl, sym, ap, ◌∙◌, subst, arith, append_assoc, append-nil, length-append, codes, Option, Some, None, lit<, lit≤, inl, inr, All, IfSome}
+use Rattle.std.specs.Prelude.{option_map, codes}
 use Rattle.std.specs.List.{flat_map}
 use Rattle.std.proofs.lemmas.Bool.{cases_lt, false≢true}
-use Rattle.std.proofs.lemmas.List.{reverse-append, take_at, take-take, take-append-drop, length-take-le, get_or_at, get_or_append_left, append_cancel_left, nil_from_length}
+use Rattle.std.proofs.lemmas.List.{reverse-append, take_at, take-take, take-append-drop, length-take-le, get_or_at, get_or_append_left, nil_from_length}
 use Rattle.std.proofs.lemmas.List.Elements.{All-nil, All-cons, All-head, All-tail}
 use Rattle.std.proofs.lemmas.Slice.{between_is}
 use Rattle.std.proofs.lemmas.Str.{IsUtf8-from_ascii}
 use Rattle.httparse.specs.declared.spans.Span.{Span}
 use Rattle.httparse.specs.Grammar.{AllPass, print_blank, is_uri_byte, is_token_byte, LineEnd, crlf, lf, print_end, Field, print_field, IsField, RequestHead, IsRequestHead, print_request, ReadsRequest, HasNoRequest, NeverHasRequest, EndsInTarget, MayBecomeRequest}
 use Rattle.httparse.specs.Spans.{IsWithin, span_bytes, RequestExceeds}
-use Rattle.httparse.proofs.GrammarLemmas.{ReadsRequest-append, request_unique}
+use Rattle.httparse.proofs.GrammarLemmas.{ReadsRequest-append}
 use Rattle.httparse.proofs.TrimLemmas.{AllPass-reverse}
 use Rattle.http_front.specs.declared.fault.HttpFault.{HttpFault}
-use Rattle.http_front.specs.declared.fault.HttpFault.TheVariants.{BadHead, TooLarge}
+use Rattle.http_front.specs.declared.fault.HttpFault.TheVariants.{TooLarge}
 use Rattle.http_front.specs.declared.head.Head.{Head}
-use Rattle.http_front.specs.Heads.{max_head, verdict}
-use Rattle.http_front.specs.Messages.{EndsLine, HasNoHead, IsDead, IsTooLong, HasFault, IsRefusedBy, IsShortHead}
+use Rattle.http_front.specs.Heads.{max_head}
+use Rattle.http_front.specs.Messages.{EndsLine, HasNoHead, IsDead, IsRefusedBy, IsShortHead}
 use Rattle.http_front.specs.Spans.{room, IsWholeLines, BreaksOff, HasHead}
 
 -- ---- a head ends with a line feed

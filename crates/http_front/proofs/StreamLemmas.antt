@@ -1,5 +1,5 @@
 -- What stands at the front of the bytes is one thing, and a stream has one reading.
-use Rattle.std.proofs.Common.{◌≡◌, ℕ, ◌+◌, ◌<◌, ◌≤◌, Bool, true, false, List, [], ◌∷◌, ◌++◌, length, take, drop, refl, sym, ap, ◌∙◌, subst, arith, append_assoc, append-nil, length-append, Option, Some, None, inl, inr, IfSome, All}
+use Rattle.std.proofs.Common.{◌≡◌, ℕ, ◌<◌, ◌≤◌, List, [], ◌∷◌, ◌++◌, length, take, drop, refl, sym, ap, ◌∙◌, subst, arith, append_assoc, length-append, Option, Some, None, inl, inr, IfSome}
 use Rattle.std.specs.Prelude.{Ok, Err, Result, IsTrue, IsFalse, ◌⊎◌}
 use Rattle.std.specs.Io.KnownBytes.{prepend_known, Keeps}
 use Rattle.std.proofs.lemmas.Bool.{cases_lt, false≢true}
@@ -12,8 +12,8 @@ use Rattle.http_front.specs.declared.fault.NextEnd.{NextEnd}
 use Rattle.http_front.specs.declared.fault.NextEnd.TheVariants.{Refused, Cut, ReadFault, NoMemory}
 use Rattle.http_front.specs.declared.message.Message.{Message}
 use Rattle.http_front.specs.Heads.{max_head, verdict, operation, asks_to_close}
-use Rattle.http_front.specs.Messages.{IsMessage, HasNoHead, IsDead, IsTooLong, HasFault, IsRefusedBy, told, IsRefusedAs, IsShortHead, IsShortBody, IsPartial, IsCutAt}
-use Rattle.http_front.specs.Streams.{Takes, StaysOpen, Closes, Ending, whole, cut, refused, asked, Ends, IsStream, OneReading}
+use Rattle.http_front.specs.Messages.{IsMessage, HasNoHead, IsDead, IsRefusedBy, told, IsRefusedAs, IsPartial}
+use Rattle.http_front.specs.Streams.{Takes, StaysOpen, Closes, Ending, whole, cut, refused, asked, Ends, OneReading}
 use Rattle.http_front.specs.Ends.{IfRefused, IsRefusalWith}
 use Rattle.http_front.proofs.HeadLemmas.{EndsLine-print_request, EndsLine-some}
 

@@ -1,6 +1,6 @@
 -- What a request's head asks for (RFC 9112, sections 3, 6 and 9; RFC 9110, section 5): the length of the body, the
 -- operation, and whether the connection ends. The grammar of heads is `httparse`'s.
-use Rattle.std.specs.Prelude.{ℕ, ◌<◌, Bool, ◌||◌, ◌&&◌, List, [], ◌∷◌, length, map, Option, Result, Ok, Err, nat_lt, nat_le, ◌==◌, if◌then◌else◌, codes, is_some, slice_get}
+use Rattle.std.specs.Prelude.{ℕ, Bool, ◌||◌, ◌&&◌, List, [], ◌∷◌, length, map, Option, Result, Ok, Err, nat_lt, nat_le, ◌==◌, if◌then◌else◌, codes, is_some, slice_get}
 use Rattle.std.specs.List.{list_all, list_any, slice_split}
 use Rattle.std.specs.Char.{is_ascii_digit}
 use Rattle.std.specs.Str.{bytes_eq, str_eq_ignore_ascii_case}

@@ -1,5 +1,5 @@
 -- The bytes of replies (RFC 9112, sections 3 to 6 and 9.6; RFC 9110, section 15).
-use Rattle.std.specs.Prelude.{◌≡◌, ℕ, ◌-◌, ◌⊎◌, Bool, List, [], ◌++◌, length, if◌then◌else◌, ◌==◌, codes, decimal, replicate, Option}
+use Rattle.std.specs.Prelude.{◌≡◌, ℕ, ◌-◌, ◌⊎◌, Bool, List, ◌++◌, length, if◌then◌else◌, ◌==◌, codes, decimal, replicate, Option}
 use Rattle.std.specs.Io.KnownBytes.{Appends}
 use Rattle.http.specs.StatusCode.{code_digits}
 use Rattle.http_front.specs.declared.fault.HttpFault.{HttpFault}

@@ -1,4 +1,4 @@
-use Rattle.std.proofs.Common.{◌≡◌, ◌++◌, ◌<◌, ◌≤◌, rules, [], length, take, refl, sym, ap, ◌∙◌, subst, arith, append_assoc, append-nil, length-append}
+use Rattle.std.proofs.Common.{◌≡◌, ◌++◌, ◌<◌, rules, length, take, refl, sym, ap, ◌∙◌, subst, arith, append_assoc, append-nil}
 use Rattle.std.proofs.KnownBytes.{Consumes-kept}
 use Rattle.http_front.specs.Messages.{IsShortBody, IsCutAt}
 use Rattle.http_front.proofs.BodyLemmas.{message_taken, short_body, cut_body, Consumes-moved, IfSome-taken, Consumes-join}
