@@ -1,6 +1,5 @@
 -- The bytes of replies (RFC 9112, sections 3 to 6 and 9.6; RFC 9110, section 15).
-use Rattle.std.specs.Prelude.{◌≡◌, ℕ, ◌-◌, ◌⊎◌, Bool, List, ◌++◌, length, if◌then◌else◌, ◌==◌, codes, decimal, replicate, Option}
-use Rattle.std.specs.Io.KnownBytes.{Appends}
+use Rattle.std.specs.Prelude.{◌≡◌, ℕ, ◌-◌, ◌⊎◌, Bool, List, ◌++◌, length, if◌then◌else◌, ◌==◌, codes, decimal, replicate}
 use Rattle.http.specs.StatusCode.{code_digits}
 use Rattle.http_front.specs.declared.fault.HttpFault.{HttpFault}
 use Rattle.http_front.specs.declared.fault.HttpFault.TheVariants.{BadHead, TooLarge, Coding, Method, Target}
@@ -69,7 +68,3 @@ refusal_end = codes "Content-Length: 0\r\nConnection: close\r\n\r\n"
 -- the bytes of a refusal
 abbrev pub refusal : HttpFault → List ℕ
 refusal fault = status_line (status_of fault) ++ refusal_end
-
--- the known bytes grew by a front of the text, as where a sink failed in the middle
-abbrev pub AppendsFront : Option (List ℕ) → Option (List ℕ) → List ℕ → Type 0
-AppendsFront old new text = (part : List ℕ) × (rest : List ℕ) × (text ≡ part ++ rest) × Appends old new part

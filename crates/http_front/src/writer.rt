@@ -2,10 +2,11 @@
 ghost use Rattle.std.specs.Prelude.{◌≡◌, ℕ, List, ◌+◌, ◌++◌, ◌≤◌, length, take, replicate, ◌-◌, OnOk, OnErr, decimal};
 ghost use Rattle.std.specs.Io.KnownBytes.{Appends};
 ghost use Rattle.ddb_outside.specs.Causes.{HasCause};
-ghost use Rattle.http_front.specs.Replies.{IsReplyStatus, IsAnswered, status_of, phrase_of, status_line, before_length, before_count, head_end, digits_32, reply_head, bytes_of, refusal_end, refusal, AppendsFront};
+ghost use Rattle.ddb_outside.specs.Writes.{AppendsFront};
+ghost use Rattle.http_front.specs.Replies.{IsReplyStatus, IsAnswered, status_of, phrase_of, status_line, before_length, before_count, head_end, digits_32, reply_head, bytes_of, refusal_end, refusal};
 
 use crate::fault::HttpFault;
-use ddb_outside::{Failed, Sink};
+use ddb_outside::{Failed, Sink, write_all};
 use http::StatusCode;
 use itoa::Buffer;
 
@@ -39,7 +40,7 @@ pub fn reply<K: Sink>(
     let end = put_head(&mut out, status, body.len(), count, last);
     if body.len() <= ROOM - end {
         let end = put(&mut out, end, body);
-        write_text(sink, &out[..end])
+        write_all(sink, &out[..end])
     } else {
         write_both(sink, &out[..end], body)
     }
@@ -57,7 +58,7 @@ pub fn refuse<K: Sink>(sink: &mut K, fault: HttpFault) -> Result<(), Failed>
     let mut out = [0u8; ROOM];
     let at = put_status_line(&mut out, status_of(fault));
     let end = put(&mut out, at, refusal_end());
-    write_text(sink, &out[..end])
+    write_all(sink, &out[..end])
 }
 
 /// The status that answers a fault.
@@ -192,19 +193,6 @@ fn write_both<K: Sink>(sink: &mut K, head: &[u8], body: &[u8]) -> Result<(), Fai
         (AppendsFront (K.written sink.old) (K.written sink.new) (head.now ++ body.now)) }
     ensures cause { HasCause (K.faults sink.old) (K.faults sink.new) result }
 {
-    write_text(sink, head)?;
-    write_text(sink, body)
-}
-
-/// Writes all of a text.
-fn write_text<K: Sink>(sink: &mut K, text: &[u8]) -> Result<(), Failed>
-    ensures ok { OnOk result (Appends (K.written sink.old) (K.written sink.new) text.now) }
-    ensures failed { OnErr result (AppendsFront (K.written sink.old) (K.written sink.new) text.now) }
-    ensures cause { HasCause (K.faults sink.old) (K.faults sink.new) result }
-{
-    let mut at = 0;
-    while at < text.len() {
-        at += sink.write(&text[at..])?;
-    }
-    Ok(())
+    write_all(sink, head)?;
+    write_all(sink, body)
 }
