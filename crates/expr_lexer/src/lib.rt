@@ -1,4 +1,4 @@
-//! The small types that everything above is made of: text, bytes and lists.
+//! The small types that everything above is made of: text, bytes, lists and document paths.
 //!
 //! A contract sees a [`Text`] as the list of its UTF-8 bytes, a [`Bytes`] as the list of its bytes and a
 //! [`Seq`] as the list of its items. So a type that holds one of them can be named in a definition as it
@@ -6,10 +6,12 @@
 #![tactic(auto)]
 
 mod binary;
+mod path;
 mod seq;
 mod text;
 
 pub use binary::Bytes;
+pub use path::{DocPath, Step};
 pub use seq::Seq;
 pub use text::Text;
 

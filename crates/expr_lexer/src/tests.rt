@@ -1,4 +1,4 @@
-use super::{Bytes, Seq, Text};
+use super::{Bytes, DocPath, Seq, Step, Text};
 use std::alloc::Global;
 use std::test::Fail;
 
@@ -65,5 +65,19 @@ fn lists(rt: HostRuntime) -> Result<(), Fail> {
     assert_eq!(rt; back.len(), 2);
     assert_eq!(rt; back[1].as_str(), "Song");
     assert!(rt; Seq::from(back).as_slice() == copies.as_slice());
+    Ok(())
+}
+
+#[test]
+fn paths(rt: HostRuntime) -> Result<(), Fail> {
+    let alloc = rt.alloc();
+    let mut steps = Seq::new(alloc);
+    steps.push(Step::Name(text(alloc, "Songs")?))?;
+    steps.push(Step::Index(2))?;
+    let path = DocPath { steps };
+    assert!(rt; path == path.try_clone()?);
+    assert!(rt; path == path.clone()?);
+    assert!(rt; path.steps.as_slice()[1..] == [Step::Index(2)]);
+    assert!(rt; Step::Name(text(alloc, "2")?).try_clone()? != Step::Index(2));
     Ok(())
 }
