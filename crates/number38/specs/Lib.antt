@@ -1,0 +1,5 @@
+pub mod Digits
+pub mod DigitLaws
+pub mod Number
+pub mod NumberLaws
+pub mod Scaled

@@ -1,0 +1,140 @@
+//! The type of a number.
+
+ghost use Rattle.std.specs.Prelude.{◌≡◌, ◌+◌, ◌*◌, ◌%◌, ◌^◌, ◌<◌, ◌≤◌, IsTrue, SomeIff, pos, max, unsigned_abs};
+
+use crate::scaled::{COEFFICIENT_LIMIT, Scaled};
+use std::marker::Model;
+
+/// Why there is no number.
+#[derive(Clone, Copy, Debug, PartialEq, Eq)]
+pub enum NumberFault {
+    /// The text is not a decimal numeral.
+    Grammar = 1,
+    /// More than 38 significant digits.
+    TooManyDigits = 2,
+    /// A magnitude below 1E-130 or from 1E126 on.
+    OutOfRange = 3,
+}
+
+/// An exact decimal number of at most 38 significant digits.
+#[derive(Clone, Copy)]
+pub struct Number {
+    negative: bool,
+    coefficient: u128,
+    exponent: i16,
+}
+
+impl Model for Number {
+    ghost use Rattle.std.specs.Prelude.{ℤ};
+
+    ghost Value = { ℤ };
+
+    ghost use Rattle.number38.specs.Number.{whole_of, IsCanonical, canonical};
+    ghost use Rattle.number38.specs.NumberLaws.{canonical-whole};
+
+    ghost view = { whole_of };
+
+    ghost invariant = { IsCanonical };
+
+    ghost inverse = { canonical };
+
+    ghost inverse_ok = { canonical-whole };
+}
+
+impl Number {
+    ghost use Rattle.number38.specs.Digits.{significant_digits};
+    ghost use Rattle.number38.specs.Scaled.{magnitude, whole};
+
+    /// 0.
+    fn zero() -> Number
+        ensures { result ≡ pos 0 }
+    {
+        Number {
+            negative: false,
+            coefficient: 0,
+            exponent: 0,
+        }
+    }
+
+    /// The number taken apart.
+    pub(crate) fn scaled(&self) -> Scaled
+        ensures whole { whole result ≡ self.now }
+        ensures digits { result.coefficient < 10 ^ 38 }
+        ensures stripped { 0 < result.coefficient → 0 < result.coefficient % 10 }
+        ensures power { result.power < 293 }
+    {
+        Scaled {
+            negative: self.negative,
+            coefficient: self.coefficient,
+            power: (self.exponent + 167) as u32,
+        }
+    }
+
+    /// How many significant digits the number has, from 1 to 38. 0 has one.
+    pub fn digits(&self) -> u32
+        ensures { result ≡ max 1 (significant_digits (unsigned_abs self.now)) }
+    {
+        if self.coefficient == 0 {
+            return 1;
+        }
+        self.coefficient.ilog10() + 1
+    }
+}
+
+/// The number of a whole number.
+pub fn from_u64(n: u64) -> Number
+    ensures { result ≡ pos (n * 10 ^ 167) }
+{
+    if n == 0 {
+        return Number::zero();
+    }
+    let stripped = Scaled {
+        negative: false,
+        coefficient: u128::from(n),
+        power: 167,
+    }
+    .stripped();
+    Number {
+        negative: false,
+        coefficient: stripped.coefficient,
+        exponent: stripped.power as i16 - 167,
+    }
+}
+
+impl Scaled {
+    ghost use Rattle.number38.specs.Number.{is_in_range, fitted};
+    ghost use Rattle.number38.specs.Scaled.{magnitude, whole};
+
+    /// The number, where its magnitude is in range.
+    fn in_range(self) -> Option<Number>
+        requires digits { self.coefficient < 10 ^ 38 }
+        requires stripped { 0 < self.coefficient % 10 }
+        requires room { self.power < 2000 }
+        ensures { SomeIff result (IsTrue (is_in_range (magnitude self))) (whole self) }
+    {
+        let digits = self.coefficient.ilog10() + 1 + self.power;
+        if digits < 38 || 293 < digits {
+            return None;
+        }
+        Some(Number {
+            negative: self.negative,
+            coefficient: self.coefficient,
+            exponent: self.power as i16 - 167,
+        })
+    }
+
+    /// The number, or the first fault: too many digits, and then a magnitude that is out of range.
+    pub(crate) fn fit(self) -> Result<Number, NumberFault>
+        requires { self.power < 1000 }
+        ensures { result ≡ fitted (whole self) }
+    {
+        if self.coefficient == 0 {
+            return Ok(Number::zero());
+        }
+        let stripped = self.stripped();
+        if stripped.coefficient >= COEFFICIENT_LIMIT {
+            return Err(NumberFault::TooManyDigits);
+        }
+        stripped.in_range().ok_or(NumberFault::OutOfRange)
+    }
+}
