@@ -108,3 +108,6 @@ fitted-coefficient_few b c p None h small outside =
     sym (fitted-out (signed b (c * 10 ^ p)) (subst (λ (n : ℕ). significant_digits n ≤ 38) (sym (unsigned_abs-signed b (c * 10 ^ p))) (few_digits c p h small))
     (subst (λ (n : ℕ). 0 < n) (sym (unsigned_abs-signed b (c * 10 ^ p))) (omega (arith, mul_ten_pow_pos c p (pos_from_last c h))))
     (subst (λ (n : ℕ). is_in_range n ≡ false) (sym (unsigned_abs-signed b (c * 10 ^ p))) (false_from_ne_true (is_in_range (c * 10 ^ p)) (λ e. outside (grind arith)))))
+
+pub whole_below_limit : (n : ℕ) → n < 2 ^ 64 → n * 10 ^ 167 < limit
+whole_below_limit n h = below_limit 19 167 n (omega arith) (omega arith)

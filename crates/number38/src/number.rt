@@ -61,6 +61,7 @@ impl Number {
         ensures whole { whole result ≡ self.now }
         ensures digits { result.coefficient < 10 ^ 38 }
         ensures stripped { 0 < result.coefficient → 0 < result.coefficient % 10 }
+        ensures sign { IsTrue result.negative → 0 < result.coefficient }
         ensures power { result.power < 293 }
     {
         Scaled {
@@ -81,6 +82,29 @@ impl Number {
     }
 }
 
+impl PartialEq for Number {
+    ghost use Rattle.std.proofs.Common.{rules};
+    ghost use Rattle.std.specs.Ordering.{int_eq};
+    ghost use Rattle.std.specs.Cmp.Rules.{comparing};
+
+    ghost eq = { int_eq };
+
+    ghost laws = { Prim.search (comparing, rules) };
+
+    fn eq(&self, other: &Number) -> bool {
+        self.negative == other.negative
+            && self.coefficient == other.coefficient
+            && self.exponent == other.exponent
+    }
+}
+
+impl Eq for Number {
+    ghost use Rattle.std.proofs.Common.{rules};
+    ghost use Rattle.std.specs.Cmp.Rules.{comparing};
+
+    ghost laws = { Prim.search (comparing, rules) };
+}
+
 /// The number of a whole number.
 pub fn from_u64(n: u64) -> Number
     ensures { result ≡ pos (n * 10 ^ 167) }
@@ -88,17 +112,12 @@ pub fn from_u64(n: u64) -> Number
     if n == 0 {
         return Number::zero();
     }
-    let stripped = Scaled {
+    let whole = Scaled {
         negative: false,
         coefficient: u128::from(n),
         power: 167,
-    }
-    .stripped();
-    Number {
-        negative: false,
-        coefficient: stripped.coefficient,
-        exponent: stripped.power as i16 - 167,
-    }
+    };
+    whole.stripped().in_range().unwrap()
 }
 
 impl Scaled {

@@ -2,7 +2,7 @@
 
 ghost use Rattle.std.specs.Prelude.{◌≡◌, ◌*◌, ◌^◌, ◌<◌};
 ghost use Rattle.std.proofs.Common.{rules};
-ghost use Rattle.std.specs.Ordering.{nat_cmp, int_cmp, int_eq, as_partial_cmp};
+ghost use Rattle.std.specs.Ordering.{nat_cmp, int_cmp, as_partial_cmp};
 ghost use Rattle.std.specs.Cmp.{partial_order_from_own_ties};
 ghost use Rattle.std.specs.Cmp.Rules.{comparing};
 ghost use Rattle.number38.specs.Scaled.{magnitude};
@@ -30,20 +30,6 @@ fn magnitude_order(a: Scaled, b: Scaled) -> Ordering
         Some(wide) => wide.cmp(&b.coefficient),
         None => Ordering::Greater,
     }
-}
-
-impl PartialEq for Number {
-    ghost eq = { int_eq };
-
-    ghost laws = { Prim.search (comparing, rules) };
-
-    fn eq(&self, other: &Number) -> bool {
-        self.cmp(other) == Ordering::Equal
-    }
-}
-
-impl Eq for Number {
-    ghost laws = { Prim.search (comparing, rules) };
 }
 
 impl PartialOrd for Number {

@@ -25,6 +25,7 @@ impl Scaled {
         ensures same { magnitude result ≡ magnitude self }
         ensures sign { result.negative ≡ self.negative }
         ensures stripped { 0 < result.coefficient % 10 }
+        ensures shorter { result.coefficient ≤ self.coefficient }
         ensures power { result.power < self.power + 39 }
     {
         let mut coefficient = self.coefficient;

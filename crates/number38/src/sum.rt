@@ -33,17 +33,19 @@ fn aligned_sum(high: Scaled, low: Scaled) -> Result<Number, NumberFault>
     if low.coefficient == 0 {
         return high.fit();
     }
-    let Some(wide) = widened(high.coefficient, high.power - low.power) else {
-        return Err(NumberFault::TooManyDigits);
-    };
-    let (negative, coefficient) =
-        signed_sum(high.negative, wide, low.negative, low.coefficient);
-    Scaled {
-        negative,
-        coefficient,
-        power: low.power,
+    match widened(high.coefficient, high.power - low.power) {
+        None => Err(NumberFault::TooManyDigits),
+        Some(wide) => {
+            let (negative, coefficient) =
+                signed_sum(high.negative, wide, low.negative, low.coefficient);
+            let sum = Scaled {
+                negative,
+                coefficient,
+                power: low.power,
+            };
+            sum.fit()
+        }
     }
-    .fit()
 }
 
 /// The sum of two whole numbers that stand for numbers.

@@ -11,6 +11,7 @@ loop-coefficient-preserved c =
     record {
       some = some;
       same = same;
+      shorter = omega arith;
       few = ten_pow_few (n / 10) (k + 1) some (omega arith);
     }
 

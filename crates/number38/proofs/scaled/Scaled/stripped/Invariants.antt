@@ -1,10 +1,11 @@
-use Rattle.std.proofs.Common.{◌≡◌, ◌*◌, ◌^◌, ◌<◌}
+use Rattle.std.proofs.Common.{◌≡◌, ◌*◌, ◌^◌, ◌<◌, ◌≤◌}
 use Rattle.number38.proofs.scaled.Scaled.stripped.Given as goal
 
 abbrev pub invariant-loop-coefficient : goal.invariant-loop-coefficient
 invariant-loop-coefficient l = record {
   some : 0 < l.coefficient;
   same : l.coefficient * 10 ^ l.zeros ≡ l.self.coefficient;
+  shorter : l.coefficient ≤ l.self.coefficient;
   few : l.zeros < 39;
 }
 
