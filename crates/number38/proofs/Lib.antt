@@ -1,3 +1,6 @@
+pub mod MantissaLaws
 pub mod OrderLaws
 pub mod RangeLaws
+pub mod ReadingLaws
 pub mod SumLaws
+pub mod TextLaws

@@ -1,5 +1,5 @@
 -- Powers of ten, and the digits of a coefficient with zeros behind it.
-use Rattle.std.proofs.Common.{◌≡◌, ℕ, zero, suc, ◌+◌, ◌-◌, ◌*◌, ◌/◌, ◌%◌, ◌^◌, ◌<◌, ◌≤◌, Bool, true, false, cond, eqb, length, sym, refl, ap, ◌∙◌, subst, arith, inl, inr, ◌⊎◌, ⊎_elim, add_comm}
+use Rattle.std.proofs.Common.{◌≡◌, ℕ, zero, suc, ◌+◌, ◌-◌, ◌*◌, ◌/◌, ◌%◌, ◌^◌, ◌<◌, ◌≤◌, Bool, true, false, cond, eqb, length, sym, refl, ap, ◌∙◌, subst, arith, inl, inr, ◌⊎◌, ⊎_elim, add_comm, add-one}
 use Rattle.std.proofs.Math.Nat.{pow-suc, pow-zero, one-le-pow, pow-le-pow_right, mul_assoc, mul_comm, mul-one, mul-div_cancel, mul-mod_left, mul-le-mul, mul-le-mul_left, mul-le-mul_right, mul-lt-mul_of_pos_right, lt_of_mul-lt-mul_right}
 use lib.Pow.{pow-add}
 use Rattle.std.proofs.lemmas.Bool.{cond-true, cond-false, eq-eqb, ne_eqb, cases_lt, cases_eq}
@@ -100,3 +100,10 @@ strip_step n k h =
 pub ten_pow_few : (c k : ℕ) → 0 < c → c * 10 ^ k < 2 ^ 128 → k < 39
 ten_pow_few c k p h =
     ⊎_elim (λ few. few) (λ many. absurd (omega (arith, ten_pow_le 39 k many, mul-le-mul_right (10 ^ k) p))) (cases_lt k 39)
+
+pub ten_pow-more : (c k : ℕ) → c * 10 ^ (k + 1) ≡ c * 10 ^ k * 10
+ten_pow-more c k = ap (λ (x : ℕ). c * 10 ^ x) (add-one k) ∙ ten_pow-suc c k
+
+-- a whole number of more than 38 digits that ends in no zero
+pub many_here : (n : ℕ) → 0 < n % 10 → 10 ^ 38 ≤ n → 38 < significant_digits n
+many_here n h large = subst (λ (x : ℕ). 38 < significant_digits x) (ap (λ (x : ℕ). n * x) (pow-zero 10) ∙ mul-one n) (many_digits n 0 h large)

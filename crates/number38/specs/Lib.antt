@@ -3,3 +3,5 @@ pub mod DigitLaws
 pub mod Number
 pub mod NumberLaws
 pub mod Scaled
+pub mod Text
+pub mod Reading

@@ -1,9 +1,13 @@
 //! Exact decimal numbers of 38 digits.
 #![tactic(auto)]
 
+mod mantissa;
 mod number;
+mod numeral;
 mod order;
+mod text;
 mod scaled;
 mod sum;
 
+pub use text::parse;
 pub use number::{Number, NumberFault, from_u64};

@@ -46,7 +46,7 @@ impl Number {
     ghost use Rattle.number38.specs.Scaled.{magnitude, whole};
 
     /// 0.
-    fn zero() -> Number
+    pub(crate) fn zero() -> Number
         ensures { result ≡ pos 0 }
     {
         Number {
@@ -125,7 +125,7 @@ impl Scaled {
     ghost use Rattle.number38.specs.Scaled.{magnitude, whole};
 
     /// The number, where its magnitude is in range.
-    fn in_range(self) -> Option<Number>
+    pub(crate) fn in_range(self) -> Option<Number>
         requires digits { self.coefficient < 10 ^ 38 }
         requires stripped { 0 < self.coefficient % 10 }
         requires room { self.power < 2000 }

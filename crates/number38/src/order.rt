@@ -21,12 +21,12 @@ fn magnitude_order(a: Scaled, b: Scaled) -> Ordering
     ensures { result ≡ nat_cmp (magnitude a) (magnitude b) }
 {
     if a.power < b.power {
-        return match widened(b.coefficient, b.power - a.power) {
+        return match widened(b.coefficient, (b.power - a.power) as u64) {
             Some(wide) => a.coefficient.cmp(&wide),
             None => Ordering::Less,
         };
     }
-    match widened(a.coefficient, a.power - b.power) {
+    match widened(a.coefficient, (a.power - b.power) as u64) {
         Some(wide) => wide.cmp(&b.coefficient),
         None => Ordering::Greater,
     }

@@ -43,12 +43,15 @@ impl Scaled {
 }
 
 /// The coefficient with this many zeros behind it, where that is below twice the limit.
-pub fn widened(coefficient: u128, zeros: u32) -> Option<u128>
+pub fn widened(coefficient: u128, zeros: u64) -> Option<u128>
     ensures { SomeIff result (coefficient * 10 ^ zeros < FAR) (coefficient * 10 ^ zeros) }
 {
     if coefficient == 0 {
         return Some(0);
     }
-    let wide = coefficient.checked_mul(10u128.checked_pow(zeros)?)?;
+    if zeros > 38 {
+        return None;
+    }
+    let wide = coefficient.checked_mul(10u128.pow(zeros as u32))?;
     if wide < FAR { Some(wide) } else { None }
 }

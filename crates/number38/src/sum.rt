@@ -33,7 +33,7 @@ fn aligned_sum(high: Scaled, low: Scaled) -> Result<Number, NumberFault>
     if low.coefficient == 0 {
         return high.fit();
     }
-    match widened(high.coefficient, high.power - low.power) {
+    match widened(high.coefficient, (high.power - low.power) as u64) {
         None => Err(NumberFault::TooManyDigits),
         Some(wide) => {
             let (negative, coefficient) =

@@ -1,0 +1,9 @@
+use Rattle.std.proofs.Common.{◌≡◌, ◌≤◌, ◌-◌, ◌^◌, min, drop}
+use Rattle.std.specs.Str.Parse.{digits_value, digits_value_after}
+use Rattle.number38.proofs.mantissa.bounded_value.Given as goal
+
+abbrev pub invariant-loop-digit : goal.invariant-loop-digit
+invariant-loop-digit l = record {
+  value : min (digits_value_after 10 l.value (drop l.digit-index l.digits)) (2 ^ 64 - 1) ≡ min (digits_value 10 l.digits) (2 ^ 64 - 1);
+  small : l.value ≤ 2 ^ 64 - 1;
+}
