@@ -1,5 +1,6 @@
 pub mod MantissaLaws
 pub mod OrderLaws
+pub mod PrintedLaws
 pub mod RangeLaws
 pub mod ReadingLaws
 pub mod SumLaws

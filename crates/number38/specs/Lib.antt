@@ -4,4 +4,5 @@ pub mod Number
 pub mod NumberLaws
 pub mod Scaled
 pub mod Text
+pub mod Printed
 pub mod Reading

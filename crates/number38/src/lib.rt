@@ -6,6 +6,7 @@ mod number;
 mod numeral;
 mod order;
 mod text;
+mod printed;
 mod scaled;
 mod sum;
 

@@ -17,7 +17,7 @@ pub enum NumberFault {
 }
 
 /// An exact decimal number of at most 38 significant digits.
-#[derive(Clone, Copy)]
+#[derive(Clone, Copy, Debug)]
 pub struct Number {
     negative: bool,
     coefficient: u128,
@@ -62,6 +62,7 @@ impl Number {
         ensures digits { result.coefficient < 10 ^ 38 }
         ensures stripped { 0 < result.coefficient → 0 < result.coefficient % 10 }
         ensures sign { IsTrue result.negative → 0 < result.coefficient }
+        ensures zero { result.coefficient ≡ 0 → result.power ≡ 167 }
         ensures power { result.power < 293 }
     {
         Scaled {

@@ -1,4 +1,4 @@
-use Rattle.std.proofs.Common.{◌≡◌, ◌+◌, ◌*◌, ◌%◌, ◌^◌, ◌<◌, ◌≤◌, ◌++◌, ℕ, ℤ, Bool, cond, Ok, length, sym, ap, ◌∙◌, subst, arith}
+use Rattle.std.proofs.Common.{◌≡◌, ◌+◌, ◌*◌, ◌%◌, ◌^◌, ◌<◌, ◌≤◌, ◌++◌, ℕ, ℤ, Bool, cond, Ok, length, sym, ap, ◌∙◌, subst, arith, add-zero}
 use Rattle.std.specs.Str.Parse.{digits_value}
 use Rattle.std.proofs.Math.Nat.{zero-mul}
 use Rattle.number38.specs.Text.{valued}
@@ -40,4 +40,5 @@ returns-else-parts c =
     c.placed-else-parts.ensures
     ∙ bounded-right p.negative m.coefficient m.zeros places k c.bounded_value-moved.result (m.stripped (omega arith)) m.digits (omega (arith, c.in-Some.ensures.zeros)) (omega arith) c.bounded_value-moved.ensures
     ∙ ap (λ (n : ℕ). valued p.negative n k places) c.in-Some.ensures.some
+    ∙ ap (valued p.negative value k) (sym (add-zero places))
     ∙ ap (λ (b : Bool). valued p.negative value (cond b 0 k) (places + cond b k 0)) (sym c.if-parts.false)
