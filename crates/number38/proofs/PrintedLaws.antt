@@ -166,9 +166,6 @@ pub last_of_place : (c k : ℕ) → 0 < k → c % 10 ^ k % 10 ≡ c % 10
 last_of_place c zero h = absurd (omega arith)
 last_of_place c (suc k) h = last_of_rest c k
 
-pub log_below : (f l k : ℕ) → 10 ^ l ≤ f → f < 10 ^ k → l + 1 ≤ k
-log_below f l k low high = ⊎_elim (λ (q : l < k). omega arith) (λ (q : k ≤ l). absurd (omega (arith, ten_pow_le k l q))) (cases_lt l k)
-
 -- what the writes one after the other leave
 pub pointed_whole : (b0 b1 b2 b3 b4 : List ℕ) (w f k l : ℕ) → b1 ≡ b0 ++ decimal w → b2 ≡ b1 ++ 46 ∷ [] → b3 ≡ b2 ++ replicate (k - (l + 1)) 48 → b4 ≡ b3 ++ decimal f
   → w < 10 ^ 64 → f < 10 ^ 64 → 0 < f → f < 10 ^ k → 10 ^ l ≤ f → f < 10 * 10 ^ l → b4 ≡ b0 ++ (whole_text w ++ 46 ∷ padded_text k f)

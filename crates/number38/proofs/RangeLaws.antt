@@ -1,5 +1,5 @@
 -- Magnitudes and their range.
-use Rattle.std.proofs.Common.{◌≡◌, ℕ, zero, suc, ◌+◌, ◌-◌, ◌*◌, ◌/◌, ◌%◌, ◌^◌, ◌<◌, ◌≤◌, Bool, true, false, IsTrue, ℤ, pos, negsuc, ◌+ℤ◌, ◌-ℤ◌, unsigned_abs, Result, Ok, Err, Option, Some, None, SomeIff, ok_or, subst, sym, refl, ap, ◌∙◌, arith}
+use Rattle.std.proofs.Common.{◌≡◌, ℕ, zero, suc, ◌+◌, ◌-◌, ◌*◌, ◌/◌, ◌%◌, ◌^◌, ◌<◌, ◌≤◌, Bool, true, false, IsTrue, ℤ, pos, negsuc, ◌+ℤ◌, ◌-ℤ◌, unsigned_abs, Result, Ok, Err, Option, Some, None, SomeIff, ok_or, subst, sym, refl, ap, ◌∙◌, arith, ⊎_elim, ◌⊎◌}
 use Rattle.std.proofs.Math.Nat.{pow-suc, mul-le-mul_right, mul-lt-mul_of_pos_right, mul_comm}
 use Rattle.std.proofs.lemmas.Bool.Decides.{nat_tests}
 use lib.Pow.{pow-add}
@@ -10,7 +10,7 @@ use mir.Val.{to_z, of_z}
 use Rattle.number38.specs.Digits.{significant_digits}
 use Rattle.number38.specs.DigitLaws.{significant_digits-zero, few_digits, many_digits, mul_ten_pow_pos, pos_from_last}
 use Rattle.number38.specs.NumberLaws.{unsigned_abs-signed}
-use Rattle.std.proofs.lemmas.Bool.{false_from_ne_true}
+use Rattle.std.proofs.lemmas.Bool.{false_from_ne_true, cases_lt}
 use Rattle.number38.specs.Number.{least, limit, is_in_range, power_of, fitted, signed}
 use Rattle.number38.specs.declared.number.NumberFault.TheVariants.{TooManyDigits, OutOfRange}
 
@@ -111,3 +111,8 @@ fitted-coefficient_few b c p None h small outside =
 
 pub whole_below_limit : (n : ℕ) → n < 2 ^ 64 → n * 10 ^ 167 < limit
 whole_below_limit n h = below_limit 19 167 n (omega arith) (omega arith)
+
+-- a number of at most k digits
+pub log_below : (f l k : ℕ) → 10 ^ l ≤ f → f < 10 ^ k → l + 1 ≤ k
+log_below f l k low high = ⊎_elim (λ (q : l < k). omega arith) (λ (q : k ≤ l). absurd (omega (arith, ten_pow_le k l q))) (cases_lt l k)
+

@@ -2,6 +2,7 @@ pub mod Digits
 pub mod DigitLaws
 pub mod Number
 pub mod NumberLaws
+pub mod Hashed
 pub mod Scaled
 pub mod Text
 pub mod Printed

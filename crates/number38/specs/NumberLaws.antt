@@ -1,6 +1,10 @@
 -- One choice of fields for each number.
 use Rattle.std.proofs.Common.{◌≡◌, ℕ, zero, suc, ◌+◌, ◌-◌, ◌*◌, ◌/◌, ◌%◌, ◌^◌, ◌<◌, ◌≤◌, ◌≢◌, Bool, true, false, cond, eqb, ℤ, pos, negsuc, neg_ℤ, ◌-ℤ◌, ◌≤ℤ◌, unsigned_abs, sym, refl, ap, ◌∙◌, subst, arith, inl, inr, ◌⊎◌, ⊎_elim}
 use Rattle.std.proofs.lemmas.Int.{ints}
+use Rattle.std.proofs.lemmas.Map.Lookups.{exact_signed}
+use Rattle.std.specs.Ordering.{int_cmp, int_eq, is_eq}
+use Rattle.std.specs.declared.cmp.Ordering.{Ordering}
+use Rattle.std.specs.declared.cmp.Ordering.TheVariants.{Less, Equal, Greater}
 use Rattle.std.proofs.lemmas.Bool.{cond-true, cond-false, eq-eqb, ne_eqb, cases_eq}
 use Rattle.number38.specs.declared.number.Number.TheInside.{Inside}
 use Rattle.number38.specs.Digits.{trailing_zeros, significand}
@@ -60,3 +64,12 @@ canonical-whole a h =
 pub signed-zero : (b : Bool) → signed b 0 ≡ pos 0
 signed-zero false = refl
 signed-zero true = refl
+
+-- what `==` answers is equality
+equal_only : (o : Ordering) → is_eq o ≡ true → o ≡ Equal
+equal_only Less h = cc
+equal_only Equal h = cc
+equal_only Greater h = cc
+
+pub same_from_int_eq : (y z : ℤ) → int_eq y z ≡ true → y ≡ z
+same_from_int_eq y z h = exact_signed y z (equal_only (int_cmp y z) h)

@@ -12,3 +12,6 @@ mod sum;
 
 pub use text::parse;
 pub use number::{Number, NumberFault, from_u64};
+
+#[cfg(test)]
+mod tests;

@@ -3,6 +3,7 @@
 ghost use Rattle.std.specs.Prelude.{◌≡◌, ◌+◌, ◌*◌, ◌%◌, ◌^◌, ◌<◌, ◌≤◌, IsTrue, SomeIff, pos, max, unsigned_abs};
 
 use crate::scaled::{COEFFICIENT_LIMIT, Scaled};
+use std::hash::{Hash, Hasher};
 use std::marker::Model;
 
 /// Why there is no number.
@@ -74,7 +75,8 @@ impl Number {
 
     /// How many significant digits the number has, from 1 to 38. 0 has one.
     pub fn digits(&self) -> u32
-        ensures { result ≡ max 1 (significant_digits (unsigned_abs self.now)) }
+        ensures count { result ≡ max 1 (significant_digits (unsigned_abs self.now)) }
+        ensures most { result ≤ 38 }
     {
         if self.coefficient == 0 {
             return 1;
@@ -104,6 +106,20 @@ impl Eq for Number {
     ghost use Rattle.std.specs.Cmp.Rules.{comparing};
 
     ghost laws = { Prim.search (comparing, rules) };
+}
+
+impl Hash for Number {
+    ghost use Rattle.number38.specs.Hashed.{hash_writes, hash_writes-same};
+
+    ghost hash_input = { hash_writes };
+
+    ghost respects_eq = { hash_writes-same };
+
+    fn hash<H: Hasher>(&self, state: &mut H) {
+        self.negative.hash(state);
+        self.coefficient.hash(state);
+        self.exponent.hash(state);
+    }
 }
 
 /// The number of a whole number.

@@ -3,7 +3,8 @@ use Rattle.std.proofs.Math.Nat.{div-le_self}
 use Rattle.std.proofs.lemmas.Nat.{mod_below}
 use Rattle.number38.specs.Printed.{whole_text, padded_text}
 use Rattle.number38.specs.DigitLaws.{ten_pow_pos, pos_from_last}
-use Rattle.number38.proofs.PrintedLaws.{last_of_place, log_below, pointed_whole, on_ok}
+use Rattle.number38.proofs.PrintedLaws.{last_of_place, pointed_whole, on_ok}
+use Rattle.number38.proofs.RangeLaws.{log_below}
 use Rattle.number38.proofs.printed.push_pointed.Goals as goal
 
 some_fraction : (c k f : ℕ) → 0 < k → 0 < c % 10 → f ≡ c % 10 ^ k → 0 < f

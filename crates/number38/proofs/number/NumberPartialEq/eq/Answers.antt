@@ -11,7 +11,7 @@ use Rattle.std.proofs.lemmas.Cmp.{tied_itself, int_cmp_total}
 use Rattle.std.proofs.lemmas.Map.Lookups.{exact_signed}
 use Rattle.number38.specs.declared.number.Number.TheInside.{Inside}
 use Rattle.number38.specs.Number.{whole_of, IsCanonical, canonical}
-use Rattle.number38.specs.NumberLaws.{canonical-whole}
+use Rattle.number38.specs.NumberLaws.{canonical-whole, same_from_int_eq}
 use Rattle.number38.proofs.number.NumberPartialEq.eq.Goals as goal
 use Rattle.number38.proofs.number.NumberPartialEq.eq.Goals.{then-self-other, else-self-other}
 
@@ -31,16 +31,8 @@ same_from_fields a b h =
 same_inside : (a b : Inside) → IsCanonical a → IsCanonical b → whole_of a ≡ whole_of b → a ≡ b
 same_inside a b ha hb e = sym (canonical-whole a ha) ∙ ap canonical e ∙ canonical-whole b hb
 
-equal_only : (o : Ordering) → is_eq o ≡ true → o ≡ Equal
-equal_only Less h = cc
-equal_only Equal h = cc
-equal_only Greater h = cc
-
 int_eq-same : (y z : ℤ) → y ≡ z → true ≡ int_eq y z
 int_eq-same y z e = sym (ap is_eq (ap (int_cmp y) (sym e) ∙ tied_itself int_cmp_total y))
-
-same_from_int_eq : (y z : ℤ) → int_eq y z ≡ true → y ≡ z
-same_from_int_eq y z h = exact_signed y z (equal_only (int_cmp y z) h)
 
 not_same : (y z : ℤ) (t : Bool) → t ≡ int_eq y z → (y ≡ z → ⊥) → false ≡ int_eq y z
 not_same y z true h ne = absurd (ne (same_from_int_eq y z (sym h)))
