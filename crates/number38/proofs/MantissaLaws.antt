@@ -1,15 +1,15 @@
 -- The value of digits, and how many of them count.
-use Rattle.std.proofs.Common.{◌≡◌, ℕ, zero, suc, ◌+◌, ◌-◌, ◌*◌, ◌/◌, ◌%◌, ◌^◌, ◌<◌, ◌≤◌, ◌≢◌, min, Bool, true, false, List, [], ◌∷◌, ◌++◌, length, drop, get_or, sym, refl, ap, ◌∙◌, subst, arith, ⊎_elim, ◌⊎◌, le_trans, add-one}
+use Rattle.std.proofs.Common.{◌≡◌, ℕ, zero, suc, ◌+◌, ◌-◌, ◌*◌, ◌/◌, ◌%◌, ◌^◌, ◌<◌, ◌≤◌, ◌≢◌, min, List, [], ◌∷◌, ◌++◌, length, drop, get_or, sym, refl, ap, ◌∙◌, subst, arith, ⊎_elim, le_trans, add-one}
 use Rattle.std.proofs.lemmas.Bool.{cases_eq}
 use Rattle.std.proofs.lemmas.Bool.Decides.{nat_tests}
 use Rattle.std.specs.Char.{digit_value}
-use Rattle.std.specs.Str.Parse.{AllDigits, digits_value, digits_value_after}
+use Rattle.std.specs.Str.Parse.{AllDigits, digits_value_after}
 use Rattle.std.specs.Int.Digits.{digits_of}
 use Rattle.std.proofs.lemmas.Int.Digits.{length-digits_of-le, number_digits_of, number_lt, all_below_base_digits_of, length-digits_of_step}
 use Rattle.std.proofs.Math.Nat.{pow-zero, mul-one, mul-le-mul_left}
 use Rattle.std.proofs.Math.Seq.{drop-cons}
 use Rattle.number38.specs.Digits.{significant_digits}
-use Rattle.number38.specs.DigitLaws.{significant_digits-mul, significant_digits-zero, ten_pow-suc, ten_pow_pos, mul_ten_pow_pos, pos_from_last}
+use Rattle.number38.specs.DigitLaws.{significant_digits-mul, significant_digits-zero, ten_pow-suc, ten_pow_pos}
 
 -- a coefficient that ends in no zero, and the zeros behind it
 record Split (n : ℕ) : Type 0 where
@@ -23,9 +23,9 @@ split_within zero n h p = absurd (omega arith)
 split_within (suc most) n h p =
     ⊎_elim
     (λ (e : n % 10 ≡ 0).
-      let s : Split (n / 10) = split_within most (n / 10) (omega arith) (omega arith) in
-      let whole : n ≡ n / 10 * 10 = omega arith in
-      record { coefficient = s.coefficient; zeros = suc s.zeros; is = whole ∙ ap (λ (x : ℕ). x * 10) s.is ∙ sym (ten_pow-suc s.coefficient s.zeros); stripped = s.stripped })
+    let s : Split (n / 10) = split_within most (n / 10) (omega arith) (omega arith) in
+    let whole : n ≡ n / 10 * 10 = omega arith in
+    record { coefficient = s.coefficient; zeros = suc s.zeros; is = whole ∙ ap (λ (x : ℕ). x * 10) s.is ∙ sym (ten_pow-suc s.coefficient s.zeros); stripped = s.stripped })
     (λ ne. record { coefficient = n; zeros = 0; is = sym (ap (λ (x : ℕ). n * x) (pow-zero 10) ∙ mul-one n); stripped = omega arith })
     (cases_eq (n % 10) 0)
 
@@ -36,7 +36,7 @@ split n p = split_within n n (omega arith) p
 length_digits_le : (m n : ℕ) → m ≤ n → length (digits_of 10 m) ≤ length (digits_of 10 n)
 length_digits_le m n h =
     let below : n < 10 ^ length (digits_of 10 n) =
-        subst (λ (x : ℕ). x < 10 ^ length (digits_of 10 n)) (number_digits_of 10 n (omega arith)) (number_lt 10 (digits_of 10 n) (all_below_base_digits_of 10 n (omega arith))) in
+    subst (λ (x : ℕ). x < 10 ^ length (digits_of 10 n)) (number_digits_of 10 n (omega arith)) (number_lt 10 (digits_of 10 n) (all_below_base_digits_of 10 n (omega arith))) in
     length-digits_of-le 10 (length (digits_of 10 n)) m (omega arith) (omega arith)
 
 significant_le : (n : ℕ) → 0 < n → significant_digits n ≤ length (digits_of 10 n)

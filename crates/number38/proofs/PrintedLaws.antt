@@ -1,6 +1,6 @@
 -- The text of a coefficient with zeros behind it, or with a point in it.
-use Rattle.std.proofs.Common.{◌≡◌, ℕ, zero, suc, ◌+◌, ◌-◌, ◌*◌, ◌/◌, ◌%◌, ◌^◌, ◌<◌, ◌≤◌, ◌≢◌, Bool, true, false, cond, eqb, List, [], ◌∷◌, ◌++◌, length, map, replicate, decimal, OnOk, Result, Ok, Err, sym, refl, ap, ◌∙◌, subst, arith, append_assoc, add_comm, add-one, ⊎_elim, ◌⊎◌}
-use Rattle.std.proofs.lemmas.Bool.{cond-true, cond-false, eq-eqb, ne_eqb, cases_eq, cases_lt}
+use Rattle.std.proofs.Common.{◌≡◌, ℕ, zero, suc, ◌+◌, ◌-◌, ◌*◌, ◌/◌, ◌%◌, ◌^◌, ◌<◌, ◌≤◌, ◌≢◌, Bool, true, false, eqb, List, [], ◌∷◌, ◌++◌, length, replicate, decimal, OnOk, Result, Ok, Err, sym, refl, ap, ◌∙◌, subst, arith, append_assoc, add_comm, add-one, ⊎_elim}
+use Rattle.std.proofs.lemmas.Bool.{cond-true, cond-false, eq-eqb, ne_eqb, cases_eq}
 use Rattle.std.proofs.lemmas.List.{map-append, replicate_more}
 use Rattle.std.proofs.lemmas.Fmt.{decimal_by_steps_wide, decimal_digit}
 use Rattle.std.proofs.lemmas.Int.Digits.{digits_of_step, length-digits_of_step}
@@ -10,7 +10,7 @@ use lib.Pow.{pow-add}
 use Rattle.std.specs.Int.Digits.{digits_of}
 use Rattle.number38.specs.Printed.{digits_text, whole_text, padded_text, trimmed_text, point_text, text_with, printed}
 use Rattle.number38.specs.Number.{signed}
-use Rattle.number38.specs.DigitLaws.{ten_pow-suc, ten_pow_pos, ten_pow_join, ten_pow_le, length_digits_is, mul_ten_pow_pos}
+use Rattle.number38.specs.DigitLaws.{ten_pow-suc, ten_pow_pos, ten_pow_join, length_digits_is, mul_ten_pow_pos}
 
 -- the last digit, and the digits before it
 text_step : (n : ℕ) → 0 < n → digits_text (digits_of 10 n) ≡ digits_text (digits_of 10 (n / 10)) ++ (48 + n % 10) ∷ []
@@ -77,13 +77,13 @@ padded-is (suc k) n h =
     ⊎_elim
     (λ (e : n ≡ 0). ap (padded_text (suc k)) e ∙ padded-zero (suc k) ∙ sym (append-nil (replicate (suc k) 48)) ∙ ap (λ (j : ℕ). replicate j 48 ++ []) (less_zero k) ∙ ap (λ (m : ℕ). replicate (suc k - length (digits_of 10 m)) 48 ++ digits_text (digits_of 10 m)) (sym e))
     (λ (ne : n ≢ 0).
-      let p : 0 < n = omega arith in
-      let front : n / 10 < 10 ^ k = div_below n 10 (10 ^ k) (omega arith) (omega (arith, pow-suc 10 k)) in
-      let l : ℕ = length (digits_of 10 (n / 10)) in
-      ap (λ (xs : List ℕ). xs ++ (48 + n % 10) ∷ []) (padded-is k (n / 10) front)
-      ∙ append_assoc (replicate (k - l) 48) (digits_text (digits_of 10 (n / 10))) ((48 + n % 10) ∷ [])
-      ∙ ap (λ (xs : List ℕ). replicate (k - l) 48 ++ xs) (sym (text_step n p))
-      ∙ ap (λ (j : ℕ). replicate j 48 ++ digits_text (digits_of 10 n)) (sym (width_step k l n (length-digits_of_step 10 n (omega arith) p))))
+    let p : 0 < n = omega arith in
+    let front : n / 10 < 10 ^ k = div_below n 10 (10 ^ k) (omega arith) (omega (arith, pow-suc 10 k)) in
+    let l : ℕ = length (digits_of 10 (n / 10)) in
+    ap (λ (xs : List ℕ). xs ++ (48 + n % 10) ∷ []) (padded-is k (n / 10) front)
+    ∙ append_assoc (replicate (k - l) 48) (digits_text (digits_of 10 (n / 10))) ((48 + n % 10) ∷ [])
+    ∙ ap (λ (xs : List ℕ). replicate (k - l) 48 ++ xs) (sym (text_step n p))
+    ∙ ap (λ (j : ℕ). replicate j 48 ++ digits_text (digits_of 10 n)) (sym (width_step k l n (length-digits_of_step 10 n (omega arith) p))))
     (cases_eq n 0)
 
 -- ---- the digits behind the point
@@ -168,12 +168,12 @@ last_of_place c (suc k) h = last_of_rest c k
 
 -- what the writes one after the other leave
 pub pointed_whole : (b0 b1 b2 b3 b4 : List ℕ) (w f k l : ℕ) → b1 ≡ b0 ++ decimal w → b2 ≡ b1 ++ 46 ∷ [] → b3 ≡ b2 ++ replicate (k - (l + 1)) 48 → b4 ≡ b3 ++ decimal f
-  → w < 10 ^ 64 → f < 10 ^ 64 → 0 < f → f < 10 ^ k → 10 ^ l ≤ f → f < 10 * 10 ^ l → b4 ≡ b0 ++ (whole_text w ++ 46 ∷ padded_text k f)
+    → w < 10 ^ 64 → f < 10 ^ 64 → 0 < f → f < 10 ^ k → 10 ^ l ≤ f → f < 10 * 10 ^ l → b4 ≡ b0 ++ (whole_text w ++ 46 ∷ padded_text k f)
 pointed_whole b0 b1 b2 b3 b4 w f k l e1 e2 e3 e4 small_w small_f some inside low high =
     let count : length (digits_of 10 f) ≡ suc l = length_digits_is l f low (omega (arith, pow-suc 10 l)) in
     let width : k - (l + 1) ≡ k - length (digits_of 10 f) = omega arith in
     let tail : replicate (k - (l + 1)) 48 ++ decimal f ≡ padded_text k f =
-        ap (λ (ds : List ℕ). replicate (k - (l + 1)) 48 ++ ds) (decimal_text f small_f some) ∙ ap (λ (j : ℕ). replicate j 48 ++ digits_text (digits_of 10 f)) width ∙ sym (padded-is k f inside) in
+    ap (λ (ds : List ℕ). replicate (k - (l + 1)) 48 ++ ds) (decimal_text f small_f some) ∙ ap (λ (j : ℕ). replicate j 48 ++ digits_text (digits_of 10 f)) width ∙ sym (padded-is k f inside) in
     e4 ∙ ap (λ (b : List ℕ). b ++ decimal f) (e3 ∙ ap (λ (b : List ℕ). b ++ replicate (k - (l + 1)) 48) (e2 ∙ ap (λ (b : List ℕ). b ++ 46 ∷ []) e1))
     ∙ regroup b0 (decimal w) (46 ∷ []) (replicate (k - (l + 1)) 48) (decimal f)
     ∙ ap (λ (xs : List ℕ). b0 ++ (decimal w ++ 46 ∷ xs)) tail
@@ -194,7 +194,7 @@ whole_zeros : (c j : ℕ) → (c ≡ 0 → j ≡ 0) → whole_text (c * 10 ^ j) 
 whole_zeros c j h =
     ⊎_elim
     (λ (e : c ≡ 0). let z = h e in
-      ap (λ (k : ℕ). whole_text (c * 10 ^ k)) z ∙ ap whole_text (ap (λ (x : ℕ). c * x) (pow-zero 10) ∙ mul-one c) ∙ sym (append-nil (whole_text c)) ∙ ap (λ (k : ℕ). whole_text c ++ replicate k 48) (sym z))
+    ap (λ (k : ℕ). whole_text (c * 10 ^ k)) z ∙ ap whole_text (ap (λ (x : ℕ). c * x) (pow-zero 10) ∙ mul-one c) ∙ sym (append-nil (whole_text c)) ∙ ap (λ (k : ℕ). whole_text c ++ replicate k 48) (sym z))
     (λ (ne : c ≢ 0). whole_text-zeros c j (omega arith)) (cases_eq c 0)
 
 pub zeros_text : (n p j c : ℕ) → j + n ≡ p → c < 10 ^ 64 → (c ≡ 0 → j ≡ 0) → text_with n (c * 10 ^ p) ≡ decimal c ++ replicate j 48

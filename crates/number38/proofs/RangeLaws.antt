@@ -1,5 +1,5 @@
 -- Magnitudes and their range.
-use Rattle.std.proofs.Common.{◌≡◌, ℕ, zero, suc, ◌+◌, ◌-◌, ◌*◌, ◌/◌, ◌%◌, ◌^◌, ◌<◌, ◌≤◌, Bool, true, false, IsTrue, ℤ, pos, negsuc, ◌+ℤ◌, ◌-ℤ◌, unsigned_abs, Result, Ok, Err, Option, Some, None, SomeIff, ok_or, subst, sym, refl, ap, ◌∙◌, arith, ⊎_elim, ◌⊎◌}
+use Rattle.std.proofs.Common.{◌≡◌, ℕ, suc, ◌+◌, ◌*◌, ◌%◌, ◌^◌, ◌<◌, ◌≤◌, Bool, false, IsTrue, ℤ, pos, negsuc, ◌+ℤ◌, ◌-ℤ◌, unsigned_abs, Ok, Err, Option, Some, None, SomeIff, ok_or, subst, sym, ap, ◌∙◌, arith, ⊎_elim}
 use Rattle.std.proofs.Math.Nat.{pow-suc, mul-le-mul_right, mul-lt-mul_of_pos_right, mul_comm}
 use Rattle.std.proofs.lemmas.Bool.Decides.{nat_tests}
 use lib.Pow.{pow-add}
@@ -115,4 +115,3 @@ whole_below_limit n h = below_limit 19 167 n (omega arith) (omega arith)
 -- a number of at most k digits
 pub log_below : (f l k : ℕ) → 10 ^ l ≤ f → f < 10 ^ k → l + 1 ≤ k
 log_below f l k low high = ⊎_elim (λ (q : l < k). omega arith) (λ (q : k ≤ l). absurd (omega (arith, ten_pow_le k l q))) (cases_lt l k)
-

@@ -1,6 +1,6 @@
 -- How the code takes a text apart, against the grammar.
-use Rattle.std.proofs.Common.{◌≡◌, ◌≢◌, ℕ, zero, suc, ◌+◌, ◌-◌, ◌<◌, ◌≤◌, Bool, true, false, cond, eqb, not, ◌||◌, List, [], ◌∷◌, ◌++◌, length, take, drop, Option, Some, None, IfSome, option_and_then, sym, refl, ap, ◌∙◌, subst, arith, append_assoc, length-append, add_comm, add-one, Result, ℤ}
-use Rattle.std.proofs.lemmas.Bool.{cond-true, cond-false, eq-eqb, ne_eqb, eqb-true, eqb-false, cases_Bool, or_cases}
+use Rattle.std.proofs.Common.{◌≡◌, ◌≢◌, ℕ, ◌+◌, ◌<◌, ◌≤◌, Bool, true, false, cond, eqb, not, ◌||◌, List, [], ◌∷◌, ◌++◌, length, take, drop, Option, Some, None, IfSome, option_and_then, sym, refl, ap, ◌∙◌, subst, arith, length-append, add_comm, add-one}
+use Rattle.std.proofs.lemmas.Bool.{cond-true, cond-false, ne_eqb, eqb-true, eqb-false}
 use Rattle.std.proofs.lemmas.Bool.Decides.{nat_tests}
 use Rattle.std.specs.Prelude.{unwrap_or}
 use Rattle.std.specs.Char.{is_ascii_digit, digit_value}
@@ -179,7 +179,7 @@ complete n h =
     let body : List ℕ = n.whole ++ behind in
     let whole = digits_at-append n.whole behind h.whole (behind_no_digit n.fraction n.exponent) in
     ap (λ (s : Bool × List ℕ). assembled s.0 (digits_at s.1) (fraction_at (after_digits s.1)).0 (exponent_at (fraction_at (after_digits s.1)).1))
-      (sign_at-text n.sign body (body_no_sign n.whole n.fraction n.exponent h.whole h.some_digit))
+    (sign_at-text n.sign body (body_no_sign n.whole n.fraction n.exponent h.whole h.some_digit))
     ∙ ap (λ (ds : List ℕ). assembled (is_minus n.sign) ds (fraction_at (after_digits body)).0 (exponent_at (fraction_at (after_digits body)).1)) whole.0
     ∙ ap (λ (r : List ℕ). assembled (is_minus n.sign) n.whole (fraction_at r).0 (exponent_at (fraction_at r).1)) whole.1
     ∙ ap (λ (f : List ℕ × List ℕ). assembled (is_minus n.sign) n.whole f.0 (exponent_at f.1)) (fraction_at-text n.fraction n.exponent h.fraction)
@@ -280,7 +280,7 @@ record AssembledFound (b : Bool) (w ds : List ℕ) (x : Option (Bool × List ℕ
   same : p ≡ (record { negative = b; whole = w; decimals = ds; lowers = end.0; exponent = end.1 })
 
 assembled_step : (b : Bool) (w ds : List ℕ) (x : Option (Bool × List ℕ)) (p : Pieces) (t : Bool) → eqb (length w + length ds) 0 ≡ t
-  → cond t None (option_and_then (λ (e : Bool × List ℕ). Some (record { negative = b; whole = w; decimals = ds; lowers = e.0; exponent = e.1 })) x) ≡ Some p → AssembledFound b w ds x p
+    → cond t None (option_and_then (λ (e : Bool × List ℕ). Some (record { negative = b; whole = w; decimals = ds; lowers = e.0; exponent = e.1 })) x) ≡ Some p → AssembledFound b w ds x p
 assembled_step b w ds x p true q h = absurd (cc)
 assembled_step b w ds None p false q h = absurd (cc)
 assembled_step b w ds (Some e) p false q h =
@@ -298,18 +298,21 @@ sound text p h =
     let n : Numeral = record { sign = sign.sign; whole = digits_at s.1; fraction = fraction.fraction; exponent = behind.exponent } in
     record {
       numeral = n;
-      is_text = (record {
-        whole = digits_are s.1;
-        fraction = fraction.are;
-        some_digit = subst (λ (ds : List ℕ). 0 < length (digits_at s.1) + length ds) fraction.digits whole.some;
-        exponent_digits = behind.are;
-        some_exponent_digit = behind.some;
-      }, sign.joined ∙ ap (λ (ys : List ℕ). sign_text sign.sign ++ ys) (digits_join s.1 ∙ ap (λ (ys : List ℕ). digits_at s.1 ++ ys) (fraction.joined ∙ ap (λ (ys : List ℕ). fraction_text fraction.fraction ++ ys) behind.joined)));
+      is_text = (
+        record {
+          whole = digits_are s.1;
+          fraction = fraction.are;
+          some_digit = subst (λ (ds : List ℕ). 0 < length (digits_at s.1) + length ds) fraction.digits whole.some;
+          exponent_digits = behind.are;
+          some_exponent_digit = behind.some;
+        },
+        sign.joined ∙ ap (λ (ys : List ℕ). sign_text sign.sign ++ ys) (digits_join s.1 ∙ ap (λ (ys : List ℕ). digits_at s.1 ++ ys) (fraction.joined ∙ ap (λ (ys : List ℕ). fraction_text fraction.fraction ++ ys) behind.joined)),
+      );
       same = whole.same ∙ pieces_same s.0 (is_minus sign.sign) (digits_at s.1) f.0 (decimals n) whole.end.0 (lowers_of behind.exponent) whole.end.1 (exponent_digits_of behind.exponent) sign.minus fraction.digits behind.lowers behind.digits;
     }
   where
     pieces_same : (a b : Bool) (w ds es : List ℕ) (c d : Bool) (xs ys : List ℕ) → a ≡ b → ds ≡ es → c ≡ d → xs ≡ ys
-      → ◌≡◌ {A = Pieces} (record { negative = a; whole = w; decimals = ds; lowers = c; exponent = xs }) (record { negative = b; whole = w; decimals = es; lowers = d; exponent = ys })
+        → ◌≡◌ {A = Pieces} (record { negative = a; whole = w; decimals = ds; lowers = c; exponent = xs }) (record { negative = b; whole = w; decimals = es; lowers = d; exponent = ys })
     pieces_same a b w ds es c d xs ys e f g h = cc
 
 -- ---- the answer of the pieces is that of the numeral
@@ -346,8 +349,13 @@ fraction_length (Some ds) = omega arith
 
 spelling_length : (n : Numeral) → length n.whole + length (decimals n) ≤ length (spelling n)
 spelling_length n =
-    omega (arith, fraction_length n.fraction, length-append (sign_text n.sign) (n.whole ++ (fraction_text n.fraction ++ exponent_text n.exponent)),
-      length-append n.whole (fraction_text n.fraction ++ exponent_text n.exponent), length-append (fraction_text n.fraction) (exponent_text n.exponent))
+    omega (
+      arith,
+      fraction_length n.fraction,
+      length-append (sign_text n.sign) (n.whole ++ (fraction_text n.fraction ++ exponent_text n.exponent)),
+      length-append n.whole (fraction_text n.fraction ++ exponent_text n.exponent),
+      length-append (fraction_text n.fraction) (exponent_text n.exponent),
+    )
 
 pub pieces_length : (text : List ℕ) (p : Pieces) → pieces_at text ≡ Some p → length p.whole + length p.decimals ≤ length text
 pieces_length text p h =

@@ -1,12 +1,12 @@
 -- The answer for digits whose point moves.
-use Rattle.std.proofs.Common.{◌≡◌, ℕ, zero, suc, ◌+◌, ◌-◌, ◌*◌, ◌/◌, ◌%◌, ◌^◌, ◌<◌, ◌≤◌, min, Bool, true, false, cond, eqb, ltb, IsTrue, ℤ, pos, Option, Some, None, SomeIff, ok_or, Result, Ok, Err, sym, refl, ap, ◌∙◌, subst, arith, ⊎_elim, ◌⊎◌}
+use Rattle.std.proofs.Common.{◌≡◌, ℕ, ◌+◌, ◌-◌, ◌*◌, ◌/◌, ◌%◌, ◌^◌, ◌<◌, ◌≤◌, min, Bool, false, cond, eqb, ltb, IsTrue, ℤ, pos, Option, Some, None, SomeIff, ok_or, Result, Ok, Err, sym, refl, ap, ◌∙◌, arith, ⊎_elim}
 use Rattle.std.proofs.lemmas.Bool.{cases_lt, cond-true, cond-false, ne_eqb, le-ltb, false_from_ne_true}
 use Rattle.std.proofs.lemmas.Bool.Decides.{nat_tests}
 use Rattle.std.proofs.Math.Nat.{mul-div_cancel}
 use Rattle.std.proofs.lemmas.Nat.{div_below, le-div}
 use lib.Pow.{pow-add}
 use Rattle.number38.specs.Digits.{significant_digits}
-use Rattle.number38.specs.DigitLaws.{ten_pow_pos, ten_pow_le, ten_pow_join, significant_digits-zero, few_digits, mul_ten_pow_pos, pos_from_last}
+use Rattle.number38.specs.DigitLaws.{ten_pow_pos, ten_pow_join, significant_digits-zero, few_digits, mul_ten_pow_pos, pos_from_last}
 use Rattle.number38.specs.Number.{signed, is_in_range, least, limit}
 use Rattle.number38.specs.Text.{valued}
 use Rattle.number38.specs.declared.number.NumberFault.{NumberFault}
@@ -47,7 +47,7 @@ moved_is c z right left p h =
     ap (λ (n : ℕ). n / 10 ^ left) (ten_pow_join c z (167 + right) ∙ ap (λ (k : ℕ). c * 10 ^ k) (omega arith) ∙ sym (ten_pow_join c p left)) ∙ mul-div_cancel (c * 10 ^ p) (ten_pow_pos left)
 
 pub valued-moved : (b : Bool) (c z right left p : ℕ) (o : Option ℤ) → 0 < c % 10 → c < 10 ^ 38 → p + left ≡ 167 + z + right
-  → SomeIff o (IsTrue (is_in_range (c * 10 ^ p))) (signed b (c * 10 ^ p)) → ok_or o OutOfRange ≡ valued b (c * 10 ^ z) right left
+    → SomeIff o (IsTrue (is_in_range (c * 10 ^ p))) (signed b (c * 10 ^ p)) → ok_or o OutOfRange ≡ valued b (c * 10 ^ z) right left
 valued-moved b c z right left p (Some x) h small e (inside, same) =
     ap Ok same ∙ sym (valued-in b (c * 10 ^ z) right left (c * 10 ^ p) (few_digits c z h small) (omega (arith, mul_ten_pow_pos c z (pos_from_last c h))) (moved_is c z right left p e) inside)
 valued-moved b c z right left p None h small e outside =
@@ -86,13 +86,13 @@ valued-large b c z right left h small far =
 
 -- the place of an exponent that was bounded stays past the range
 pub bounded-right : (b : Bool) (c z places k moved : ℕ) → 0 < c % 10 → c < 10 ^ 38 → z < 2 ^ 63 → places < 2 ^ 63 → moved ≡ min k (2 ^ 64 - 1)
-  → valued b (c * 10 ^ z) moved places ≡ valued b (c * 10 ^ z) k places
+    → valued b (c * 10 ^ z) moved places ≡ valued b (c * 10 ^ z) k places
 bounded-right b c z places k moved h small few short e =
     ⊎_elim (λ (l : k < 2 ^ 64). ap (λ (x : ℕ). valued b (c * 10 ^ z) x places) (omega arith))
     (λ (g : 2 ^ 64 ≤ k). valued-large b c z moved places h small (omega arith) ∙ sym (valued-large b c z k places h small (omega arith))) (cases_lt k (2 ^ 64))
 
 pub bounded-left : (b : Bool) (c z places k moved : ℕ) → 0 < c % 10 → c < 10 ^ 38 → z < 2 ^ 63 → places < 2 ^ 63 → moved ≡ min k (2 ^ 64 - 1)
-  → valued b (c * 10 ^ z) 0 (places + moved) ≡ valued b (c * 10 ^ z) 0 (places + k)
+    → valued b (c * 10 ^ z) 0 (places + moved) ≡ valued b (c * 10 ^ z) 0 (places + k)
 bounded-left b c z places k moved h small few short e =
     ⊎_elim (λ (l : k < 2 ^ 64). ap (λ (x : ℕ). valued b (c * 10 ^ z) 0 (places + x)) (omega arith))
     (λ (g : 2 ^ 64 ≤ k). valued-small b c z 0 (places + moved) h small (omega arith) ∙ sym (valued-small b c z 0 (places + k) h small (omega arith))) (cases_lt k (2 ^ 64))

@@ -1,9 +1,9 @@
 -- Powers of ten, and the digits of a coefficient with zeros behind it.
-use Rattle.std.proofs.Common.{◌≡◌, ℕ, zero, suc, ◌+◌, ◌-◌, ◌*◌, ◌/◌, ◌%◌, ◌^◌, ◌<◌, ◌≤◌, Bool, true, false, cond, eqb, length, sym, refl, ap, ◌∙◌, subst, arith, inl, inr, ◌⊎◌, ⊎_elim, add_comm, add-one}
-use Rattle.std.proofs.Math.Nat.{pow-suc, pow-zero, one-le-pow, pow-le-pow_right, mul_assoc, mul_comm, mul-one, mul-div_cancel, mul-mod_left, mul-le-mul, mul-le-mul_left, mul-le-mul_right, mul-lt-mul_of_pos_right, lt_of_mul-lt-mul_right}
+use Rattle.std.proofs.Common.{◌≡◌, ℕ, zero, suc, ◌+◌, ◌*◌, ◌/◌, ◌%◌, ◌^◌, ◌<◌, ◌≤◌, eqb, length, sym, refl, ap, ◌∙◌, subst, arith, ⊎_elim, add_comm, add-one}
+use Rattle.std.proofs.Math.Nat.{pow-suc, pow-zero, one-le-pow, pow-le-pow_right, mul_assoc, mul-one, mul-div_cancel, mul-mod_left, mul-le-mul_right}
 use lib.Pow.{pow-add}
-use Rattle.std.proofs.lemmas.Bool.{cond-true, cond-false, eq-eqb, ne_eqb, cases_lt, cases_eq}
-use Rattle.std.proofs.lemmas.Int.Digits.{length-digits_of-le, number_digits_of, number_lt, all_below_base_digits_of, length-digits_of_step}
+use Rattle.std.proofs.lemmas.Bool.{cond-true, cond-false, eq-eqb, ne_eqb, cases_lt}
+use Rattle.std.proofs.lemmas.Int.Digits.{length-digits_of-le, number_digits_of, number_lt, all_below_base_digits_of}
 use Rattle.std.specs.Int.Digits.{digits_of}
 use Rattle.number38.specs.Digits.{zeros_within, trailing_zeros, significand, significant_digits}
 
@@ -76,7 +76,7 @@ significant_digits-zero = refl
 pub length_digits_above : (l c : ℕ) → 10 ^ l ≤ c → l < length (digits_of 10 c)
 length_digits_above l c h =
     let below : c < 10 ^ length (digits_of 10 c) =
-        subst (λ (x : ℕ). x < 10 ^ length (digits_of 10 c)) (number_digits_of 10 c (omega arith)) (number_lt 10 (digits_of 10 c) (all_below_base_digits_of 10 c (omega arith))) in
+    subst (λ (x : ℕ). x < 10 ^ length (digits_of 10 c)) (number_digits_of 10 c (omega arith)) (number_lt 10 (digits_of 10 c) (all_below_base_digits_of 10 c (omega arith))) in
     ⊎_elim (λ p. p) (λ q. absurd (omega (arith, ten_pow_le (length (digits_of 10 c)) l q))) (cases_lt l (length (digits_of 10 c)))
 
 pub length_digits_is : (l c : ℕ) → 10 ^ l ≤ c → c < 10 ^ suc l → length (digits_of 10 c) ≡ suc l

@@ -1,5 +1,5 @@
 -- The decimal digits of a natural number.
-use Rattle.std.specs.Prelude.{ℕ, zero, suc, ◌+◌, ◌/◌, ◌%◌, ◌^◌, if◌then◌else◌, ◌==◌, length}
+use Rattle.std.specs.Prelude.{ℕ, zero, suc, ◌/◌, ◌%◌, ◌^◌, if◌then◌else◌, ◌==◌, length}
 use Rattle.std.specs.Int.Digits.{digits_of}
 
 -- how many zeros n ends with, at most the first argument

@@ -1,13 +1,13 @@
 -- One choice of fields for each number.
-use Rattle.std.proofs.Common.{◌≡◌, ℕ, zero, suc, ◌+◌, ◌-◌, ◌*◌, ◌/◌, ◌%◌, ◌^◌, ◌<◌, ◌≤◌, ◌≢◌, Bool, true, false, cond, eqb, ℤ, pos, negsuc, neg_ℤ, ◌-ℤ◌, ◌≤ℤ◌, unsigned_abs, sym, refl, ap, ◌∙◌, subst, arith, inl, inr, ◌⊎◌, ⊎_elim}
+use Rattle.std.proofs.Common.{◌≡◌, ℕ, zero, suc, ◌*◌, ◌%◌, ◌^◌, ◌<◌, ◌≢◌, Bool, true, false, eqb, ℤ, pos, negsuc, neg_ℤ, ◌-ℤ◌, ◌≤ℤ◌, unsigned_abs, sym, refl, ap, ◌∙◌, arith, ⊎_elim}
 use Rattle.std.proofs.lemmas.Int.{ints}
 use Rattle.std.proofs.lemmas.Map.Lookups.{exact_signed}
 use Rattle.std.specs.Ordering.{int_cmp, int_eq, is_eq}
 use Rattle.std.specs.declared.cmp.Ordering.{Ordering}
 use Rattle.std.specs.declared.cmp.Ordering.TheVariants.{Less, Equal, Greater}
-use Rattle.std.proofs.lemmas.Bool.{cond-true, cond-false, eq-eqb, ne_eqb, cases_eq}
+use Rattle.std.proofs.lemmas.Bool.{cond-false, ne_eqb, cases_eq}
 use Rattle.number38.specs.declared.number.Number.TheInside.{Inside}
-use Rattle.number38.specs.Digits.{trailing_zeros, significand}
+use Rattle.number38.specs.Digits.{significand}
 use Rattle.number38.specs.Number.{signed, is_negative, power_of, whole_of, IsCanonical, canonical, exponent_of}
 use Rattle.std.proofs.Math.Nat.{zero-mul}
 use Rattle.number38.specs.DigitLaws.{significand-mul, significand-zero, trailing_zeros-mul, mul_ten_pow_pos}
@@ -35,7 +35,7 @@ canonical-pos b c e p h low =
     let sign : is_negative (signed b n) ≡ b = is_negative-signed b n (omega arith) in
     let digits : significand (unsigned_abs (signed b n)) ≡ c = ap significand same ∙ significand-mul c (power_of e) h in
     let scale : exponent_of (unsigned_abs (signed b n)) ≡ e =
-        ap exponent_of same ∙ cond-false (eqb n 0) (pos 0) _ (ne_eqb n 0 (λ z. omega arith)) ∙ ap (λ k. pos k -ℤ pos 167) (trailing_zeros-mul c (power_of e) h) ∙ power_of_back e low in
+    ap exponent_of same ∙ cond-false (eqb n 0) (pos 0) _ (ne_eqb n 0 (λ z. omega arith)) ∙ ap (λ k. pos k -ℤ pos 167) (trailing_zeros-mul c (power_of e) h) ∙ power_of_back e low in
     cc
 
 fields : Bool → ℕ → ℤ → Inside

@@ -1,5 +1,5 @@
 -- The one text of each number: plain decimal. A number is the whole number that is its value times 10^167.
-use Rattle.std.specs.Prelude.{ℕ, zero, suc, ◌+◌, ◌/◌, ◌%◌, ◌^◌, if◌then◌else◌, ◌==◌, ℤ, unsigned_abs, List, [], ◌∷◌, ◌++◌, length, map, codes}
+use Rattle.std.specs.Prelude.{ℕ, zero, suc, ◌+◌, ◌/◌, ◌%◌, ◌^◌, if◌then◌else◌, ◌==◌, ℤ, unsigned_abs, List, [], ◌∷◌, ◌++◌, map, codes}
 use Rattle.std.specs.Int.Digits.{digits_of}
 use Rattle.number38.specs.Number.{is_negative}
 

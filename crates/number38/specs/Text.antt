@@ -1,5 +1,5 @@
 -- The texts that denote numbers.
-use Rattle.std.specs.Prelude.{◌≡◌, ℕ, ◌+◌, ◌*◌, ◌/◌, ◌^◌, ◌<◌, Bool, true, false, if◌then◌else◌, ◌==◌, nat_lt, ℤ, pos, List, [], ◌∷◌, ◌++◌, length, Option, Some, None, IfSome, unwrap_or, Result, Ok, Err, codes}
+use Rattle.std.specs.Prelude.{◌≡◌, ℕ, ◌+◌, ◌*◌, ◌/◌, ◌^◌, ◌<◌, Bool, true, false, if◌then◌else◌, ◌==◌, nat_lt, ℤ, pos, List, [], ◌++◌, length, Option, Some, None, IfSome, unwrap_or, Result, Ok, Err, codes}
 use Rattle.std.specs.Str.Parse.{AllDigits, digits_value}
 use Rattle.number38.specs.Digits.{significant_digits}
 use Rattle.number38.specs.Number.{signed, is_in_range}

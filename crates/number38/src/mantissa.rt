@@ -78,7 +78,9 @@ pub fn bounded_value(digits: &[u8]) -> u64
 {
     let mut value = 0u64;
     for digit in digits {
-        value = value.saturating_mul(10).saturating_add((*digit - b'0') as u64);
+        value = value
+            .saturating_mul(10)
+            .saturating_add((*digit - b'0') as u64);
     }
     value
 }

@@ -1,4 +1,4 @@
-//! The type of a number.
+//! The type of a number, its digits, and numbers from machine words.
 
 ghost use Rattle.std.specs.Prelude.{◌≡◌, ◌+◌, ◌*◌, ◌%◌, ◌^◌, ◌<◌, ◌≤◌, IsTrue, SomeIff, pos, max, unsigned_abs};
 
@@ -6,18 +6,21 @@ use crate::scaled::{COEFFICIENT_LIMIT, Scaled};
 use std::hash::{Hash, Hasher};
 use std::marker::Model;
 
-/// Why there is no number.
+/// Why there is no number. Where several faults stand together, the first in this order is answered.
 #[derive(Clone, Copy, Debug, PartialEq, Eq)]
 pub enum NumberFault {
-    /// The text is not a decimal numeral.
+    /// The text is no numeral.
     Grammar = 1,
     /// More than 38 significant digits.
     TooManyDigits = 2,
-    /// A magnitude below 1E-130 or from 1E126 on.
+    /// A magnitude above 0 that is below 1E-130, or one from 1E126 on.
     OutOfRange = 3,
 }
 
-/// An exact decimal number of at most 38 significant digits.
+/// An exact decimal number: 0, or one of at most 38 significant digits and of a magnitude from 1E-130 to below 1E126.
+///
+/// It is kept as `coefficient * 10^exponent` with a sign, in one form: the coefficient ends in no zero, and 0 has the
+/// exponent 0 and no sign.
 #[derive(Clone, Copy, Debug)]
 pub struct Number {
     negative: bool,
@@ -57,7 +60,7 @@ impl Number {
         }
     }
 
-    /// The number taken apart.
+    /// The whole number that the number is, as a coefficient and a power of ten.
     pub(crate) fn scaled(&self) -> Scaled
         ensures whole { whole result ≡ self.now }
         ensures digits { result.coefficient < 10 ^ 38 }
@@ -73,7 +76,8 @@ impl Number {
         }
     }
 
-    /// How many significant digits the number has, from 1 to 38. 0 has one.
+    /// How many significant digits the number has, from 1 to 38: zeros at its beginning and at its end do not count, and
+    /// 0 has one digit.
     pub fn digits(&self) -> u32
         ensures count { result ≡ max 1 (significant_digits (unsigned_abs self.now)) }
         ensures most { result ≤ 38 }
@@ -122,7 +126,7 @@ impl Hash for Number {
     }
 }
 
-/// The number of a whole number.
+/// The number of a `u64`, each of which is one.
 pub fn from_u64(n: u64) -> Number
     ensures { result ≡ pos (n * 10 ^ 167) }
 {

@@ -66,7 +66,8 @@ fn push_magnitude(text: &mut String, coefficient: u128, power: u32) -> Result<()
 }
 
 impl Number {
-    /// The number as plain decimal.
+    /// The number as plain decimal: `-` if it is negative, the whole part without leading zeros or `0`, and where there is
+    /// a fraction `.` and its digits without trailing zeros. Equal numbers have equal texts.
     pub fn print(&self, alloc: Global) -> Result<String, NoMemory>
         ensures { IfOk result (λ text. string_bytes text ≡ printed self.now) }
     {

@@ -1,4 +1,10 @@
 //! Sums and differences.
+//!
+//! The coefficient of the greater power of ten gets as many zeros as the powers differ by, so that both stand at the smaller
+//! power. Two numbers are far apart where it would then reach twice the limit of a coefficient, 2 * 10^38. That is decided
+//! without computing it where the powers differ by more than 38, and by a checked product else. The sum or difference of
+//! such two is at least 10^38 and ends in the last digit of the smaller one, which is no zero: it has more than 38 digits.
+//! Otherwise the sum stays below 3 * 10^38, and 128 bits hold it.
 
 ghost use Rattle.std.specs.Prelude.{◌≡◌, ◌+◌, ◌*◌, ◌^◌, ◌<◌, ◌≤◌, ◌%◌, ◌+ℤ◌, ◌-ℤ◌};
 ghost use Rattle.number38.specs.Number.{fitted, signed};
@@ -36,8 +42,12 @@ fn aligned_sum(high: Scaled, low: Scaled) -> Result<Number, NumberFault>
     match widened(high.coefficient, (high.power - low.power) as u64) {
         None => Err(NumberFault::TooManyDigits),
         Some(wide) => {
-            let (negative, coefficient) =
-                signed_sum(high.negative, wide, low.negative, low.coefficient);
+            let (negative, coefficient) = signed_sum(
+                high.negative,
+                wide,
+                low.negative,
+                low.coefficient,
+            );
             let sum = Scaled {
                 negative,
                 coefficient,
@@ -66,14 +76,16 @@ fn sum(a: Scaled, b: Scaled) -> Result<Number, NumberFault>
 }
 
 impl Number {
-    /// The exact sum, or why it is no number.
+    /// The exact sum. Answers `TooManyDigits` where it has more than 38 significant digits, else `OutOfRange` where its
+    /// magnitude is. Takes no memory.
     pub fn add(&self, other: &Number) -> Result<Number, NumberFault>
         ensures { result ≡ fitted (self.now +ℤ other.now) }
     {
         sum(self.scaled(), other.scaled())
     }
 
-    /// The exact difference, or why it is no number.
+    /// The exact difference. Answers `TooManyDigits` where it has more than 38 significant digits, else `OutOfRange` where
+    /// its magnitude is. Takes no memory.
     pub fn sub(&self, other: &Number) -> Result<Number, NumberFault>
         ensures { result ≡ fitted (self.now -ℤ other.now) }
     {

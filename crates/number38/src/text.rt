@@ -1,4 +1,7 @@
 //! Texts read as numbers.
+//!
+//! The text is taken apart by the grammar first. Then its digits are counted and their value computed, and the exponent
+//! is looked at last. So the faults come in their order, and no number on the way grows with the text.
 
 ghost use Rattle.std.specs.Prelude.{◌≡◌, ◌+◌, ◌*◌, ◌%◌, ◌^◌, ◌<◌, ◌≤◌, ◌⊎◌, ◌++◌, length, IfSome, IfNone, IsErrOf};
 ghost use Rattle.std.specs.Str.Parse.{AllDigits, digits_value};
@@ -24,12 +27,7 @@ fn mantissa_of(whole: &[u8], decimals: &[u8]) -> Option<Mantissa>
 }
 
 /// The number of a mantissa whose point moves to the right and to the left.
-fn placed(
-    negative: bool,
-    mantissa: Mantissa,
-    right: u64,
-    left: u128,
-) -> Result<Number, NumberFault>
+fn placed(negative: bool, mantissa: Mantissa, right: u64, left: u128) -> Result<Number, NumberFault>
     requires { 0 < mantissa.coefficient }
     ensures { result ≡ valued negative (mantissa.coefficient * 10 ^ mantissa.zeros) right left }
 {
@@ -73,6 +71,13 @@ fn number_of(parts: Parts<'_>) -> Result<Number, NumberFault>
 }
 
 /// The number that a text denotes.
+///
+/// A numeral is an optional `+` or `-`, digits with at most one `.` before, among or behind them and at least one digit,
+/// and optionally `e` or `E`, an optional sign and at least one digit. Zeros at the beginning and at the end of the
+/// digits do not count, and a zero is 0 whatever its exponent. Texts and exponents may have any length.
+///
+/// Answers `Grammar` where the text is no numeral, else `TooManyDigits` for more than 38 significant digits, else
+/// `OutOfRange` for a magnitude below 1E-130 or from 1E126 on. Takes no memory.
 pub fn parse(text: &str) -> Result<Number, NumberFault>
     ensures value { (n : Numeral) → IsTextOf n text.now → result ≡ denoted n }
     ensures numeral { IsErrOf result NumberFault.Grammar ⊎ ((n : Numeral) × IsTextOf n text.now) }

@@ -1,5 +1,5 @@
-use Rattle.std.proofs.Common.{◌≡◌, ◌+◌, ◌-◌, ◌*◌, ◌^◌, ◌<◌, ◌≤◌, ℕ, length, drop, get_or, min, sym, ap, ◌∙◌, arith}
-use Rattle.std.specs.Str.Parse.{AllDigits, digits_value, digits_value_after}
+use Rattle.std.proofs.Common.{◌≡◌, ◌+◌, ◌-◌, ◌*◌, ◌^◌, ℕ, drop, get_or, min, sym, ap, ◌∙◌, arith}
+use Rattle.std.specs.Str.Parse.{digits_value_after}
 use Rattle.number38.proofs.MantissaLaws.{digit_at, digit_minus, value_step, bounded_after, drop_whole}
 use Rattle.number38.proofs.mantissa.bounded_value.Goals as goal
 
@@ -10,12 +10,12 @@ overflow_sub-digit c =
 pub loop-digit-preserved : goal.loop-digit-preserved
 loop-digit-preserved c = record {
   value =
-    let xs = c.args.digits.now in
-    let i = c.loop-digit.digit-index in
-    let n = c.loop-digit.value in
-    let d : ℕ = get_or xs i 0 - 48 in
-    bounded_after (2 ^ 64 - 1) c.saturating_add-value.result (n * 10 + d) (drop (i + 1) xs) (omega arith)
-    ∙ ap (λ (x : ℕ). min x (2 ^ 64 - 1)) (sym (value_step xs i n c.requires (omega arith))) ∙ c.loop-digit.invariant.value;
+      let xs = c.args.digits.now in
+      let i = c.loop-digit.digit-index in
+      let n = c.loop-digit.value in
+      let d : ℕ = get_or xs i 0 - 48 in
+      bounded_after (2 ^ 64 - 1) c.saturating_add-value.result (n * 10 + d) (drop (i + 1) xs) (omega arith)
+      ∙ ap (λ (x : ℕ). min x (2 ^ 64 - 1)) (sym (value_step xs i n c.requires (omega arith))) ∙ c.loop-digit.invariant.value;
   small = omega arith;
 }
 

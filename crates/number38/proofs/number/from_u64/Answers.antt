@@ -1,4 +1,4 @@
-use Rattle.std.proofs.Common.{◌≡◌, ◌+◌, ◌*◌, ◌%◌, ◌^◌, ◌<◌, ◌≤◌, IsTrue, SomeIff, IsSome, Option, Some, None, ◌∙◌, ℕ, refl, sym, ap, subst, arith}
+use Rattle.std.proofs.Common.{◌≡◌, ◌*◌, ◌^◌, IsTrue, SomeIff, IsSome, Option, Some, None, ◌∙◌, ℕ, refl, sym, ap, subst, arith}
 use Rattle.number38.specs.Number.{is_in_range}
 use Rattle.number38.specs.Scaled.{magnitude}
 use Rattle.number38.proofs.RangeLaws.{is_in_range_from, least_le, whole_below_limit}

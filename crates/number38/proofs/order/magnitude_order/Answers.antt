@@ -1,6 +1,5 @@
-use Rattle.std.proofs.Common.{◌≡◌, ◌*◌, ◌^◌, ◌<◌, ℕ, ◌+◌, ◌-◌, ◌≤◌, sym, ap, ◌∙◌, arith}
+use Rattle.std.proofs.Common.{◌*◌, ◌^◌, ℕ, ◌-◌, ◌≤◌, sym, ap, ◌∙◌, arith}
 use Rattle.std.specs.Ordering.{nat_cmp}
-use Rattle.number38.specs.Scaled.{magnitude}
 use Rattle.number38.proofs.OrderLaws.{nat_cmp-widen_left, nat_cmp-widen_right, nat_cmp-lt, nat_cmp-gt}
 use Rattle.number38.proofs.order.magnitude_order.Goals as goal
 

@@ -1,4 +1,4 @@
-use Rattle.std.proofs.Common.{◌≡◌, ◌≢◌, ◌+◌, ◌*◌, ◌%◌, ◌^◌, ◌<◌, ◌≤◌, ◌++◌, ◌-◌, OnOk, string_bytes, decimal, replicate, ℕ, List, sym, ap, ◌∙◌, arith, append_assoc}
+use Rattle.std.proofs.Common.{◌≡◌, ◌≢◌, ◌%◌, ◌<◌, ◌++◌, ◌-◌, string_bytes, decimal, replicate, ℕ, List, sym, ap, ◌∙◌, arith, append_assoc}
 use Rattle.number38.proofs.PrintedLaws.{on_ok, pointed_text, zeros_text}
 use Rattle.number38.proofs.printed.push_magnitude.Goals as goal
 
@@ -19,5 +19,5 @@ returns c =
     let none : n ≡ 0 → p - 167 ≡ 0 = λ e. let z = c.requires.zero e in omega arith in
     on_ok c.push_zeros.result
     (λ e. e ∙ ap (λ (b : List ℕ). b ++ replicate (p - 167) 48) c.in_ok-push_decimal.ensures ∙ append_assoc (string_bytes c.args.text.now) (decimal n) (replicate (p - 167) 48)
-      ∙ ap (λ (xs : List ℕ). string_bytes c.args.text.now ++ xs) (sym (zeros_text 167 p (p - 167) n (omega arith) (omega (arith, c.requires.digits)) none)))
+    ∙ ap (λ (xs : List ℕ). string_bytes c.args.text.now ++ xs) (sym (zeros_text 167 p (p - 167) n (omega arith) (omega (arith, c.requires.digits)) none)))
     c.push_zeros.ensures

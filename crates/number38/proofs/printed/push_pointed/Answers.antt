@@ -1,4 +1,4 @@
-use Rattle.std.proofs.Common.{◌≡◌, ◌+◌, ◌*◌, ◌^◌, ◌<◌, ◌≤◌, ◌/◌, ◌%◌, ◌++◌, ◌∷◌, [], ◌-◌, OnOk, Result, Ok, Err, string_bytes, decimal, replicate, ℕ, List, sym, ap, ◌∙◌, subst, arith}
+use Rattle.std.proofs.Common.{◌≡◌, ◌^◌, ◌<◌, ◌≤◌, ◌/◌, ◌%◌, ◌++◌, ◌∷◌, string_bytes, ℕ, List, sym, ap, ◌∙◌, subst, arith}
 use Rattle.std.proofs.Math.Nat.{div-le_self}
 use Rattle.std.proofs.lemmas.Nat.{mod_below}
 use Rattle.number38.specs.Printed.{whole_text, padded_text}
@@ -34,8 +34,8 @@ returns c =
     let small_f : f < 10 ^ 64 = omega (arith, c.split-whole.ensures.fraction) in
     on_ok c.push_decimal-2.result
     (λ e4. pointed_whole (string_bytes c.args.text.now) (string_bytes c.push_decimal.new.text) (string_bytes c.push.new.self) (string_bytes c.push_zeros.new.text) (string_bytes c.push_decimal-2.new.text) w f k l
-      c.in_ok-push_decimal.ensures (c.in_ok-push.ensures.bytes ∙ ap (λ (e : List ℕ). string_bytes c.push_decimal.new.text ++ e) (c.in_ok-push.ensures.ascii (omega arith))) c.in_ok-push_zeros.ensures e4
-      small_w small_f (some_fraction n k f c.requires.places c.requires.stripped c.split-whole.ensures.fraction) (inside n k f c.split-whole.ensures.fraction) c.ilog10.ensures.power_le c.ilog10.ensures.next_power_gt
-      ∙ ap (λ (x : ℕ). string_bytes c.args.text.now ++ (whole_text x ++ 46 ∷ padded_text k f)) c.split-whole.ensures.whole
-      ∙ ap (λ (x : ℕ). string_bytes c.args.text.now ++ (whole_text (n / 10 ^ k) ++ 46 ∷ padded_text k x)) c.split-whole.ensures.fraction)
+    c.in_ok-push_decimal.ensures (c.in_ok-push.ensures.bytes ∙ ap (λ (e : List ℕ). string_bytes c.push_decimal.new.text ++ e) (c.in_ok-push.ensures.ascii (omega arith))) c.in_ok-push_zeros.ensures e4
+    small_w small_f (some_fraction n k f c.requires.places c.requires.stripped c.split-whole.ensures.fraction) (inside n k f c.split-whole.ensures.fraction) c.ilog10.ensures.power_le c.ilog10.ensures.next_power_gt
+    ∙ ap (λ (x : ℕ). string_bytes c.args.text.now ++ (whole_text x ++ 46 ∷ padded_text k f)) c.split-whole.ensures.whole
+    ∙ ap (λ (x : ℕ). string_bytes c.args.text.now ++ (whole_text (n / 10 ^ k) ++ 46 ∷ padded_text k x)) c.split-whole.ensures.fraction)
     c.push_decimal-2.ensures

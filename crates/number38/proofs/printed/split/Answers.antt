@@ -1,4 +1,4 @@
-use Rattle.std.proofs.Common.{◌≡◌, ◌^◌, ◌<◌, ◌≤◌, ◌/◌, ◌%◌, ℕ, sym, arith}
+use Rattle.std.proofs.Common.{◌^◌, ◌<◌, sym, arith}
 use Rattle.std.proofs.Math.Nat.{div-eq_of_lt, mod-eq_of_lt}
 use Rattle.number38.specs.DigitLaws.{ten_pow_le, ten_pow_pos}
 use Rattle.number38.proofs.printed.split.Goals as goal

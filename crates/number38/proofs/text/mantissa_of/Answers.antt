@@ -1,6 +1,6 @@
-use Rattle.std.proofs.Common.{◌≡◌, ◌+◌, ◌*◌, ◌^◌, ◌<◌, ◌≤◌, ◌++◌, ℕ, List, length, sym, ap, ◌∙◌, subst, arith, Option, Some, None, IfSome, IfNone}
+use Rattle.std.proofs.Common.{◌≡◌, ◌*◌, ◌^◌, ◌<◌, ◌≤◌, ◌++◌, ℕ, List, sym, ap, ◌∙◌, subst, arith, Option, Some, None, IfSome, IfNone}
 use Rattle.std.proofs.Math.Nat.{zero-mul}
-use Rattle.std.specs.Str.Parse.{AllDigits, digits_value, digits_value_after}
+use Rattle.std.specs.Str.Parse.{digits_value, digits_value_after}
 use Rattle.number38.specs.declared.mantissa.Mantissa.{Mantissa}
 use Rattle.number38.specs.Digits.{significant_digits}
 use Rattle.number38.proofs.MantissaLaws.{digits_value_after-append, significant_more}
@@ -20,15 +20,15 @@ returns-in_err-with_digits-clause-none c =
     let whole = c.args.whole.now in
     let decimals = c.args.decimals.now in
     let many : 38 < significant_digits (digits_value 10 whole) =
-        subst (λ (n : ℕ). 38 < significant_digits n) (from_nothing start.coefficient start.zeros whole c.nothing.ensures.coefficient) c.in_err-with_digits.ensures.none in
+    subst (λ (n : ℕ). 38 < significant_digits n) (from_nothing start.coefficient start.zeros whole c.nothing.ensures.coefficient) c.in_err-with_digits.ensures.none in
     let more : significant_digits (digits_value 10 whole) ≤ significant_digits (digits_value_after 10 (digits_value 10 whole) decimals) = significant_more (digits_value 10 whole) decimals c.requires.decimals in
     let joined : significant_digits (digits_value 10 (whole ++ decimals)) ≡ significant_digits (digits_value_after 10 (digits_value 10 whole) decimals) =
-        ap significant_digits (digits_value_after-append 0 whole decimals) in
+    ap significant_digits (digits_value_after-append 0 whole decimals) in
     if_none c.from_residual.result (omega arith)
 
 -- the value of both runs
 total : (m start : Mantissa) (whole decimals : List ℕ) → start.coefficient ≡ 0 → m.coefficient * 10 ^ m.zeros ≡ digits_value_after 10 (start.coefficient * 10 ^ start.zeros) whole
-  → digits_value_after 10 (m.coefficient * 10 ^ m.zeros) decimals ≡ digits_value 10 (whole ++ decimals)
+    → digits_value_after 10 (m.coefficient * 10 ^ m.zeros) decimals ≡ digits_value 10 (whole ++ decimals)
 total m start whole decimals e h =
     ap (λ (n : ℕ). digits_value_after 10 n decimals) (h ∙ from_nothing start.coefficient start.zeros whole e) ∙ sym (digits_value_after-append 0 whole decimals)
 

@@ -1,4 +1,4 @@
-use Rattle.std.proofs.Common.{◌≡◌, ◌+◌, ◌*◌, ◌%◌, ◌^◌, ◌<◌, ◌≤◌, ◌++◌, ℕ, ℤ, Bool, cond, Ok, length, sym, ap, ◌∙◌, subst, arith, add-zero}
+use Rattle.std.proofs.Common.{◌≡◌, ◌+◌, ◌*◌, ◌^◌, ◌++◌, ℕ, Bool, cond, Ok, length, sym, ap, ◌∙◌, arith, add-zero}
 use Rattle.std.specs.Str.Parse.{digits_value}
 use Rattle.std.proofs.Math.Nat.{zero-mul}
 use Rattle.number38.specs.Text.{valued}
@@ -15,7 +15,7 @@ returns-then-mantissa-eq0 c =
     let p = c.args.parts in
     let m = c.in-Some.mantissa in
     let nothing : digits_value 10 (p.whole.now ++ p.decimals.now) ≡ 0 =
-        sym c.in-Some.ensures.some ∙ ap (λ (x : ℕ). x * 10 ^ m.zeros) c.if-mantissa-eq0.true ∙ zero-mul (10 ^ m.zeros) in
+    sym c.in-Some.ensures.some ∙ ap (λ (x : ℕ). x * 10 ^ m.zeros) c.if-mantissa-eq0.true ∙ zero-mul (10 ^ m.zeros) in
     ap Ok c.zero.ensures ∙ sym (valued-zero p.negative (digits_value 10 (p.whole.now ++ p.decimals.now)) _ _ nothing)
 
 pub returns-then-parts : goal.returns-then-parts

@@ -1,6 +1,6 @@
-use Rattle.std.proofs.Common.{◌≡◌, ◌+◌, ◌^◌, ◌<◌, ◌≤◌, ◌⊎◌, inl, inr, length, List, ℕ, Option, Some, None, Err, sym, ap, ◌∙◌, subst, arith}
-use Rattle.number38.specs.Text.{Numeral, IsTextOf, denoted, spelling}
-use Rattle.number38.specs.Reading.{Pieces, pieces, pieces_at, answer_to, HasDigits}
+use Rattle.std.proofs.Common.{◌≡◌, inr, List, ℕ, Option, Some, None, sym, ap, ◌∙◌, subst, arith}
+use Rattle.number38.specs.Text.{IsTextOf}
+use Rattle.number38.specs.Reading.{Pieces, pieces, pieces_at, answer_to}
 use Rattle.number38.proofs.ReadingLaws.{has_digits, pieces_length, complete, sound, Reads, pieces_of, answer_to-pieces_of}
 use Rattle.number38.proofs.text.parse.Goals as goal
 

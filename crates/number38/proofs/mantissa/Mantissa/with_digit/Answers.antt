@@ -1,5 +1,4 @@
-use Rattle.std.proofs.Common.{◌≡◌, ◌+◌, ◌*◌, ◌%◌, ◌^◌, ◌<◌, ◌≤◌, ℕ, sym, ap, ◌∙◌, arith, Option, Some, None, IfNone}
-use Rattle.number38.specs.Digits.{significant_digits}
+use Rattle.std.proofs.Common.{◌≡◌, ◌+◌, ◌*◌, ◌^◌, ◌≤◌, arith, Option, Some, None, IfNone}
 use Rattle.number38.specs.DigitLaws.{ten_pow-more, many_here}
 use Rattle.number38.proofs.mantissa.Mantissa.with_digit.Goals as goal
 

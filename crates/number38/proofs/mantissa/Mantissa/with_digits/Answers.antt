@@ -1,5 +1,5 @@
-use Rattle.std.proofs.Common.{◌≡◌, ◌+◌, ◌-◌, ◌*◌, ◌^◌, ◌<◌, ◌≤◌, ℕ, length, drop, get_or, sym, ap, ◌∙◌, subst, arith, Option, Some, None, IfNone}
-use Rattle.std.specs.Str.Parse.{AllDigits, digits_value_after}
+use Rattle.std.proofs.Common.{◌+◌, ◌*◌, ◌^◌, ◌<◌, ℕ, drop, get_or, sym, ap, ◌∙◌, subst, arith, Option, Some, None, IfNone}
+use Rattle.std.specs.Str.Parse.{digits_value_after}
 use Rattle.std.specs.Char.{digit_value}
 use Rattle.number38.specs.Digits.{significant_digits}
 use Rattle.number38.proofs.MantissaLaws.{digit_at, digit_minus, value_step, significant_rest}

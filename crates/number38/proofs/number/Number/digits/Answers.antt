@@ -1,8 +1,8 @@
-use Rattle.std.proofs.Common.{◌≡◌, ◌+◌, ◌*◌, ◌%◌, ◌^◌, ◌<◌, ◌≤◌, max, unsigned_abs, ℕ, length, ap, sym, ◌∙◌, arith, refl}
+use Rattle.std.proofs.Common.{◌≡◌, ◌*◌, ◌^◌, unsigned_abs, length, ap, sym, ◌∙◌, arith}
 use Rattle.std.specs.Int.Digits.{digits_of}
 use Rattle.number38.specs.Digits.{significant_digits}
 use Rattle.number38.specs.DigitLaws.{significant_digits-zero, significant_digits-mul, length_digits_is}
-use Rattle.number38.specs.Number.{power_of, signed}
+use Rattle.number38.specs.Number.{power_of}
 use Rattle.number38.specs.NumberLaws.{unsigned_abs-signed}
 use Rattle.std.proofs.Math.Nat.{zero-mul, pow-suc}
 use Rattle.number38.proofs.RangeLaws.{log_below}

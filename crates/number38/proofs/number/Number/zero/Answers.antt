@@ -1,4 +1,4 @@
-use Rattle.std.proofs.Common.{◌≡◌, ◌+◌, ◌*◌, ◌%◌, ◌^◌, ◌<◌, ◌≤◌, refl, arith}
+use Rattle.std.proofs.Common.{refl, arith}
 use Rattle.number38.proofs.RangeLaws.{zero_below_limit}
 use Rattle.number38.proofs.number.Number.zero.Goals as goal
 

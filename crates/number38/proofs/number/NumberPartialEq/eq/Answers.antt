@@ -1,14 +1,11 @@
-use Rattle.std.proofs.Common.{◌≡◌, ◌≤◌, ℕ, ℤ, pos, neg_ℤ, ◌≤ℤ◌, Bool, true, false, sym, refl, ap, ◌∙◌, arith, nat_eq}
+use Rattle.std.proofs.Common.{◌≡◌, ℤ, pos, neg_ℤ, ◌≤ℤ◌, Bool, true, false, sym, refl, ap, ◌∙◌, arith, nat_eq}
 use Rattle.std.specs.Ordering.{int_eq, int_cmp, is_eq}
-use Rattle.std.specs.declared.cmp.Ordering.{Ordering}
-use Rattle.std.specs.declared.cmp.Ordering.TheVariants.{Less, Equal, Greater}
 use Rattle.std.specs.Int.{w16}
 use mir.Val.{of_z}
 use mathlib.Core.Bool.{beq}
 use Rattle.std.proofs.lemmas.Int.{ints}
 use Rattle.std.proofs.lemmas.Bool.{eqb-true, eqb-false}
 use Rattle.std.proofs.lemmas.Cmp.{tied_itself, int_cmp_total}
-use Rattle.std.proofs.lemmas.Map.Lookups.{exact_signed}
 use Rattle.number38.specs.declared.number.Number.TheInside.{Inside}
 use Rattle.number38.specs.Number.{whole_of, IsCanonical, canonical}
 use Rattle.number38.specs.NumberLaws.{canonical-whole, same_from_int_eq}
@@ -63,14 +60,14 @@ returns-then-self-other-2 c =
     let a = c.self.inside in
     let b = c.other.inside in
     elim c.if-self-other.branch [
-      then-self-other w ↦ eq_answer a b _ _ c.self.invariant c.other.invariant c.self.view_is c.other.view_is (nat_eq (of_z w16 a.exponent) (of_z w16 b.exponent))
-        (λ h. record {
-          sign = beq_true a.negative b.negative w.if-self-other.true;
-          coefficient = eqb-true a.coefficient b.coefficient (sym w.value-is ∙ c.if-self-other-2.true);
-          exponent = exponents a.exponent b.exponent c.self.invariant.low c.self.invariant.high c.other.invariant.low c.other.invariant.high (eqb-true _ _ h);
-        })
-        (λ h e. eqb-false _ _ h (ap (λ (x : Inside). of_z w16 x.exponent) e))
-    | else-self-other w ↦ let g : c.if-self-other.value ≡ false = w.value-is ∙ w.if-self-other.false in let k : c.if-self-other.value ≡ true = c.if-self-other-2.true in cc
+      | then-self-other w ↦ eq_answer a b _ _ c.self.invariant c.other.invariant c.self.view_is c.other.view_is (nat_eq (of_z w16 a.exponent) (of_z w16 b.exponent))
+          (λ h. record {
+            sign = beq_true a.negative b.negative w.if-self-other.true;
+            coefficient = eqb-true a.coefficient b.coefficient (sym w.value-is ∙ c.if-self-other-2.true);
+            exponent = exponents a.exponent b.exponent c.self.invariant.low c.self.invariant.high c.other.invariant.low c.other.invariant.high (eqb-true _ _ h);
+          })
+          (λ h e. eqb-false _ _ h (ap (λ (x : Inside). of_z w16 x.exponent) e))
+      | else-self-other w ↦ let g : c.if-self-other.value ≡ false = w.value-is ∙ w.if-self-other.false in let k : c.if-self-other.value ≡ true = c.if-self-other-2.true in cc
     ]
 
 pub returns-else-self-other-2 : goal.returns-else-self-other-2
@@ -80,6 +77,6 @@ returns-else-self-other-2 c =
     eq_answer a b _ _ c.self.invariant c.other.invariant c.self.view_is c.other.view_is c.if-self-other.value
     (λ h. let k : c.if-self-other.value ≡ false = c.if-self-other-2.false in cc)
     (λ h e. elim c.if-self-other.branch [
-      then-self-other w ↦ eqb-false a.coefficient b.coefficient (sym w.value-is ∙ c.if-self-other-2.false) (ap (λ (x : Inside). x.coefficient) e)
-    | else-self-other w ↦ let t : beq a.negative b.negative ≡ true = beq_same a.negative b.negative (ap (λ (x : Inside). x.negative) e) in let f : beq a.negative b.negative ≡ false = w.if-self-other.false in cc
+      | then-self-other w ↦ eqb-false a.coefficient b.coefficient (sym w.value-is ∙ c.if-self-other-2.false) (ap (λ (x : Inside). x.coefficient) e)
+      | else-self-other w ↦ let t : beq a.negative b.negative ≡ true = beq_same a.negative b.negative (ap (λ (x : Inside). x.negative) e) in let f : beq a.negative b.negative ≡ false = w.if-self-other.false in cc
     ])

@@ -1,4 +1,4 @@
-use Rattle.std.proofs.Common.{◌≡◌, ◌+◌, ◌*◌, ◌%◌, ◌^◌, ◌<◌, ◌≤◌, ℕ, ℤ, Bool, unsigned_abs, sym, ap, ◌∙◌, subst, arith, Ok}
+use Rattle.std.proofs.Common.{◌≡◌, ◌*◌, ◌^◌, ℕ, Bool, unsigned_abs, sym, ap, ◌∙◌, Ok}
 use Rattle.std.proofs.Math.Nat.{zero-mul}
 use Rattle.number38.specs.Number.{fitted, signed}
 use Rattle.number38.specs.NumberLaws.{signed-zero}

@@ -1,10 +1,9 @@
-use Rattle.std.proofs.Common.{◌≡◌, ◌+◌, ◌*◌, ◌%◌, ◌^◌, ◌<◌, ◌≤◌, false, IsTrue, ℕ, pos, ◌-ℤ◌, ℤ, sym, ap, ◌∙◌, subst, arith, rules, refl}
+use Rattle.std.proofs.Common.{◌≡◌, ◌*◌, ◌^◌, ◌<◌, ◌≤◌, false, IsTrue, ℕ, pos, ◌-ℤ◌, sym, ap, subst, arith}
 use Rattle.std.specs.Int.{w16}
 use mir.Val.{to_z, of_z}
 use Rattle.std.proofs.lemmas.Int.{ints}
 use Rattle.std.proofs.lemmas.Bool.Decides.{nat_tests}
 use Rattle.number38.specs.Number.{is_in_range, signed, power_of, least, limit}
-use Rattle.number38.specs.Scaled.{magnitude, whole}
 use Rattle.number38.specs.DigitLaws.{pos_from_last}
 use Rattle.number38.proofs.RangeLaws.{below_least, least_le, below_limit, limit_le, is_in_range_from, not_in_range_below, not_in_range_above, power_of-back, exponent_back}
 use Rattle.number38.proofs.scaled.Scaled.in_range.Goals as goal
@@ -18,8 +17,8 @@ returns-then-digits-lt38 c =
     let s = c.args.self in
     let l = c.ilog10.result in
     elim c.then-digits-lt38.branch [
-      then-digits-lt38-via-then-digits-lt38 w ↦ not_both _ (not_in_range_below _ (below_least l s.power s.coefficient c.ilog10.ensures.next_power_gt w.if-digits-lt38.true))
-    | then-digits-lt38-via-else-digits-lt38+then-digits-gt293 w ↦ not_both _ (not_in_range_above _ (limit_le l s.power s.coefficient c.ilog10.ensures.power_le w.if-digits-gt293.true))
+      | then-digits-lt38-via-then-digits-lt38 w ↦ not_both _ (not_in_range_below _ (below_least l s.power s.coefficient c.ilog10.ensures.next_power_gt w.if-digits-lt38.true))
+      | then-digits-lt38-via-else-digits-lt38+then-digits-gt293 w ↦ not_both _ (not_in_range_above _ (limit_le l s.power s.coefficient c.ilog10.ensures.power_le w.if-digits-gt293.true))
     ]
 
 pub invariant_of-result : goal.invariant_of-result

@@ -1,4 +1,4 @@
-use Rattle.std.proofs.Common.{◌≡◌, ◌+◌, ◌*◌, ◌%◌, ◌^◌, ◌<◌, ◌≤◌, ◌/◌, ℕ, zero, suc, sym, ap, ◌∙◌, subst, arith, add_comm}
+use Rattle.std.proofs.Common.{◌≡◌, ◌+◌, ◌*◌, ◌^◌, ◌<◌, ◌/◌, ℕ, sym, ap, ◌∙◌, arith, add_comm}
 use Rattle.number38.specs.DigitLaws.{ten_pow_join, ten_pow_few, strip_step}
 use Rattle.number38.proofs.scaled.Scaled.stripped.Goals as goal
 
