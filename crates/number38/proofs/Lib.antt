@@ -3,5 +3,6 @@ pub mod OrderLaws
 pub mod PrintedLaws
 pub mod RangeLaws
 pub mod ReadingLaws
+pub mod ReadBackLaws
 pub mod SumLaws
 pub mod TextLaws

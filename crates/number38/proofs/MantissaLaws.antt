@@ -9,7 +9,7 @@ use Rattle.std.proofs.lemmas.Int.Digits.{length-digits_of-le, number_digits_of, 
 use Rattle.std.proofs.Math.Nat.{pow-zero, mul-one, mul-le-mul_left}
 use Rattle.std.proofs.Math.Seq.{drop-cons}
 use Rattle.number38.specs.Digits.{significant_digits}
-use Rattle.number38.specs.DigitLaws.{significant_digits-mul, significant_digits-zero, ten_pow-suc, ten_pow_pos}
+use Rattle.number38.specs.DigitLaws.{significant_digits-mul, significant_digits-zero, ten_pow-suc, ten_pow_pos, ten_pow_join}
 
 -- a coefficient that ends in no zero, and the zeros behind it
 record Split (n : ℕ) : Type 0 where
@@ -122,3 +122,10 @@ drop_whole (x ∷ xs) (suc i) h = drop_whole xs i (omega arith)
 pub digits_value_after-append : (n : ℕ) (xs ys : List ℕ) → digits_value_after 10 n (xs ++ ys) ≡ digits_value_after 10 (digits_value_after 10 n xs) ys
 digits_value_after-append n [] ys = refl
 digits_value_after-append n (x ∷ xs) ys = digits_value_after-append (n * 10 + digit_value x) xs ys
+
+-- zeros behind a number do not count
+pub significant-zeros : (m j : ℕ) → 0 < m → significant_digits (m * 10 ^ j) ≡ significant_digits m
+significant-zeros m j p =
+    let s : Split m = split m p in
+    ap significant_digits (ap (λ (x : ℕ). x * 10 ^ j) s.is ∙ ten_pow_join s.coefficient s.zeros j) ∙ significant_digits-mul s.coefficient (s.zeros + j) s.stripped
+    ∙ sym (ap significant_digits s.is ∙ significant_digits-mul s.coefficient s.zeros s.stripped)

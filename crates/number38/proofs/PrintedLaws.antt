@@ -13,7 +13,7 @@ use Rattle.number38.specs.Number.{signed}
 use Rattle.number38.specs.DigitLaws.{ten_pow-suc, ten_pow_pos, ten_pow_join, length_digits_is, mul_ten_pow_pos}
 
 -- the last digit, and the digits before it
-text_step : (n : ℕ) → 0 < n → digits_text (digits_of 10 n) ≡ digits_text (digits_of 10 (n / 10)) ++ (48 + n % 10) ∷ []
+pub text_step : (n : ℕ) → 0 < n → digits_text (digits_of 10 n) ≡ digits_text (digits_of 10 (n / 10)) ++ (48 + n % 10) ∷ []
 text_step n p = ap digits_text (digits_of_step 10 n (omega arith) p) ∙ map-append (λ d. 48 + d) (digits_of 10 (n / 10)) (n % 10 ∷ [])
 
 text_digit : (n : ℕ) → n < 10 → 0 < n → (48 + n) ∷ [] ≡ digits_text (digits_of 10 n)

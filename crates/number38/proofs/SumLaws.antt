@@ -1,5 +1,5 @@
 -- Sums of whole numbers, by their coefficients.
-use Rattle.std.proofs.Common.{◌≡◌, ℕ, zero, suc, ◌+◌, ◌-◌, ◌*◌, ◌%◌, ◌^◌, ◌<◌, ◌≤◌, Bool, true, false, ℤ, ◌+ℤ◌, refl, ap, ◌∙◌, arith}
+use Rattle.std.proofs.Common.{◌≡◌, ℕ, zero, suc, ◌+◌, ◌-◌, ◌*◌, ◌%◌, ◌^◌, ◌<◌, ◌≤◌, Bool, true, false, ℤ, ◌+ℤ◌, ◌-ℤ◌, not, refl, ap, ◌∙◌, arith}
 use Rattle.std.proofs.lemmas.Int.{ints}
 use Rattle.std.proofs.Math.Nat.{pow-zero, mul-one, mul-mod_left}
 use Rattle.number38.specs.Number.{signed}
@@ -39,3 +39,8 @@ widened_far c (suc d) small far = ap (λ (x : ℕ). x % 10) (ten_pow-suc c d) �
 -- the two whole numbers at the smaller power of ten
 pub aligned : (b d : Bool) (x y p q : ℕ) → p ≤ q → signed b (x * 10 ^ q) +ℤ signed d (y * 10 ^ p) ≡ signed b (x * 10 ^ (q - p) * 10 ^ p) +ℤ signed d (y * 10 ^ p)
 aligned b d x y p q h = ap (λ (n : ℕ). signed b n +ℤ signed d (y * 10 ^ p)) (widened_same x p q h)
+
+-- to take away is to add with the other sign
+pub turned-add : (y : ℤ) (b : Bool) (n : ℕ) → y +ℤ signed (not b) n ≡ y -ℤ signed b n
+turned-add y false n = omega (arith, ints)
+turned-add y true n = omega (arith, ints)

@@ -33,7 +33,7 @@ answer-in b m n few some inside = cond-false _ _ _ (le-ltb 38 (significant_digit
 answer-out : (b : Bool) (m n : ℕ) → significant_digits m ≤ 38 → 0 < m → is_in_range n ≡ false → answer b m n ≡ Err OutOfRange
 answer-out b m n few some outside = cond-false _ _ _ (le-ltb 38 (significant_digits m) few) ∙ cond-false _ _ _ (ne_eqb m 0 (λ e. omega arith)) ∙ cond-false _ _ _ outside
 
-valued-in : (b : Bool) (m right left n : ℕ) → significant_digits m ≤ 38 → 0 < m → m * 10 ^ (167 + right) / 10 ^ left ≡ n → IsTrue (is_in_range n) → valued b m right left ≡ Ok (signed b n)
+pub valued-in : (b : Bool) (m right left n : ℕ) → significant_digits m ≤ 38 → 0 < m → m * 10 ^ (167 + right) / 10 ^ left ≡ n → IsTrue (is_in_range n) → valued b m right left ≡ Ok (signed b n)
 unfolding valued
 valued-in b m right left n few some is inside = ap (answer b m) is ∙ answer-in b m n few some inside
 

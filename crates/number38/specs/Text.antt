@@ -95,3 +95,9 @@ valued negative m right left = let n = m * 10 ^ (167 + right) / 10 ^ left in
 -- the number that a numeral denotes, or the first fault
 abbrev pub denoted : Numeral → Result ℤ NumberFault
 denoted n = valued (is_minus n.sign) (digits_value 10 (n.whole ++ decimals n)) (raised n.exponent) (length (decimals n) + lowered n.exponent)
+
+-- the text denotes the number
+pub record Denotes (text : List ℕ) (z : ℤ) : Type 0 where
+  pub numeral : Numeral
+  pub is_text : IsTextOf numeral text
+  pub number : denoted numeral ≡ Ok z

@@ -47,6 +47,7 @@ impl Model for Number {
 
 impl Number {
     ghost use Rattle.number38.specs.Digits.{significant_digits};
+    ghost use Rattle.number38.specs.Number.{is_in_range};
     ghost use Rattle.number38.specs.Scaled.{magnitude, whole};
 
     /// 0.
@@ -67,6 +68,7 @@ impl Number {
         ensures stripped { 0 < result.coefficient → 0 < result.coefficient % 10 }
         ensures sign { IsTrue result.negative → 0 < result.coefficient }
         ensures zero { result.coefficient ≡ 0 → result.power ≡ 167 }
+        ensures range { 0 < result.coefficient → IsTrue (is_in_range (magnitude result)) }
         ensures power { result.power < 293 }
     {
         Scaled {

@@ -1,6 +1,7 @@
 //! Numbers written as texts.
 
 ghost use Rattle.std.specs.Prelude.{◌≡◌, ◌+◌, ◌*◌, ◌^◌, ◌<◌, ◌≤◌, ◌/◌, ◌%◌, ◌++◌, ◌∷◌, OnOk, IfOk, string_bytes, decimal, replicate};
+ghost use Rattle.number38.specs.Text.{Denotes};
 ghost use Rattle.number38.specs.Printed.{printed, whole_text, padded_text, text_with};
 
 use crate::number::Number;
@@ -69,7 +70,9 @@ impl Number {
     /// The number as plain decimal: `-` if it is negative, the whole part without leading zeros or `0`, and where there is
     /// a fraction `.` and its digits without trailing zeros. Equal numbers have equal texts.
     pub fn print(&self, alloc: Global) -> Result<String, NoMemory>
-        ensures { IfOk result (λ text. string_bytes text ≡ printed self.now) }
+        ensures text { IfOk result (λ text. string_bytes text ≡ printed self.now) }
+        // What is printed is read as the number again.
+        ensures read_back { IfOk result (λ text. Denotes (string_bytes text) self.now) }
     {
         let number = self.scaled();
         let mut text = String::new(alloc);
