@@ -1,5 +1,5 @@
 -- The value of digits, and how many of them count.
-use Rattle.std.proofs.Common.{◌≡◌, ℕ, zero, suc, ◌+◌, ◌-◌, ◌*◌, ◌/◌, ◌%◌, ◌^◌, ◌<◌, ◌≤◌, ◌≢◌, min, List, [], ◌∷◌, ◌++◌, length, drop, get_or, sym, refl, ap, ◌∙◌, subst, arith, ⊎_elim, le_trans, add-one}
+use Rattle.std.proofs.Common.{◌≡◌, ℕ, zero, suc, ◌+◌, ◌-◌, ◌*◌, ◌/◌, ◌%◌, ◌^◌, ◌<◌, ◌≤◌, ◌≢◌, min, List, [], ◌∷◌, ◌++◌, length, drop, get_or, sym, refl, ap, ◌∙◌, subst, arith, ⊎_elim, le_trans, add-one, Option, Some, None, IfNone}
 use Rattle.std.proofs.lemmas.Bool.{cases_eq}
 use Rattle.std.proofs.lemmas.Bool.Decides.{nat_tests}
 use Rattle.std.specs.Char.{digit_value}
@@ -129,3 +129,8 @@ significant-zeros m j p =
     let s : Split m = split m p in
     ap significant_digits (ap (λ (x : ℕ). x * 10 ^ j) s.is ∙ ten_pow_join s.coefficient s.zeros j) ∙ significant_digits-mul s.coefficient (s.zeros + j) s.stripped
     ∙ sym (ap significant_digits s.is ∙ significant_digits-mul s.coefficient s.zeros s.stripped)
+
+-- a fact holds of `None` where it holds
+pub if_none : {A P : Type 0} (r : Option A) → P → IfNone r P
+if_none None h = h
+if_none (Some x) h = tt

@@ -1,7 +1,7 @@
 -- The text of a coefficient with zeros behind it, or with a point in it.
-use Rattle.std.proofs.Common.{◌≡◌, ℕ, zero, suc, ◌+◌, ◌-◌, ◌*◌, ◌/◌, ◌%◌, ◌^◌, ◌<◌, ◌≤◌, ◌≢◌, Bool, true, false, eqb, List, [], ◌∷◌, ◌++◌, length, replicate, decimal, OnOk, Result, Ok, Err, sym, refl, ap, ◌∙◌, subst, arith, append_assoc, add_comm, add-one, ⊎_elim}
+use Rattle.std.proofs.Common.{◌≡◌, ℕ, zero, suc, ◌+◌, ◌-◌, ◌*◌, ◌/◌, ◌%◌, ◌^◌, ◌<◌, ◌≤◌, ◌≢◌, Bool, true, false, eqb, List, [], ◌∷◌, ◌++◌, length, replicate, decimal, sym, refl, ap, ◌∙◌, subst, arith, append_assoc, add_comm, add-one, ⊎_elim}
 use Rattle.std.proofs.lemmas.Bool.{cond-true, cond-false, eq-eqb, ne_eqb, cases_eq}
-use Rattle.std.proofs.lemmas.List.{map-append, replicate_more}
+use Rattle.std.proofs.lemmas.List.{map-append, replicate_more, append-nil}
 use Rattle.std.proofs.lemmas.Fmt.{decimal_by_steps_wide, decimal_digit}
 use Rattle.std.proofs.lemmas.Int.Digits.{digits_of_step, length-digits_of_step}
 use Rattle.std.proofs.lemmas.Nat.{div-mul-add, mod-mul-add, div_below, div-add-mod', mod_below}
@@ -33,10 +33,6 @@ decimal-whole_text n h =
     ⊎_elim
     (λ (e : n ≡ 0). ap decimal e ∙ decimal_digit 0 (omega arith) ∙ sym (ap whole_text e))
     (λ (ne : n ≢ 0). decimal_text n h (omega arith) ∙ sym (cond-false _ _ _ (ne_eqb n 0 ne))) (cases_eq n 0)
-
-append-nil : (xs : List ℕ) → xs ++ [] ≡ xs
-append-nil [] = refl
-append-nil (x ∷ xs) = ap (λ (ys : List ℕ). x ∷ ys) (append-nil xs)
 
 -- ---- zeros behind the digits
 
@@ -181,10 +177,6 @@ pointed_whole b0 b1 b2 b3 b4 w f k l e1 e2 e3 e4 small_w small_f some inside low
   where
     regroup : (a b c d e : List ℕ) → (((a ++ b) ++ c) ++ d) ++ e ≡ a ++ (b ++ (c ++ (d ++ e)))
     regroup a b c d e = simp append_assoc
-
-pub on_ok : {A E P Q : Type 0} (r : Result A E) → (P → Q) → OnOk r P → OnOk r Q
-on_ok (Ok x) f h = f h
-on_ok (Err e) f h = tt
 
 pub pointed_text : (n p k c : ℕ) → p + k ≡ n → 0 < k → 0 < c % 10 → text_with n (c * 10 ^ p) ≡ whole_text (c / 10 ^ k) ++ 46 ∷ padded_text k (c % 10 ^ k)
 pointed_text n p zero c e h last = absurd (omega arith)

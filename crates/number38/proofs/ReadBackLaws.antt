@@ -1,5 +1,6 @@
 -- The printed text of a number denotes it.
 use Rattle.std.proofs.Common.{◌≡◌, ◌≢◌, ℕ, zero, suc, ◌+◌, ◌-◌, ◌*◌, ◌/◌, ◌%◌, ◌^◌, ◌<◌, ◌≤◌, Bool, true, false, eqb, IsTrue, List, [], ◌∷◌, ◌++◌, length, Option, Some, None, Ok, sym, refl, ap, ◌∙◌, subst, arith, ⊎_elim, length-append, add-zero}
+use Rattle.std.proofs.lemmas.List.{append-nil}
 use Rattle.std.specs.Prelude.{unwrap_or}
 use Rattle.std.specs.Char.{digit_value}
 use Rattle.std.specs.Str.Parse.{AllDigits, digits_value, digits_value_after}
@@ -144,10 +145,6 @@ some_fraction : (ds : List ℕ) → fraction_text (some_text ds) ≡ point_text 
 unfolding some_text
 some_fraction [] = refl
 some_fraction (d ∷ ds) = refl
-
-append-nil : (xs : List ℕ) → xs ++ [] ≡ xs
-append-nil [] = refl
-append-nil (x ∷ xs) = ap (λ (ys : List ℕ). x ∷ ys) (append-nil xs)
 
 -- the answer for the digits of such a text
 value_back : (b : Bool) (n m l : ℕ) → l ≤ 167 → m * 10 ^ (167 - l) ≡ n → significant_digits n ≤ 38 → (0 < n → IsTrue (is_in_range n)) → valued b m 0 (l + 0) ≡ Ok (signed b n)

@@ -1,5 +1,6 @@
 -- How the code takes a text apart, against the grammar.
 use Rattle.std.proofs.Common.{◌≡◌, ◌≢◌, ℕ, ◌+◌, ◌<◌, ◌≤◌, Bool, true, false, cond, eqb, not, ◌||◌, List, [], ◌∷◌, ◌++◌, length, take, drop, Option, Some, None, IfSome, option_and_then, sym, refl, ap, ◌∙◌, subst, arith, length-append, add_comm, add-one}
+use Rattle.std.proofs.lemmas.List.{append-nil}
 use Rattle.std.proofs.lemmas.Bool.{cond-true, cond-false, ne_eqb, eqb-true, eqb-false}
 use Rattle.std.proofs.lemmas.Bool.Decides.{nat_tests}
 use Rattle.std.specs.Prelude.{unwrap_or}
@@ -151,10 +152,6 @@ only_digits-all b ds a p =
     let front = ap (λ (xs : List ℕ). eqb (length xs) 0) r.0 ∙ some_length ds p in
     let rest = ap (λ (xs : List ℕ). not (eqb (length xs) 0)) r.1 in
     cond-false _ _ _ (ap (λ (t : Bool). t || not (eqb (length (after_digits ds)) 0)) front ∙ rest)
-
-append-nil : (xs : List ℕ) → xs ++ [] ≡ xs
-append-nil [] = refl
-append-nil (x ∷ xs) = ap (λ (ys : List ℕ). x ∷ ys) (append-nil xs)
 
 exponent_at-text : (x : Option Exponent) → IfSome x (λ e. AllDigits 10 e.digits) → IfSome x (λ e. 0 < length e.digits) → exponent_at (exponent_text x) ≡ Some (lowers_of x, exponent_digits_of x)
 exponent_at-text None a p = refl

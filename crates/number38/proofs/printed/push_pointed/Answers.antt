@@ -3,8 +3,9 @@ use Rattle.std.proofs.Math.Nat.{div-le_self}
 use Rattle.std.proofs.lemmas.Nat.{mod_below}
 use Rattle.number38.specs.Printed.{whole_text, padded_text}
 use Rattle.number38.specs.DigitLaws.{ten_pow_pos, pos_from_last}
-use Rattle.number38.proofs.PrintedLaws.{last_of_place, pointed_whole, on_ok}
+use Rattle.number38.proofs.PrintedLaws.{last_of_place, pointed_whole}
 use Rattle.number38.proofs.RangeLaws.{log_below}
+use Rattle.std.proofs.lemmas.Result.{on_ok_weaker}
 use Rattle.number38.proofs.printed.push_pointed.Goals as goal
 
 some_fraction : (c k f : ℕ) → 0 < k → 0 < c % 10 → f ≡ c % 10 ^ k → 0 < f
@@ -32,7 +33,7 @@ returns c =
     let rest_lt : n % 10 ^ k < 10 ^ k = mod_below n (10 ^ k) (ten_pow_pos k) in
     let small_w : w < 10 ^ 64 = omega (arith, c.split-whole.ensures.whole) in
     let small_f : f < 10 ^ 64 = omega (arith, c.split-whole.ensures.fraction) in
-    on_ok c.push_decimal-2.result
+    on_ok_weaker c.push_decimal-2.result
     (λ e4. pointed_whole (string_bytes c.args.text.now) (string_bytes c.push_decimal.new.text) (string_bytes c.push.new.self) (string_bytes c.push_zeros.new.text) (string_bytes c.push_decimal-2.new.text) w f k l
     c.in_ok-push_decimal.ensures (c.in_ok-push.ensures.bytes ∙ ap (λ (e : List ℕ). string_bytes c.push_decimal.new.text ++ e) (c.in_ok-push.ensures.ascii (omega arith))) c.in_ok-push_zeros.ensures e4
     small_w small_f (some_fraction n k f c.requires.places c.requires.stripped c.split-whole.ensures.fraction) (inside n k f c.split-whole.ensures.fraction) c.ilog10.ensures.power_le c.ilog10.ensures.next_power_gt

@@ -1,14 +1,10 @@
-use Rattle.std.proofs.Common.{◌≡◌, ◌*◌, ◌^◌, ◌<◌, ◌≤◌, ◌++◌, ℕ, List, sym, ap, ◌∙◌, subst, arith, Option, Some, None, IfSome, IfNone}
+use Rattle.std.proofs.Common.{◌≡◌, ◌*◌, ◌^◌, ◌<◌, ◌≤◌, ◌++◌, ℕ, List, sym, ap, ◌∙◌, subst, arith, IfSome, IfNone}
 use Rattle.std.proofs.Math.Nat.{zero-mul}
 use Rattle.std.specs.Str.Parse.{digits_value, digits_value_after}
 use Rattle.number38.specs.declared.mantissa.Mantissa.{Mantissa}
 use Rattle.number38.specs.Digits.{significant_digits}
-use Rattle.number38.proofs.MantissaLaws.{digits_value_after-append, significant_more}
+use Rattle.number38.proofs.MantissaLaws.{digits_value_after-append, significant_more, if_none}
 use Rattle.number38.proofs.text.mantissa_of.Goals as goal
-
-if_none : {A P : Type 0} (r : Option A) → P → IfNone r P
-if_none None h = h
-if_none (Some x) h = tt
 
 -- no digits have the value 0
 from_nothing : (c z : ℕ) (xs : List ℕ) → c ≡ 0 → digits_value_after 10 (c * 10 ^ z) xs ≡ digits_value 10 xs

@@ -1,10 +1,7 @@
-use Rattle.std.proofs.Common.{◌≡◌, ◌+◌, ◌*◌, ◌^◌, ◌≤◌, arith, Option, Some, None, IfNone}
+use Rattle.std.proofs.Common.{◌≡◌, ◌+◌, ◌*◌, ◌^◌, ◌≤◌, arith}
 use Rattle.number38.specs.DigitLaws.{ten_pow-more, many_here}
+use Rattle.number38.proofs.MantissaLaws.{if_none}
 use Rattle.number38.proofs.mantissa.Mantissa.with_digit.Goals as goal
-
-if_none : {A P : Type 0} (r : Option A) → P → IfNone r P
-if_none None h = h
-if_none (Some x) h = tt
 
 pub returns-then-digit-eq0-clause-some : goal.returns-then-digit-eq0-clause-some
 returns-then-digit-eq0-clause-some c = omega (arith, ten_pow-more c.args.self.coefficient c.args.self.zeros)

@@ -1,13 +1,9 @@
-use Rattle.std.proofs.Common.{◌+◌, ◌*◌, ◌^◌, ◌<◌, ℕ, drop, get_or, sym, ap, ◌∙◌, subst, arith, Option, Some, None, IfNone}
+use Rattle.std.proofs.Common.{◌+◌, ◌*◌, ◌^◌, ◌<◌, ℕ, drop, get_or, sym, ap, ◌∙◌, subst, arith}
 use Rattle.std.specs.Str.Parse.{digits_value_after}
 use Rattle.std.specs.Char.{digit_value}
 use Rattle.number38.specs.Digits.{significant_digits}
-use Rattle.number38.proofs.MantissaLaws.{digit_at, digit_minus, value_step, significant_rest}
+use Rattle.number38.proofs.MantissaLaws.{digit_at, digit_minus, value_step, significant_rest, if_none}
 use Rattle.number38.proofs.mantissa.Mantissa.with_digits.Goals as goal
-
-if_none : {A P : Type 0} (r : Option A) → P → IfNone r P
-if_none None h = h
-if_none (Some x) h = tt
 
 pub overflow_sub-digit : goal.overflow_sub-digit
 overflow_sub-digit c =
