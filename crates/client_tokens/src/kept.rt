@@ -1,0 +1,38 @@
+ghost use Rattle.std.specs.Prelude.{◌≡◌};
+ghost use Rattle.client_tokens.specs.Kept.{has_expired, due};
+
+/// How long a token lives after its transaction was completed, in microseconds: 600 seconds.
+pub const TOKEN_LIFE: u64 = 600_000_000;
+
+/// What a token is kept with.
+#[derive(Debug, Drop, PartialEq)]
+pub struct Kept<A> {
+    /// The number of the transaction that the token began.
+    pub number: u64,
+    /// The actions of that transaction, by which a repeat of the call is told from another call.
+    pub actions: A,
+    /// When the transaction was completed, in microseconds, if it was.
+    pub completed: Option<u64>,
+}
+
+impl<A> Kept<A> {
+    /// Whether the token's life is over at `moment`.
+    pub(crate) fn has_expired(&self, moment: u64) -> bool
+        ensures { result ≡ has_expired self.now moment }
+    {
+        match self.completed {
+            Some(completed) => completed <= moment && moment - completed >= TOKEN_LIFE,
+            None => false,
+        }
+    }
+
+    /// The completed moment, or a number past every moment where there is none.
+    pub(crate) fn due(&self) -> u128
+        ensures { result ≡ due self.now }
+    {
+        match self.completed {
+            Some(completed) => u128::from(completed),
+            None => 1 << 64,
+        }
+    }
+}
