@@ -1,12 +1,12 @@
 -- When the entries are due, as the map's calls change them.
-use Rattle.std.proofs.Common.{◌≡◌, ◌≢◌, ℕ, zero, suc, ◌-◌, ◌+◌, ◌<◌, ◌≤◌, List, [], ◌∷◌, ◌++◌, length, map, take, set, get_or, slice_get, slice_index, Some, option_map, ap, refl, sym, ◌∙◌, arith}
+use Rattle.std.proofs.Common.{◌≡◌, ◌≢◌, ℕ, zero, suc, ◌-◌, ◌<◌, List, [], ◌∷◌, ◌++◌, length, map, set, get_or, slice_get, slice_index, Some, option_map, ap, refl, sym, ◌∙◌, arith}
 use Rattle.std.specs.List.{swap, swap_remove}
 use Rattle.std.specs.Map.{values_of}
 use Rattle.std.proofs.Math.ListN.{get_or-append}
 use Rattle.std.proofs.Math.ListN as math
 use Rattle.std.proofs.lemmas.List.{map-set, get_or-take, get_or-map, get_or-set_other, length-map, length-set, length-take, length-append}
 use Rattle.std.proofs.lemmas.Option.{slice_get-map, get_or_from_slice_get}
-use Rattle.indexmap.specs.Layout.{set_value_at, length-set_value_at}
+use Rattle.indexmap.specs.Layout.{set_value_at}
 use Rattle.client_tokens.specs.declared.kept.Kept.{Kept}
 use Rattle.client_tokens.specs.Kept.{due}
 use Rattle.client_tokens.specs.Heap.{dues}

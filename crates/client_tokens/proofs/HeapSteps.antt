@@ -1,8 +1,8 @@
 -- The steps by which a number comes to its place in a heap.
-use Rattle.std.proofs.Common.{◌≡◌, ◌≢◌, ◌⊎◌, inl, inr, ℕ, zero, suc, ◌+◌, ◌-◌, ◌*◌, ◌/◌, ◌<◌, ◌≤◌, Bool, true, false, nat_eq, List, length, slice_index, ap, refl, ◌∙◌, arith}
+use Rattle.std.proofs.Common.{◌≡◌, ◌≢◌, ◌⊎◌, inl, inr, ℕ, zero, suc, ◌+◌, ◌-◌, ◌*◌, ◌/◌, ◌<◌, ◌≤◌, true, false, nat_eq, List, length, slice_index, ap, refl, ◌∙◌, arith}
 use borrow.Author.Tests.{eqb-true, eqb-false}
 use Rattle.std.specs.List.{swap}
-use Rattle.std.proofs.lemmas.List.Edits.{Swapped, swapped_from_swap, length-swap}
+use Rattle.std.proofs.lemmas.List.Edits.{swapped_from_swap, length-swap}
 use Rattle.client_tokens.specs.Heap.{IsHeap, IsHeapBut, IsNotBeforeParent, IsEarliestChild}
 
 same_or_not : (a b : ℕ) → (a ≡ b) ⊎ (a ≢ b)
@@ -37,12 +37,13 @@ module _ (ns : List ℕ) (up j : ℕ) (lo : 2 * up + 1 ≤ j) (hi : j ≤ 2 * up
     where
       others : (p k : ℕ) → 2 * p + 1 ≤ k → k ≤ 2 * p + 2 → k < length (swap ns up j) → p ≢ up → k ≢ up → slice_index (swap ns up j) p ≤ slice_index (swap ns up j) k
       others p k a b f u v = elim (same_or_not p j) [
-          | inl e ↦ le_along _ _ _ _ (at_place p j e ∙ moved.1) (moved.2 k v (omega arith)) (h.across up k lo hi (omega arith) (omega arith) (omega (arith, same_length)))
-          | inr w ↦ elim (same_or_not k j) [
-              | inl e ↦ absurd (u (omega arith))
-              | inr x ↦ le_along _ _ _ _ (moved.2 p u w) (moved.2 k v x) (h.others p k a b (omega (arith, same_length)) w x)
-            ]
+        | inl e ↦ le_along _ _ _ _ (at_place p j e ∙ moved.1) (moved.2 k v (omega arith)) (h.across up k lo hi (omega arith) (omega arith) (omega (arith, same_length)))
+        | inr w ↦ elim (same_or_not k j) [
+          | inl e ↦ absurd (u (omega arith))
+          | inr x ↦ le_along _ _ _ _ (moved.2 p u w) (moved.2 k v x) (h.others p k a b (omega (arith, same_length)) w x)
         ]
+      ]
+
       across : (p k : ℕ) → 2 * p + 1 ≤ up → up ≤ 2 * p + 2 → 2 * up + 1 ≤ k → k ≤ 2 * up + 2 → k < length (swap ns up j) → slice_index (swap ns up j) p ≤ slice_index (swap ns up j) k
       across p k a b c d f =
           let over : slice_index ns p ≤ slice_index ns up = h.others p up a b (omega arith) (omega arith) (omega arith) in
@@ -50,8 +51,8 @@ module _ (ns : List ℕ) (up j : ℕ) (lo : 2 * up + 1 ≤ j) (hi : j ≤ 2 * up
           elim (same_or_not k j) [
             | inl e ↦ le_along _ _ _ _ same (at_place k j e ∙ moved.1) over
             | inr x ↦
-              let under : slice_index ns up ≤ slice_index ns k = h.others up k c d (omega (arith, same_length)) (omega arith) x in
-              le_along _ _ _ _ same (moved.2 k (omega arith) x) (omega arith)
+                let under : slice_index ns up ≤ slice_index ns k = h.others up k c d (omega (arith, same_length)) (omega arith) x in
+                le_along _ _ _ _ same (moved.2 k (omega arith) x) (omega arith)
           ]
 
   -- a number goes down, to the place of the earliest below it
@@ -60,12 +61,13 @@ module _ (ns : List ℕ) (up j : ℕ) (lo : 2 * up + 1 ≤ j) (hi : j ≤ 2 * up
     where
       others : (p k : ℕ) → 2 * p + 1 ≤ k → k ≤ 2 * p + 2 → k < length (swap ns up j) → p ≢ j → k ≢ j → slice_index (swap ns up j) p ≤ slice_index (swap ns up j) k
       others p k a b f u v = elim (same_or_not k up) [
-          | inl e ↦ le_along _ _ _ _ (moved.2 p (omega arith) u) (at_place k up e ∙ moved.0) (h.across p j (omega arith) (omega arith) lo hi within)
-          | inr w ↦ elim (same_or_not p up) [
-              | inl e ↦ le_along _ _ _ _ (at_place p up e ∙ moved.0) (moved.2 k w v) (earliest k (omega arith) (omega arith) (omega (arith, same_length)))
-              | inr x ↦ le_along _ _ _ _ (moved.2 p x u) (moved.2 k w v) (h.others p k a b (omega (arith, same_length)) x w)
-            ]
+        | inl e ↦ le_along _ _ _ _ (moved.2 p (omega arith) u) (at_place k up e ∙ moved.0) (h.across p j (omega arith) (omega arith) lo hi within)
+        | inr w ↦ elim (same_or_not p up) [
+          | inl e ↦ le_along _ _ _ _ (at_place p up e ∙ moved.0) (moved.2 k w v) (earliest k (omega arith) (omega arith) (omega (arith, same_length)))
+          | inr x ↦ le_along _ _ _ _ (moved.2 p x u) (moved.2 k w v) (h.others p k a b (omega (arith, same_length)) x w)
         ]
+      ]
+
       across : (p k : ℕ) → 2 * p + 1 ≤ j → j ≤ 2 * p + 2 → 2 * j + 1 ≤ k → k ≤ 2 * j + 2 → k < length (swap ns up j) → slice_index (swap ns up j) p ≤ slice_index (swap ns up j) k
       across p k a b c d f = le_along _ _ _ _ (at_place p up (omega arith) ∙ moved.0) (moved.2 k (omega arith) (omega arith)) (h.others j k c d (omega (arith, same_length)) (omega arith) (omega arith))
 
@@ -77,12 +79,12 @@ module _ (ns : List ℕ) (j : ℕ) (others : IsHeapBut ns j) where
   -- a number that isn't before what is above it, nor later than what is below it, is in its place
   pub in_place : IsNotBeforeParent ns j → ((k : ℕ) → 2 * j + 1 ≤ k → k ≤ 2 * j + 2 → k < length ns → slice_index ns j ≤ slice_index ns k) → IsHeap ns
   in_place above below p k a b f = elim (same_or_not p j) [
-      | inl e ↦ le_along _ _ _ _ (ap (λ m. slice_index ns m) e) refl (below k (omega arith) (omega arith) f)
-      | inr u ↦ elim (same_or_not k j) [
-          | inl e ↦ le_along _ _ _ _ refl (ap (λ m. slice_index ns m) e) (above p (omega arith) (omega arith))
-          | inr v ↦ others.others p k a b f u v
-        ]
+    | inl e ↦ le_along _ _ _ _ (ap (λ m. slice_index ns m) e) refl (below k (omega arith) (omega arith) f)
+    | inr u ↦ elim (same_or_not k j) [
+      | inl e ↦ le_along _ _ _ _ refl (ap (λ m. slice_index ns m) e) (above p (omega arith) (omega arith))
+      | inr v ↦ others.others p k a b f u v
     ]
+  ]
 
   -- there is no number at j
   pub past_end : length ns ≤ j → IsHeap ns
@@ -108,12 +110,12 @@ added_at_end ns ms longer same h = record {
 first_by : (ns : List ℕ) → IsHeap ns → (fuel k : ℕ) → k ≤ fuel → k < length ns → slice_index ns 0 ≤ slice_index ns k
 first_by ns h zero k a f = let e : k ≡ 0 = omega arith in le_along _ _ _ _ refl (ap (λ m. slice_index ns m) e) (omega arith)
 first_by ns h (suc fuel) k a f = elim (same_or_not k 0) [
-    | inl e ↦ le_along _ _ _ _ refl (ap (λ m. slice_index ns m) e) (omega arith)
-    | inr u ↦
+  | inl e ↦ le_along _ _ _ _ refl (ap (λ m. slice_index ns m) e) (omega arith)
+  | inr u ↦
       let up : slice_index ns 0 ≤ slice_index ns ((k - 1) / 2) = first_by ns h fuel ((k - 1) / 2) (omega arith) (omega arith) in
       let step : slice_index ns ((k - 1) / 2) ≤ slice_index ns k = h ((k - 1) / 2) k (omega arith) (omega arith) f in
       omega arith
-  ]
+]
 
 -- nothing is before the first
 pub first_is_least : (ns : List ℕ) → IsHeap ns → (k : ℕ) → k < length ns → slice_index ns 0 ≤ slice_index ns k

@@ -1,6 +1,6 @@
 -- What is left of the kept tokens, once those whose life is over are taken out.
-use Rattle.std.proofs.Common.{◌≡◌, ◌≢◌, ℕ, zero, suc, ◌+◌, ◌^◌, ◌<◌, ◌≤◌, Bool, true, false, cond, not, nat_le, List, [], ◌∷◌, length, map, slice_get, slice_index, Option, None, Some, option_map, unwrap_or, is_some, true≢false, IsSomeAnd, String, ap, refl, sym, subst, ◌∙◌, IfSome, inl, inr, arith}
-use borrow.Author.Tests.{leb-false, lt-leb, eq-eqb}
+use Rattle.std.proofs.Common.{◌≡◌, ℕ, suc, ◌+◌, ◌^◌, ◌<◌, ◌≤◌, Bool, true, false, cond, not, List, [], ◌∷◌, length, slice_get, slice_index, Option, None, Some, option_map, unwrap_or, is_some, true≢false, IsSomeAnd, String, ap, refl, sym, subst, ◌∙◌, arith}
+use borrow.Author.Tests.{leb-false, lt-leb}
 use Rattle.std.specs.Map.{lookup, values_of}
 use Rattle.std.specs.Str.{bytes_eq}
 use Rattle.std.specs.String.{string_bytes}
@@ -13,8 +13,7 @@ use Rattle.std.specs.Cmp.Lexicographic.{slice_cmp, nat_list_cmp_total}
 use Rattle.std.specs.FinMap.{get, remove, get-retain_keys, get-remove, slice_cmp-IsAntisymmetric, nat_cmp-IsAntisymmetric}
 use Rattle.std.proofs.lemmas.Map.Text.{is_text, is_eq-slice_cmp}
 use Rattle.client_tokens.specs.declared.kept.Kept.{Kept}
-use Rattle.client_tokens.specs.declared.kept.TheConstants.{TOKEN_LIFE}
-use Rattle.client_tokens.specs.Kept.{has_expired, is_over, due}
+use Rattle.client_tokens.specs.Kept.{has_expired, is_over, due, token_life}
 use Rattle.client_tokens.specs.Heap.{dues, IsHeap, token_at}
 use Rattle.client_tokens.specs.TokenMap.{TokenMap, token_map, purged}
 use Rattle.client_tokens.proofs.Dues.{due_read, length-dues}
@@ -60,8 +59,8 @@ module _ {A : Type 0} where
 
 live_after : (first kept : Option ℕ) (moment : ℕ) → moment < 2 ^ 64 → unwrap_or first (2 ^ 64) ≤ unwrap_or kept (2 ^ 64) → is_over first moment ≡ false → is_over kept moment ≡ false
 live_after first None moment fits before live = refl
-live_after None (Some c) moment fits before live = lt-leb (c + TOKEN_LIFE) moment (omega arith)
-live_after (Some f) (Some c) moment fits before live = lt-leb (c + TOKEN_LIFE) moment (let l : moment < f + TOKEN_LIFE = leb-false (f + TOKEN_LIFE) moment live in omega arith)
+live_after None (Some c) moment fits before live = lt-leb (c + token_life) moment (omega arith)
+live_after (Some f) (Some c) moment fits before live = lt-leb (c + token_life) moment (let l : moment < f + token_life = leb-false (f + token_life) moment live in omega arith)
 
 module _ {Y A : Type 0} where
   -- what is found stands at a place

@@ -1,13 +1,13 @@
 -- The finite map of the kept tokens, as the map's calls change it.
-use Rattle.std.proofs.Common.{◌≡◌, ℕ, ◌<◌, Bool, true, false, cond, List, [], ◌∷◌, length, map, slice_get, get_or, Option, None, Some, String, ap, refl, sym, ◌∙◌, inl, inr, true≢false, is_some, IfSome, arith}
+use Rattle.std.proofs.Common.{◌≡◌, ℕ, ◌<◌, true, false, cond, List, [], ◌∷◌, length, map, slice_get, get_or, Option, None, Some, String, ap, refl, sym, ◌∙◌, inl, inr, true≢false, is_some, IfSome, arith}
 use Rattle.std.specs.List.{position}
-use Rattle.std.specs.Map.{lookup, keys_of, values_of, update}
+use Rattle.std.specs.Map.{lookup, keys_of}
 use Rattle.std.specs.Str.{bytes_eq}
 use Rattle.std.specs.String.{string_bytes, string_eq, string_eq_equiv}
-use Rattle.std.specs.Ordering.{nat_cmp, is_eq, eq_by_cmp}
+use Rattle.std.specs.Ordering.{nat_cmp, eq_by_cmp}
 use Rattle.std.specs.Cmp.{eq_by_cmp_equiv}
 use Rattle.std.specs.Cmp.Lexicographic.{slice_cmp, nat_list_cmp_total}
-use Rattle.std.specs.FinMap.{FinMap, get, find, insert, remove, from_entries, get-from_entries, get-insert, get-remove, same_map, slice_cmp-IsAntisymmetric, nat_cmp-IsAntisymmetric}
+use Rattle.std.specs.FinMap.{get, find, insert, remove, get-from_entries, get-insert, get-remove, same_map, slice_cmp-IsAntisymmetric, nat_cmp-IsAntisymmetric}
 use Rattle.std.specs.HashMap as hash
 use Rattle.indexmap.specs.IndexMap.{with_value_at, set_value_at}
 use Rattle.indexmap.proofs.CallerLemmas.{updates-with_value_at}
@@ -21,7 +21,7 @@ use Rattle.std.proofs.Math.ListN.{get_or-map}
 use Rattle.std.specs.Option.{option_map_or}
 use Rattle.client_tokens.specs.declared.kept.Kept.{Kept}
 use Rattle.client_tokens.specs.Heap.{token_at}
-use Rattle.client_tokens.specs.TokenMap.{TokenMap, token_map, completed_at, purged}
+use Rattle.client_tokens.specs.TokenMap.{TokenMap, token_map, completed_at}
 
 flipped : (a b : List ℕ) → bytes_eq a b ≡ eq_by_cmp (slice_cmp nat_cmp) b a
 flipped a b = sym (is_eq-slice_cmp a b) ∙ (eq_by_cmp_equiv nat_list_cmp_total).symm a b
@@ -59,13 +59,13 @@ module _ {Y A : Type 0} where
   -- the entry at the place where a token was found is the token's
   pub token_at-position : (es : List (String Y × Kept A)) (token : List ℕ) (place : ℕ) → place < length es → position (is_text token) (keys_of es) ≡ Some place → token_at es place ≡ token
   token_at-position es token place within h = elim (slice_get_cases es place).1 [
-      | inl e ↦
+    | inl e ↦
         let first = position-Some (is_text token) (keys_of es) place e.0.0 h in
         let same : get_or (keys_of es) place e.0.0 ≡ e.0.0 = get_or-map (λ k. k.0) es place e.0 ∙ ap (λ k. k.0) e.3 in
         let passes : bytes_eq token (string_bytes e.0.0) ≡ true = ap (is_text token) (sym same) ∙ first.1 in
         ap (λ o. option_map_or (λ k. string_bytes k.0) o []) e.2 ∙ sym ((bytes_eq-Decides token (string_bytes e.0.0)).0 passes)
-      | inr past ↦ absurd (omega (arith, past.0))
-    ]
+    | inr past ↦ absurd (omega (arith, past.0))
+  ]
 
 module _ {Y A S : Type 0} where
   at_key : (m : HashMap (String Y) (Kept A) S) (token : List ℕ) (key : String Y) → token ≡ string_bytes key → hash.get string_eq m key ≡ hash.get_by_text m token
@@ -81,6 +81,7 @@ module _ {Y A S : Type 0} where
     where
       at : (key : String Y) → token ≡ string_bytes key → hash.get_by_text n token ≡ hash.get_by_text m token
       at key e = sym (at_key n token key e) ∙ h.2 key ∙ at_key m token key e
+
       by : (o p : Option (Kept A)) → hash.get_by_text m token ≡ o → hash.get_by_text n token ≡ p → hash.get_by_text n token ≡ hash.get_by_text m token
       by None None e f = f ∙ sym e
       by (Some kept) p e f = let k = key_of m.entries token kept e in at k.0 k.1

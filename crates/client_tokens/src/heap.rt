@@ -1,4 +1,8 @@
-//! The order in which tokens expire: a binary heap in the places of the map itself.
+//! The order in which tokens expire: the entries of the map stand in its places as a binary heap, the one that is due
+//! first at the front.
+//!
+//! A heap beside the map would have to name its tokens, and every removal from the map moves an entry, so the heap is
+//! the map's own order. An exchange of two entries hashes nothing and takes no memory.
 ghost use Rattle.std.specs.Prelude.{◌≡◌, ◌+◌, ◌*◌, ◌<◌, ◌≤◌, ◌↔◌, IsTrue, OnOk, OnErr, None, true, IsSome, IsSomeAnd, slice_index};
 ghost use Rattle.std.specs.Bool.{OnTrue, OnFalse};
 ghost use Rattle.std.specs.String.{string_bytes};

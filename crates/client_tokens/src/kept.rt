@@ -1,8 +1,8 @@
 ghost use Rattle.std.specs.Prelude.{◌≡◌};
 ghost use Rattle.client_tokens.specs.Kept.{has_expired, due};
 
-/// How long a token lives after its transaction was completed, in microseconds: 600 seconds.
-pub const TOKEN_LIFE: u64 = 600_000_000;
+/// How long a token lives after its completed moment, in microseconds: 600 seconds.
+const TOKEN_LIFE: u64 = 600_000_000;
 
 /// What a token is kept with.
 #[derive(Debug, Drop, PartialEq)]
@@ -16,7 +16,7 @@ pub struct Kept<A> {
 }
 
 impl<A> Kept<A> {
-    /// Whether the token's life is over at `moment`.
+    /// Whether the token's life is over at `moment`: never before its completed moment, nor where there is none.
     pub(crate) fn has_expired(&self, moment: u64) -> bool
         ensures { result ≡ has_expired self.now moment }
     {
@@ -26,7 +26,7 @@ impl<A> Kept<A> {
         }
     }
 
-    /// The completed moment, or a number past every moment where there is none.
+    /// The completed moment, or where there is none a number past every moment.
     pub(crate) fn due(&self) -> u128
         ensures { result ≡ due self.now }
     {

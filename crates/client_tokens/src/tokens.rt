@@ -9,7 +9,26 @@ use indexmap::IndexMap;
 use std::alloc::{AllocError as NoMemory, Global};
 use std::marker::Model;
 
-/// The tokens that are kept.
+/// The tokens that are kept, each with the transaction that it stands for.
+///
+/// Contracts see the finite map from the bytes of each kept token to its [`Kept`].
+///
+/// # Cost
+///
+/// The entries stand in a hash map, and in its places as a binary heap: the one that was completed earliest at the
+/// front, those that weren't completed behind. Nothing is stored beside them. With n tokens kept,
+///
+/// - `find` takes constant expected time. So does `keep`, on average over the calls between which the map grows;
+/// - `complete` finds its entry, and moves it up past each one above it that was completed later, or wasn't. Where the
+///   moments of the calls never go back, as those of one clock, that is one or two exchanges on average, in whatever
+///   order the tokens are completed. At worst, where each moment is before all earlier ones, it is log2(n) exchanges;
+/// - `free` fills the gap with the last entry, which then moves up or down as far as it has to: about one exchange on
+///   average over the tokens, 2 log2(n) steps at worst;
+/// - `purge` looks at the front. Where nothing is to be removed that is all, however many tokens are kept, and each
+///   token that it removes costs at most 2 log2(n) steps, in whatever order the moments came.
+///
+/// Room that the map took stays with it. The hash has no secret seed, so a client that picks tokens which collide can
+/// make the calls on those tokens slow.
 #[derive(Drop)]
 pub struct Tokens<A> {
     by_token: Entries<A>,
@@ -31,7 +50,7 @@ impl<A> Model for Tokens<A> {
 }
 
 impl<A: Drop> Tokens<A> {
-    /// No tokens.
+    /// No tokens. `NoMemory` is for want of memory.
     pub fn make(alloc: Global) -> Result<Tokens<A>, NoMemory>
         ensures { IfOk result (λ tokens. tokens ≡ empty) }
     {
@@ -40,14 +59,15 @@ impl<A: Drop> Tokens<A> {
         })
     }
 
-    /// What `token` is kept with.
+    /// What `token` is kept with, or `None` where it isn't kept.
     pub fn find(&self, token: &str) -> Option<&Kept<A>>
         ensures { option_copied result ≡ get self.now token.now }
     {
         self.by_token.get(token)
     }
 
-    /// Keeps a token that isn't kept.
+    /// Keeps a token that isn't kept yet. On `NoMemory`, which is for want of memory, the tokens stay as they were and
+    /// `token` and `kept` are dropped.
     pub fn keep(&mut self, token: Text, kept: Kept<A>) -> Result<(), NoMemory>
         requires { get self.old token ≡ None }
         ensures ok { OnOk result (self.new ≡ insert self.old token kept) }
@@ -56,7 +76,7 @@ impl<A: Drop> Tokens<A> {
         heap::add(&mut self.by_token, String::from(token), kept)
     }
 
-    /// Sets the completed moment of a kept token that has none.
+    /// Sets the completed moment of a kept token that has none, in microseconds. Takes no memory.
     pub fn complete(&mut self, token: &str, moment: u64)
         requires { IsSomeAnd (get self.old token.now) (λ kept. kept.completed ≡ None) }
         ensures { self.new ≡ completed_at self.old token.now moment }
@@ -65,7 +85,7 @@ impl<A: Drop> Tokens<A> {
         heap::complete_at(&mut self.by_token, at, moment);
     }
 
-    /// Takes a kept token out.
+    /// Forgets a kept token. Takes no memory.
     pub fn free(&mut self, token: &str)
         requires { IsSome (get self.old token.now) }
         ensures { self.new ≡ remove self.old token.now }
@@ -74,7 +94,8 @@ impl<A: Drop> Tokens<A> {
         heap::remove_at(&mut self.by_token, at);
     }
 
-    /// Takes out each token whose life is over at `moment`.
+    /// Forgets each token that was completed 600 seconds or more before `moment`, and no other: not one that wasn't
+    /// completed, nor one whose completed moment is later than `moment`, as after a clock went back. Takes no memory.
     pub fn purge(&mut self, moment: u64)
         ensures { self.new ≡ purged self.old moment }
     {

@@ -10,7 +10,7 @@ loop-entries-preserved g c =
     record {
       ordered = c.remove_at.ensures.ordered;
       same =
-        ap (λ tokens. purged tokens c.args.moment) c.remove_at.ensures.removed
-        ∙ purged-remove (token_map was) c.args.moment (token_at was 0) c.loop-entries-test.ensures.first
-        ∙ c.loop-entries.invariant.same;
+          ap (λ tokens. purged tokens c.args.moment) c.remove_at.ensures.removed
+          ∙ purged-remove (token_map was) c.args.moment (token_at was 0) c.loop-entries-test.ensures.first
+          ∙ c.loop-entries.invariant.same;
     }
