@@ -2,8 +2,8 @@ use Rattle.indexmap.specs.IndexMap.{index_map_len}
 use Rattle.client_tokens.proofs.Loops.{Purges}
 use Rattle.client_tokens.proofs.heap.remove_expired.Given as goal
 
-abbrev pub invariant-loop-entries : goal.invariant-loop-entries
-invariant-loop-entries g l = Purges l.moment l.fn.entries l.entries
+abbrev pub invariant-loop-map : goal.invariant-loop-map
+invariant-loop-map g l = Purges l.moment l.fn.map l.map
 
-abbrev pub decreases-loop-entries : goal.decreases-loop-entries
-decreases-loop-entries g l = index_map_len l.entries
+abbrev pub decreases-loop-map : goal.decreases-loop-map
+decreases-loop-map g l = index_map_len l.map
