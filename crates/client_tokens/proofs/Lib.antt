@@ -4,3 +4,4 @@ pub mod Loops
 pub mod TokenMaps
 pub mod Ordered
 pub mod Purges
+pub mod TokenLists

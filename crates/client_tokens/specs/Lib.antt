@@ -1,3 +1,4 @@
 pub mod Kept
 pub mod Heap
 pub mod TokenMap
+pub mod TokenList
