@@ -16,12 +16,6 @@ le_along : (a b x y : ℕ) → a ≡ x → b ≡ y → x ≤ y → a ≤ b
 le_along a b x y p q h = omega arith
 
 module _ (ns : List ℕ) (up j : ℕ) (lo : 2 * up + 1 ≤ j) (hi : j ≤ 2 * up + 2) (within : j < length ns) where
-  was : ℕ → ℕ
-  was i = slice_index ns i
-
-  at : ℕ → ℕ
-  at i = slice_index (swap ns up j) i
-
   moved : (slice_index (swap ns up j) up ≡ slice_index ns j) × (slice_index (swap ns up j) j ≡ slice_index ns up) × ((m : ℕ) → m ≢ up → m ≢ j → slice_index (swap ns up j) m ≡ slice_index ns m)
   moved = swapped_from_swap ns (swap ns up j) up j 0 (omega arith) within refl
 

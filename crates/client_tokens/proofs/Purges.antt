@@ -7,25 +7,21 @@ use Rattle.std.specs.String.{string_bytes}
 use Rattle.std.specs.Option.{option_map_or}
 use Rattle.std.specs.Bool.{OnTrue, OnFalse}
 use Rattle.std.proofs.lemmas.Option.{slice_get-map}
-use Rattle.std.proofs.lemmas.Slice.Eq.{bytes_eq-Decides}
 use Rattle.std.specs.Ordering.{nat_cmp, eq_by_cmp}
 use Rattle.std.specs.Cmp.Lexicographic.{slice_cmp, nat_list_cmp_total}
 use Rattle.std.specs.FinMap.{get, remove, get-retain_keys, get-remove, slice_cmp-IsAntisymmetric, nat_cmp-IsAntisymmetric}
-use Rattle.std.proofs.lemmas.Map.Text.{is_text, is_eq-slice_cmp}
+use Rattle.std.proofs.lemmas.Map.Text.{is_text}
 use Rattle.client_tokens.specs.declared.kept.Kept.{Kept}
 use Rattle.client_tokens.specs.Kept.{has_expired, is_over, due, token_life}
 use Rattle.client_tokens.specs.Heap.{dues, IsHeap, token_at}
 use Rattle.client_tokens.specs.TokenMap.{TokenMap, token_map, purged}
 use Rattle.client_tokens.proofs.Dues.{due_read, length-dues}
 use Rattle.client_tokens.proofs.HeapSteps.{first_is_least}
-use Rattle.client_tokens.proofs.TokenMaps.{same_tokens, get-token_map}
+use Rattle.client_tokens.proofs.TokenMaps.{same_tokens, tied, get-token_map}
 
 -- the value, unless it is that of a token whose life is over
 abbrev pub live_part : {A : Type 0} → ℕ → Option (Kept A) → Option (Kept A)
 live_part moment kept = cond (not (option_map_or (λ k. has_expired k moment) kept false)) kept None
-
-tied : (token gone : List ℕ) → eq_by_cmp (slice_cmp nat_cmp) token gone ≡ true → token ≡ gone
-tied token gone h = (bytes_eq-Decides token gone).0 (sym (is_eq-slice_cmp token gone) ∙ h)
 
 module _ {A : Type 0} where
   pub get-purged : (tokens : TokenMap A) (moment : ℕ) (token : List ℕ) → get (purged tokens moment) token ≡ live_part moment (get tokens token)

@@ -6,21 +6,13 @@ use Rattle.std.specs.Ordering.{nat_cmp, eq_by_cmp}
 use Rattle.std.specs.Cmp.{eq_by_cmp_equiv}
 use Rattle.std.specs.Cmp.Lexicographic.{slice_cmp, nat_list_cmp_total}
 use Rattle.std.specs.FinMap.{empty, get, insert, remove, from_entries, from_entries_push, get-from_entries, get-insert, get-remove, slice_cmp-IsAntisymmetric, nat_cmp-IsAntisymmetric}
-use Rattle.std.proofs.lemmas.Map.Text.{is_eq-slice_cmp}
 use Rattle.std.proofs.lemmas.Slice.Eq.{bytes_eq-Decides}
 use Rattle.client_tokens.specs.declared.kept.Kept.{Kept}
 use Rattle.client_tokens.specs.Kept.{has_expired}
 use Rattle.client_tokens.specs.TokenMap.{TokenMap, completed_at, purged}
 use Rattle.client_tokens.specs.TokenList.{TokenList, Lists, IsEachOnce, find_listed, keep_listed, complete_listed, free_listed, purge_listed}
-use Rattle.client_tokens.proofs.TokenMaps.{same_tokens}
+use Rattle.client_tokens.proofs.TokenMaps.{same_tokens, flipped, tied}
 use Rattle.client_tokens.proofs.Purges.{live_part, get-purged}
-
--- two tokens are one, as the map's words test it and as the list's do
-tied : (token other : List ℕ) → eq_by_cmp (slice_cmp nat_cmp) token other ≡ true → token ≡ other
-tied token other h = (bytes_eq-Decides token other).0 (sym (is_eq-slice_cmp token other) ∙ h)
-
-tells : (token other : List ℕ) → bytes_eq token other ≡ eq_by_cmp (slice_cmp nat_cmp) other token
-tells token other = sym (is_eq-slice_cmp token other) ∙ (eq_by_cmp_equiv nat_list_cmp_total).symm token other
 
 apart : (token other : List ℕ) → eq_by_cmp (slice_cmp nat_cmp) token other ≡ false → eq_by_cmp (slice_cmp nat_cmp) other token ≡ false
 apart token other h = (eq_by_cmp_equiv nat_list_cmp_total).symm other token ∙ h
@@ -161,12 +153,12 @@ module _ {A : Type 0} where
       w ∙ same refl ∙ ap (option_map done) (sym (same refl))
   complete_found true moment (Some k) was tokens token other e _ same w =
       get-insert nat_list_cmp_total tokens token (record k { completed = Some moment }) other
-      ∙ ap (λ b. cond b (Some (record k { completed = Some moment })) (get tokens other)) (sym (tells token other) ∙ e)
+      ∙ ap (λ b. cond b (Some (record k { completed = Some moment })) (get tokens other)) (sym (flipped token other) ∙ e)
       ∙ (let done : Kept A → Kept A = λ x. record x { completed = Some moment } in ap (option_map done) (sym (same refl)))
   complete_found false moment None was tokens token other e k same w = w ∙ unmoved was
   complete_found false moment (Some k) was tokens token other e _ same w =
       get-insert nat_list_cmp_total tokens token (record k { completed = Some moment }) other
-      ∙ ap (λ b. cond b (Some (record k { completed = Some moment })) (get tokens other)) (sym (tells token other) ∙ e)
+      ∙ ap (λ b. cond b (Some (record k { completed = Some moment })) (get tokens other)) (sym (flipped token other) ∙ e)
       ∙ w ∙ unmoved was
 
   get-completed_at : (tokens : TokenMap A) (token : List ℕ) (moment : ℕ) (other : List ℕ) → get (completed_at tokens token moment) other ≡ option_map (with_moment token moment other) (get tokens other)

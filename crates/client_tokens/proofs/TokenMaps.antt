@@ -23,7 +23,8 @@ use Rattle.client_tokens.specs.declared.kept.Kept.{Kept}
 use Rattle.client_tokens.specs.Heap.{token_at}
 use Rattle.client_tokens.specs.TokenMap.{TokenMap, token_map, completed_at}
 
-flipped : (a b : List ℕ) → bytes_eq a b ≡ eq_by_cmp (slice_cmp nat_cmp) b a
+-- two tokens are one, as the tests of the index map and of the finite map tell
+pub flipped : (a b : List ℕ) → bytes_eq a b ≡ eq_by_cmp (slice_cmp nat_cmp) b a
 flipped a b = sym (is_eq-slice_cmp a b) ∙ (eq_by_cmp_equiv nat_list_cmp_total).symm a b
 
 -- there is an element at each place within a list
@@ -32,6 +33,9 @@ is_some-slice_get xs i within = elim (slice_get_cases xs i).1 [ inl e ↦ ap is_
 
 pub none_within : {X : Type 0} (xs : List X) (i : ℕ) → i < length xs → None ≡ slice_get xs i → ⊥
 none_within xs i within none = true≢false (sym (is_some-slice_get xs i within) ∙ sym (ap is_some none))
+
+pub tied : (a b : List ℕ) → eq_by_cmp (slice_cmp nat_cmp) a b ≡ true → a ≡ b
+tied a b h = (bytes_eq-Decides a b).0 (sym (is_eq-slice_cmp a b) ∙ h)
 
 module _ {A : Type 0} where
   -- two maps that have the same at each token are one

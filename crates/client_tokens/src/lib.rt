@@ -6,7 +6,9 @@
 //! transaction was cancelled, and at each new call [purges](Tokens::purge) the tokens whose life is over.
 //!
 //! A contract sees [`Tokens`] as a finite map from the bytes of each kept token to what it is kept with, and each call
-//! says which map it leaves. How the tokens stand in memory shows nowhere.
+//! says which map it leaves. How the tokens stand in memory shows nowhere. For a layer that states what it keeps as
+//! lists, `specs/TokenList.antt` has the same calls on a list, and `proofs/TokenLists.antt` shows that a list which has
+//! the kept tokens has them again after each call.
 #![tactic(auto)]
 
 mod heap;

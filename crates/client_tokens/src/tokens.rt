@@ -19,13 +19,13 @@ use std::marker::Model;
 /// front, those that weren't completed behind. Nothing is stored beside them. With n tokens kept,
 ///
 /// - `find` takes constant expected time. So does `keep`, on average over the calls between which the map grows;
-/// - `complete` finds its entry, and moves it up past each one above it that was completed later, or wasn't. Where the
-///   moments of the calls never go back, as those of one clock, that is one or two exchanges on average, in whatever
-///   order the tokens are completed. At worst, where each moment is before all earlier ones, it is log2(n) exchanges;
-/// - `free` fills the gap with the last entry, which then moves up or down as far as it has to: about one exchange on
-///   average over the tokens, 2 log2(n) steps at worst;
-/// - `purge` looks at the front. Where nothing is to be removed that is all, however many tokens are kept, and each
-///   token that it removes costs at most 2 log2(n) steps, in whatever order the moments came.
+/// - `complete` finds its entry, and exchanges it with each one above it that was completed later, or wasn't. Where
+///   moments don't go back, as those of one clock, that is less than one exchange on average, in whatever order the
+///   tokens are completed. At worst, where each moment is before all earlier ones, it is log2(n) exchanges;
+/// - `free` fills the gap with the last entry, which then moves as far as it has to: about one exchange on average over
+///   the tokens, log2(n) at worst;
+/// - `purge` looks at the front. Where nothing is to be removed that is all, however many tokens are kept. Each token
+///   that it removes costs at most log2(n) exchanges, in whatever order the moments came.
 ///
 /// Room that the map took stays with it. The hash has no secret seed, so a client that picks tokens which collide can
 /// make the calls on those tokens slow.
