@@ -1,6 +1,6 @@
 use super::{
     Clock, Failed, ListClock, MemSink, MemSource, Sink, Source, StdSink, StdSource, StepClock,
-    SystemClock,
+    SystemClock, write_all,
 };
 use expr_lexer::{Bytes, Seq};
 use std::alloc::Global;
