@@ -62,12 +62,14 @@ impl Database {
         }
     }
 
+    // Whether a table has the name.
     fn has_table(&self, name: &Text) -> bool
         ensures { result ≡ has_table self.now name.now }
     {
         self.tables.iter().any(|table| table.name == *name)
     }
 
+    // The name is looked at before the number of tables.
     fn create_table(&mut self, schema: Schema, moment: u64) -> Result<Reply, NoMemory>
         ensures effect { IfOk result (λ reply. (self.new, reply)
             ≡ effect self.old (Request.CreateTable schema) moment) }

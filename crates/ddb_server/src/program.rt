@@ -56,6 +56,7 @@ fn refuse_words<K: Sink>(sink: &mut K) -> u8
     }
 }
 
+// The exit status of a session's end.
 fn exit_status(end: SessionEnd) -> u8
     ensures { result ≡ exit_status end }
 {

@@ -32,6 +32,7 @@ pub fn memory_error_body() -> &'static str
     r#"{"__type":"com.amazonaws.dynamodb.v20120810#InternalServerError","message":"Internal server error"}"#
 }
 
+// The body of a reply, as JSON.
 fn reply_json(alloc: Global, reply: &Reply) -> Result<Value, NoMemory>
     ensures { IfOk result (λ v. view v ≡ data_of reply.now) }
 {
@@ -67,6 +68,7 @@ fn reply_json(alloc: Global, reply: &Reply) -> Result<Value, NoMemory>
     }
 }
 
+// The body of an error.
 fn error_json(alloc: Global, kind: &str, message: &str) -> Result<Value, NoMemory>
     ensures { IfOk result (λ v. view v ≡ error_data kind.now message.now) }
 {

@@ -9,7 +9,8 @@ use std::alloc::{AllocError as NoMemory, Global};
 use std::str;
 use table_schema::{Definition, KeyKind, KeyNames, Schema, check_schema};
 
-/// The request that a message is, by its X-Amz-Target and its body.
+/// The request that a message is, by its X-Amz-Target and its body: CreateTable where the body has the form
+/// that is built and states a valid schema, and else [`Request::NotBuilt`]. API Reference: CreateTable.
 pub fn read(alloc: Global, target: Option<&[u8]>, body: &[u8]) -> Result<Request, NoMemory>
     ensures { IfOk result (Denotes (option_copied target.entry) body.now) }
 {
@@ -25,6 +26,7 @@ pub fn read(alloc: Global, target: Option<&[u8]>, body: &[u8]) -> Result<Request
     }
 }
 
+// Whether the operation is CreateTable.
 fn is_create_table(target: Option<&[u8]>) -> bool
     ensures { IsTrue result ↔ (option_copied target.entry ≡ Some create_table) }
 {
@@ -49,18 +51,21 @@ fn read_json(alloc: Global, body: &[u8]) -> Result<Option<Value>, NoMemory>
     }
 }
 
+// The text of a member.
 fn text_at<'a>(json: &'a Value, name: &str) -> Option<&'a str>
     ensures { option_copied result ≡ text_at name.now (view json.now) }
 {
     json.get(name).and_then(Value::as_str)
 }
 
+// Whether a member is this text.
 fn has_text(json: &Value, name: &str, word: &str) -> bool
     ensures { result ≡ has_text name.now word.now (view json.now) }
 {
     text_at(json, name).map_or(false, |text| text == word)
 }
 
+// Whether a member is absent or null.
 fn is_absent(json: &Value, name: &str) -> bool
     ensures { result ≡ is_absent name.now (view json.now) }
 {
@@ -91,6 +96,7 @@ fn attribute_where<'a>(element: &'a Value, name: &str, word: &str) -> Option<&'a
     }
 }
 
+// Whether the table is billed by request, and no member is there that is not built.
 fn is_simple(json: &Value) -> bool
     ensures { result ≡ is_simple (view json.now) }
 {
