@@ -1,6 +1,6 @@
 -- JSON values, as they are written and read.
 use Rattle.std.specs.Prelude.{ℕ, List, [], ◌∷◌}
-use Rattle.serde_json.specs.Data.{Data, array, object, Items, no_items, item, Members, no_members, put}
+use Rattle.serde_json.specs.Data.{Data, object, Members, no_members, put}
 
 -- these members put in one after another: an object keeps its members in the order of their names
 abbrev pub members_from : Members → List (List ℕ × Data) → Members

@@ -1,5 +1,5 @@
 -- How a table is described in a reply. API Reference: TableDescription.
-use Rattle.std.specs.Prelude.{ℕ, ◌/◌, List, [], ◌∷◌, ◌++◌, map, codes, Bool, true, false, if◌then◌else◌, Option, None, Some}
+use Rattle.std.specs.Prelude.{ℕ, ◌/◌, List, [], ◌∷◌, ◌++◌, map, codes, Bool, true, false, Option, None, Some}
 use Rattle.serde_json.specs.Data.{Data, array, number, string, unsigned}
 use Rattle.serde_json.specs.View.{items_of}
 use Rattle.table_schema.specs.declared.definition.Definition.{Definition}

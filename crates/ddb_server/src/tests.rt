@@ -70,62 +70,89 @@ fn stdio(rt: &HostRuntime, input: &str, piece: usize) -> Result<(u8, String), Fa
 }
 
 #[test]
-fn sessions(rt: HostRuntime) -> Result<(), Fail> {
+fn pieces(rt: HostRuntime) -> Result<(), Fail> {
     let alloc = rt.alloc();
     let twice = format!(in alloc; "{MUSIC}{MUSIC}")?;
     let both = format!(in alloc; "{MUSIC_MADE}{MUSIC_EXISTS}")?;
     for piece in [1, 2, 3, 7, 4_096] {
-        assert_eq!(rt; stdio(&rt, twice.as_str(), piece)?, (0, both.clone()?));
+        let (status, output) = stdio(&rt, twice.as_str(), piece)?;
+        assert_eq!(rt; status, 0);
+        assert_eq!(rt; output.as_str(), both.as_str());
     }
-    assert_eq!(rt; stdio(&rt, "", 1)?, (0, String::new(alloc)));
-    for end in 1..MUSIC.len() {
+    Ok(())
+}
+
+#[test]
+fn fronts(rt: HostRuntime) -> Result<(), Fail> {
+    for end in 0..MUSIC.len() {
         let front = MUSIC.get(..end).ok_or("ASCII")?;
-        assert_eq!(rt; stdio(&rt, front, 4_096)?, (5, String::new(alloc)));
+        let (status, output) = stdio(&rt, front, 4_096)?;
+        assert_eq!(rt; status, if end == 0 { 0 } else { 5 });
+        assert_eq!(rt; output.as_str(), "");
     }
-    let refused = format!(in alloc; "{MUSIC}GET / HTTP/1.1\r\n\r\n{MUSIC}")?;
-    let output = format!(in alloc; "{MUSIC_MADE}{REFUSED}")?;
-    assert_eq!(rt; stdio(&rt, refused.as_str(), 4_096)?, (0, output));
+    Ok(())
+}
+
+#[test]
+fn refusal(rt: HostRuntime) -> Result<(), Fail> {
+    let input = format!(in rt.alloc(); "{MUSIC}GET / HTTP/1.1\r\n\r\n{MUSIC}")?;
+    let (status, output) = stdio(&rt, input.as_str(), 4_096)?;
+    assert_eq!(rt; status, 0);
+    assert_eq!(rt;
+        output.as_str(),
+        format!(in rt.alloc(); "{MUSIC_MADE}{REFUSED}")?.as_str()
+    );
     Ok(())
 }
 
 #[test]
 fn last_message(rt: HostRuntime) -> Result<(), Fail> {
-    let alloc = rt.alloc();
     let (start, rest) = MUSIC.split_once("Host").ok_or("head")?;
-    let input = format!(in alloc; "{start}Connection: close\r\nHost{rest}{MUSIC}")?;
+    let input = format!(in rt.alloc(); "{start}Connection: close\r\nHost{rest}{MUSIC}")?;
     let (head, body) = MUSIC_MADE.split_once("\r\n\r\n").ok_or("head")?;
-    let output = format!(in alloc; "{head}\r\nConnection: close\r\n\r\n{body}")?;
-    assert_eq!(rt; stdio(&rt, input.as_str(), 4_096)?, (0, output));
+    let output = format!(in rt.alloc(); "{head}\r\nConnection: close\r\n\r\n{body}")?;
+    let (status, written) = stdio(&rt, input.as_str(), 4_096)?;
+    assert_eq!(rt; status, 0);
+    assert_eq!(rt; written.as_str(), output.as_str());
     Ok(())
+}
+
+// The status of `stdio` over one message and the bytes written, where these reads and these writes fail.
+fn failing(rt: &HostRuntime, reads: &[u64], writes: &[u64]) -> Result<(u8, Bytes), Fail> {
+    let alloc = rt.alloc();
+    let content = Bytes::copied(alloc, MUSIC.as_bytes())?;
+    let mut source = MemSource::make(content, 4_096, numbers(alloc, reads)?);
+    let mut sink = MemSink::make(alloc, 4_096, numbers(alloc, writes)?);
+    let mut clock = StepClock::make(0, 0);
+    let words = words(alloc, &["stdio"])?;
+    let status = run(rt, words.as_slice(), &mut source, &mut sink, &mut clock);
+    Ok((status, sink.into_parts().0))
 }
 
 #[test]
 fn faults(rt: HostRuntime) -> Result<(), Fail> {
-    let alloc = rt.alloc();
-    let stdio = words(alloc, &["stdio"])?;
-    let content = Bytes::copied(alloc, MUSIC.as_bytes())?;
-    let mut source = MemSource::make(content, 4_096, numbers(alloc, &[1])?);
-    let mut sink = MemSink::make(alloc, 4_096, Seq::new(alloc));
-    let mut clock = StepClock::make(0, 0);
-    assert_eq!(rt;
-        run(&rt, stdio.as_slice(), &mut source, &mut sink, &mut clock),
-        1
-    );
-    assert_eq!(rt; sink.into_parts().0.as_slice(), MUSIC_MADE.as_bytes());
-    let content = Bytes::copied(alloc, MUSIC.as_bytes())?;
-    let mut source = MemSource::make(content, 4_096, Seq::new(alloc));
-    let mut sink = MemSink::make(alloc, 4_096, numbers(alloc, &[0])?);
-    assert_eq!(rt;
-        run(&rt, stdio.as_slice(), &mut source, &mut sink, &mut clock),
-        3
-    );
-    assert!(rt; sink.into_parts().0.is_empty());
+    let (status, written) = failing(&rt, &[1], &[])?;
+    assert_eq!(rt; status, 1);
+    assert_eq!(rt; written.as_slice(), MUSIC_MADE.as_bytes());
+    let (status, written) = failing(&rt, &[], &[0])?;
+    assert_eq!(rt; status, 3);
+    assert!(rt; written.is_empty());
     Ok(())
+}
+
+// The status and the bytes written with these words, where these writes fail.
+fn refused_words(rt: &HostRuntime, from: &[&str], writes: &[u64]) -> Result<(u8, Bytes), Fail> {
+    let alloc = rt.alloc();
+    let mut source = MemSource::make(Bytes::from(Vec::new(alloc)), 1, Seq::new(alloc));
+    let mut sink = MemSink::make(alloc, 7, numbers(alloc, writes)?);
+    let mut clock = StepClock::make(0, 0);
+    let words = words(alloc, from)?;
+    let status = run(rt, words.as_slice(), &mut source, &mut sink, &mut clock);
+    Ok((status, sink.into_parts().0))
 }
 
 #[test]
 fn other_words(rt: HostRuntime) -> Result<(), Fail> {
-    let alloc = rt.alloc();
     let cases: [&[&str]; 5] = [
         &[],
         &["stdio", "--"],
@@ -134,21 +161,13 @@ fn other_words(rt: HostRuntime) -> Result<(), Fail> {
         &["help"],
     ];
     for case in cases {
-        let mut source = MemSource::make(Bytes::from(Vec::new(alloc)), 1, Seq::new(alloc));
-        let mut sink = MemSink::make(alloc, 7, Seq::new(alloc));
-        let mut clock = StepClock::make(0, 0);
-        let words = words(alloc, case)?;
-        assert_eq!(rt;
-            run(&rt, words.as_slice(), &mut source, &mut sink, &mut clock),
-            2
-        );
-        assert_eq!(rt; sink.into_parts().0.as_slice(), USAGE.as_bytes());
+        let (status, written) = refused_words(&rt, case, &[])?;
+        assert_eq!(rt; status, 2);
+        assert_eq!(rt; written.as_slice(), USAGE.as_bytes());
     }
-    let mut source = MemSource::make(Bytes::from(Vec::new(alloc)), 1, Seq::new(alloc));
-    let mut sink = MemSink::make(alloc, 7, numbers(alloc, &[1])?);
-    let mut clock = StepClock::make(0, 0);
-    assert_eq!(rt; run(&rt, &[], &mut source, &mut sink, &mut clock), 3);
-    assert_eq!(rt; sink.into_parts().0.as_slice(), b"usage: ".as_slice());
+    let (status, written) = refused_words(&rt, &[], &[1])?;
+    assert_eq!(rt; status, 3);
+    assert_eq!(rt; written.as_slice(), b"usage: ".as_slice());
     Ok(())
 }
 
@@ -171,75 +190,94 @@ fn create_table(alloc: Global, name: &str, more: &str) -> Result<String, Fail> {
 
 const TARGET: &str = "DynamoDB_20120810.CreateTable";
 
+// The status line of the reply to a first message with this target and this body.
+fn answer(rt: &HostRuntime, target: &str, body: &str) -> Result<String, Fail> {
+    let input = message(rt.alloc(), target, body)?;
+    let (_, output) = stdio(rt, input.as_str(), 4_096)?;
+    let (line, _) = output.as_str().split_once("\r\n").ok_or("line")?;
+    Ok(String::from_str(rt.alloc(), line)?)
+}
+
+// Names of tables with further members: forms that are built.
+const BUILT: [(&str, &str); 3] = [
+    ("abc", ""),
+    ("abc", ",\"ProvisionedThroughput\":null,\"Unknown\":[1]"),
+    ("a.b-C_0", ",\"Tags\":[]"),
+];
+
 #[test]
-fn forms(rt: HostRuntime) -> Result<(), Fail> {
-    let alloc = rt.alloc();
-    let built = [
-        create_table(alloc, "abc", "")?,
-        create_table(
-            alloc,
-            "abc",
-            ",\"ProvisionedThroughput\":null,\"Unknown\":[1]",
-        )?,
-        create_table(alloc, "a.b-C_0", ",\"Tags\":[]")?,
-    ];
-    for body in &built {
-        let input = message(alloc, TARGET, body.as_str())?;
-        let (status, output) = stdio(&rt, input.as_str(), 4_096)?;
-        assert_eq!(rt; status, 0);
-        assert!(rt; output.as_str().starts_with("HTTP/1.1 200 OK\r\n"));
+fn built_forms(rt: HostRuntime) -> Result<(), Fail> {
+    for (name, more) in BUILT {
+        let body = create_table(rt.alloc(), name, more)?;
+        assert_eq!(rt;
+            answer(&rt, TARGET, body.as_str())?.as_str(),
+            "HTTP/1.1 200 OK",
+            "{name} {more}"
+        );
     }
-    let other = [
-        create_table(alloc, "ab", "")?,
-        create_table(alloc, "a/b", "")?,
-        create_table(alloc, "abc", ",\"ProvisionedThroughput\":{}")?,
-        create_table(alloc, "abc", ",\"LocalSecondaryIndexes\":[]")?,
-        create_table(alloc, "abc", ",\"GlobalSecondaryIndexes\":[]")?,
-        create_table(alloc, "abc", ",\"BillingMode\":\"PROVISIONED\"")?,
-        create_table(alloc, "abc", ",\"TableName\":5")?,
-        create_table(alloc, "abc", ",\"KeySchema\":[]")?,
-        create_table(
-            alloc,
-            "abc",
-            ",\"KeySchema\":[{\"AttributeName\":\"id\",\"KeyType\":\"RANGE\"}]",
-        )?,
-        create_table(
-            alloc,
-            "abc",
-            ",\"KeySchema\":[{\"AttributeName\":\"ID\",\"KeyType\":\"HASH\"}]",
-        )?,
-        create_table(
-            alloc,
-            "abc",
-            ",\"AttributeDefinitions\":[{\"AttributeName\":\"id\",\"AttributeType\":\"N\"}]",
-        )?,
-        String::from_str(alloc, "")?,
-        String::from_str(alloc, "{")?,
-        String::from_str(alloc, "[]")?,
-    ];
-    for body in &other {
-        let input = message(alloc, TARGET, body.as_str())?;
-        assert_eq!(rt; stdio(&rt, input.as_str(), 4_096)?, (0, not_built(alloc)?));
-    }
-    for target in [
-        "",
-        "DynamoDB_20120810.createtable",
-        "DynamoDB_20120810.PutItem",
-    ] {
-        let input = message(alloc, target, built[0].as_str())?;
-        assert_eq!(rt; stdio(&rt, input.as_str(), 4_096)?, (0, not_built(alloc)?));
+    Ok(())
+}
+
+// The same of forms that are not built. Of a member that stands twice the last one counts.
+const NOT_BUILT: [(&str, &str); 11] = [
+    ("ab", ""),
+    ("a/b", ""),
+    ("abc", ",\"ProvisionedThroughput\":{}"),
+    ("abc", ",\"LocalSecondaryIndexes\":[]"),
+    ("abc", ",\"GlobalSecondaryIndexes\":[]"),
+    ("abc", ",\"BillingMode\":\"PROVISIONED\""),
+    ("abc", ",\"TableName\":5"),
+    ("abc", ",\"KeySchema\":[]"),
+    (
+        "abc",
+        ",\"KeySchema\":[{\"AttributeName\":\"id\",\"KeyType\":\"RANGE\"}]",
+    ),
+    (
+        "abc",
+        ",\"KeySchema\":[{\"AttributeName\":\"ID\",\"KeyType\":\"HASH\"}]",
+    ),
+    (
+        "abc",
+        ",\"AttributeDefinitions\":[{\"AttributeName\":\"id\",\"AttributeType\":\"N\"}]",
+    ),
+];
+
+#[test]
+fn other_forms(rt: HostRuntime) -> Result<(), Fail> {
+    for (name, more) in NOT_BUILT {
+        let body = create_table(rt.alloc(), name, more)?;
+        assert_eq!(rt;
+            answer(&rt, TARGET, body.as_str())?.as_str(),
+            "HTTP/1.1 400 Bad Request",
+            "{name} {more}"
+        );
     }
     Ok(())
 }
 
 // The reply to a first message of a form that is not built.
-fn not_built(alloc: Global) -> Result<String, Fail> {
-    Ok(String::from_str(
-        alloc,
-        "HTTP/1.1 400 Bad Request\r\nContent-Type: application/x-amz-json-1.0\r\nContent-Length: 84\r\n\
-        x-amzn-RequestId: 00000000000000000000000000000001\r\n\r\n\
-        {\"__type\":\"com.amazon.coral.validate#ValidationException\",\"message\":\"Not built yet\"}",
-    )?)
+const NOT_BUILT_REPLY: &str =
+    "HTTP/1.1 400 Bad Request\r\nContent-Type: application/x-amz-json-1.0\r\nContent-Length: 84\r\n\
+    x-amzn-RequestId: 00000000000000000000000000000001\r\n\r\n\
+    {\"__type\":\"com.amazon.coral.validate#ValidationException\",\"message\":\"Not built yet\"}";
+
+#[test]
+fn other_messages(rt: HostRuntime) -> Result<(), Fail> {
+    let cases = [
+        ("DynamoDB_20120810.createtable", "{}"),
+        ("DynamoDB_20120810.PutItem", "{}"),
+        (TARGET, ""),
+        (TARGET, "{"),
+        (TARGET, "[]"),
+        (TARGET, "\u{feff}{}"),
+    ];
+    for (target, body) in cases {
+        let input = message(rt.alloc(), target, body)?;
+        let (status, output) = stdio(&rt, input.as_str(), 4_096)?;
+        assert_eq!(rt; status, 0);
+        assert_eq!(rt; output.as_str(), NOT_BUILT_REPLY, "{target} {body}");
+    }
+    Ok(())
 }
 
 #[test]

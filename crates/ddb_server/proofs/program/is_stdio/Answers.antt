@@ -1,5 +1,4 @@
-use Rattle.std.proofs.Common.{◌≡◌, [], ◌∷◌, map, string_bytes, arith, rules}
-use Rattle.std.proofs.lemmas.Grind.{common_steps}
+use Rattle.std.proofs.Common.{◌≡◌, [], ◌∷◌, map, string_bytes, rules}
 use Rattle.ddb_server.proofs.OnlyWord.{only_word}
 use Rattle.ddb_server.proofs.program.is_stdio.Goals as goal
 
