@@ -1,0 +1,57 @@
+-- A sorted list whose neighbours are told apart is a set, and else has a repeat.
+use Rattle.std.proofs.Common.{◌≡◌, ◌≢◌, ℕ, zero, suc, ◌+◌, ◌<◌, ◌≤◌, Bool, true, false, cond, List, [], ◌∷◌, length, get_or, Ordering, Less, Equal, Greater, is_eq, refl, sym, ap, ◌∙◌, subst, arith, add-one}
+use Rattle.std.specs.Cmp.{IsTotalOrder}
+use Rattle.std.specs.Ordering.{is_lt, ordering_reverse}
+use Rattle.std.specs.List.{AllAdjacentBelow, IsAllAdjacentAnswer, count_by}
+use Rattle.std.specs.List.Sorted.{IsPermutation, IsSorted, IsStrictlySortedBy}
+use Rattle.std.proofs.lemmas.Cmp.{tied_itself}
+use Rattle.std.proofs.lemmas.List.Sorted.{sum_by-IsPermutation}
+use Rattle.std.proofs.lemmas.List.Sums.{sum_by-cons}
+use Rattle.std.proofs.lemmas.Map.Keys.{sorted_from_all_adjacent}
+use Rattle.attr_value.specs.Sets.{HasRepeat}
+
+is_less : (o : Ordering) → true ≡ is_lt o → o ≡ Less
+is_less Less e = refl
+is_less Equal e = cc
+is_less Greater e = cc
+
+module _ {A : Type 0} {cmp : A → A → Ordering} (laws : IsTotalOrder cmp) where
+  -- each element is below the next
+  pub strictly_sorted : (xs : List A) → IsAllAdjacentAnswer (λ x y b. b ≡ is_lt (cmp x y)) xs true → IsStrictlySortedBy cmp xs
+  unfolding IsStrictlySortedBy
+  strictly_sorted [] up = tt
+  strictly_sorted (x ∷ xs) up = sorted_from_all_adjacent laws (x ∷ xs) x (λ k h. is_less _ (up k x h))
+
+  tied : (o p : Ordering) → o ≡ ordering_reverse p → false ≡ is_lt o → is_lt p ≡ false → is_eq o ≡ true
+  tied Less p e below above = cc
+  tied Equal p e below above = refl
+  tied Greater Less e below above = cc
+  tied Greater Equal e below above = cc
+  tied Greater Greater e below above = cc
+
+  counted : (p : A → Bool) (x : A) (xs : List A) → count_by p (x ∷ xs) ≡ cond (p x) 1 0 + count_by p xs
+  counted p x xs = sum_by-cons (λ y. cond (p y) 1 0) x xs
+
+  one_counted : (b : Bool) → b ≡ true → ◌≡◌ {A = ℕ} (cond b 1 0) 1
+  one_counted true e = refl
+  one_counted false e = cc
+
+  -- two neighbours that pass a test are two elements that pass it
+  neighbours_counted : (p : A → Bool) (xs : List A) (k : ℕ) (d : A) → suc k < length xs → p (get_or xs k d) ≡ true → p (get_or xs (suc k) d) ≡ true → 2 ≤ count_by p xs
+  neighbours_counted p [] k d h first second = absurd (omega arith)
+  neighbours_counted p (x ∷ []) k d h first second = absurd (omega arith)
+  neighbours_counted p (x ∷ y ∷ xs) zero d h first second =
+      omega (arith, counted p x (y ∷ xs), counted p y xs, one_counted (p x) first, one_counted (p y) second)
+  neighbours_counted p (x ∷ y ∷ xs) (suc k) d h first second = omega (arith, counted p x (y ∷ xs), neighbours_counted p (y ∷ xs) k d (omega arith) first second)
+
+  -- a sorted list with neighbours that are not told apart has an element twice
+  pub repeated : (elements xs : List A) → IsPermutation elements xs → IsSorted cmp xs → IsAllAdjacentAnswer (λ x y b. b ≡ is_lt (cmp x y)) xs false → HasRepeat cmp elements
+  repeated elements [] moved sorted (k, within, tie) = absurd (omega arith)
+  repeated elements (first ∷ rest) moved sorted (k, within, tie) =
+      let xs : List A = first ∷ rest in
+      let x = get_or xs k first in
+      let next : k + 1 ≡ suc k = add-one k in
+      let same : is_eq (cmp x (get_or xs (suc k) first)) ≡ true =
+      tied _ _ (laws.antisymm x (get_or xs (suc k) first)) (subst (λ j. false ≡ is_lt (cmp x (get_or xs j first))) next (tie first)) (subst (λ j. is_lt (cmp (get_or xs j first) x) ≡ false) next (sorted k first (omega arith) within)) in
+      let twice = neighbours_counted (λ y. is_eq (cmp x y)) xs k first (omega arith) (ap is_eq (tied_itself laws x)) same in
+      (x, subst (λ n. 2 ≤ n) (sum_by-IsPermutation (λ y. cond (is_eq (cmp x y)) 1 0) elements xs moved) twice)

@@ -1,0 +1,166 @@
+-- A value, level by level, and a map of the code beside the attributes that it stands for.
+use Rattle.std.proofs.Common.{◌≡◌, ℕ, List, [], ◌∷◌, ◌++◌, Option, Some, None, option_map, Vec, BTreeMap, Global, Ordering, Less, Equal, Greater, nat_cmp, is_eq, cond, Bool, true, false, bytes_eq, Bor, zero, suc, ◌<◌, ◌≤◌, length, get_or, slice_set, remove, refl, sym, subst, ap, ◌∙◌, arith, rules}
+use Rattle.std.proofs.lemmas.Cmp.{nat_list_cmp_total}
+use Rattle.std.proofs.lemmas.Map.Text.{is_eq-slice_cmp}
+use Rattle.std.specs.Cmp.Lexicographic.{slice_cmp}
+use Rattle.std.specs.List.{AllByRecursion}
+use Rattle.std.specs.List.Sorted.{IsStrictlySortedBy}
+use Rattle.std.proofs.lemmas.Map.{lookup-none}
+use Rattle.std.proofs.lemmas.Map.Entries.{none_below_head}
+use Rattle.std.proofs.lemmas.Map.Keys.{sorted_tail}
+use Rattle.std.specs.Map.{keys_of, lookup, set_value, remove_entry}
+use Rattle.std.specs.Ordering.{match_ordering, ordering_reverse}
+use Rattle.std.specs.BTreeMap.{insert_entry, is_at}
+use Rattle.attr_value.specs.Tree as tree
+use Rattle.attr_value.specs.Tree.{Tree, Trees, Attributes, no_attributes, attribute}
+use Rattle.attr_value.specs.View.{tree_of, trees_of, attributes_of, attributes}
+use Rattle.attr_value.specs.Paths.{put, value_at, element_at, change, kept_attribute, change_at, kept_element, put_at, without_in}
+use Rattle.attr_value.specs.declared.value.Value.{Value, L, M, the_lemmas}
+use Rattle.attr_value.specs.declared.value.Item.{Item}
+
+abbrev pub Entry : Type 0
+Entry = List ℕ × Value
+
+-- the order of names
+abbrev pub name_cmp : List ℕ → List ℕ → Ordering
+name_cmp = slice_cmp nat_cmp
+
+pub tree_of-L : (v : Vec Value Global) → tree_of (L v) ≡ tree.list (trees_of v.items)
+tree_of-L v = search (rules, the_lemmas)
+
+pub tree_of-M : (i : Item) → tree_of (M i) ≡ tree.map (attributes i)
+tree_of-M i = search (rules, the_lemmas)
+
+attributes_of-match_ordering : (o : Ordering) (a b c : List Entry) → attributes_of (match_ordering o a b c) ≡ match_ordering o (attributes_of a) (attributes_of b) (attributes_of c)
+attributes_of-match_ordering Less a b c = refl
+attributes_of-match_ordering Equal a b c = refl
+attributes_of-match_ordering Greater a b c = refl
+
+pub attributes_of-insert_entry : (es : List Entry) (name : List ℕ) (v : Value) → attributes_of (insert_entry name_cmp es name v) ≡ put name (tree_of v) (attributes_of es)
+attributes_of-insert_entry [] name v = refl
+attributes_of-insert_entry (e ∷ es) name v = attributes_of-match_ordering (name_cmp name e.0) _ _ _ ∙ rw (attributes_of-insert_entry es name v)
+
+below_middle : (first : Entry) (es : List Entry) (e : Entry) (more : List Entry) → AllByRecursion (λ y. name_cmp first.0 y ≡ Less) (keys_of (es ++ e ∷ more)) → name_cmp first.0 e.0 ≡ Less
+below_middle first [] e more h = h.0
+below_middle first (x ∷ es) e more h = below_middle first es e more h.1
+
+-- a name that is above those before it goes last
+pub put_last : (done : List Entry) (e : Entry) (more : List Entry) → IsStrictlySortedBy name_cmp (keys_of (done ++ e ∷ more))
+    → put e.0 (tree_of e.1) (attributes_of done) ≡ attributes_of (done ++ e ∷ [])
+unfolding IsStrictlySortedBy
+put_last [] e more h = refl
+put_last (first ∷ done) e more h =
+    let above : name_cmp e.0 first.0 ≡ Greater = nat_list_cmp_total.antisymm e.0 first.0 ∙ ap ordering_reverse (below_middle first done e more h.0) in
+    rw above (ap (attribute first.0 (tree_of first.1)) (put_last done e more h.1))
+
+found_or : (a b : Bool) → a ≡ b → (v : Value) (rest : Option Value) (d : Option Tree) → option_map tree_of rest ≡ d → option_map tree_of (cond a (Some v) rest) ≡ cond b (Some (tree_of v)) d
+found_or true true same v rest d e = refl
+found_or true false same v rest d e = cc
+found_or false true same v rest d e = cc
+found_or false false same v rest d e = e
+
+pub value_at-lookup : (name : List ℕ) (es : List Entry) → option_map tree_of (lookup (is_at (name_cmp name)) es) ≡ value_at name (attributes_of es)
+value_at-lookup name [] = refl
+value_at-lookup name (e ∷ es) = found_or _ _ (is_eq-slice_cmp name e.0) e.1 _ _ (value_at-lookup name es)
+
+-- the tree behind what a look-up lends
+pub lent : (r : Option (Bor Value)) → option_map (λ x. tree_of x.now) r ≡ option_map tree_of (option_map (λ x. x.now) r)
+lent None = refl
+lent (Some x) = refl
+
+-- ---- lists
+
+pub element_within : (vs : List Value) (place : ℕ) (d : Value) → place < length vs → Some (tree_of (get_or vs place d)) ≡ element_at place (trees_of vs)
+element_within [] place d h = absurd (omega arith)
+element_within (v ∷ vs) zero d h = refl
+element_within (v ∷ vs) (suc place) d h = element_within vs place d (omega arith)
+
+pub element_past : (vs : List Value) (place : ℕ) → length vs ≤ place → None ≡ element_at place (trees_of vs)
+element_past [] place h = refl
+element_past (v ∷ vs) zero h = absurd (omega arith)
+element_past (v ∷ vs) (suc place) h = element_past vs place (omega arith)
+
+-- ---- attributes and elements that are changed
+
+both_taken : (a b : Bool) → a ≡ b → (xs ys : List Entry) (us vs : Attributes) → attributes_of xs ≡ us → attributes_of ys ≡ vs → attributes_of (cond a xs ys) ≡ cond b us vs
+both_taken true true same xs ys us vs p q = p
+both_taken true false same xs ys us vs p q = cc
+both_taken false true same xs ys us vs p q = cc
+both_taken false false same xs ys us vs p q = q
+
+-- an attribute that is taken out
+pub change-remove_entry : (name : List ℕ) (es : List Entry) → attributes_of (remove_entry (is_at (name_cmp name)) es) ≡ change name (without_in []) (attributes_of es)
+change-remove_entry name [] = refl
+change-remove_entry name (e ∷ es) = both_taken _ _ (is_eq-slice_cmp name e.0) es _ _ _ refl (ap (attribute e.0 (tree_of e.1)) (change-remove_entry name es))
+
+change_first : (a b : Bool) → a ≡ b → (stays : Tree → Option Tree) (w v : Value) → Some (tree_of w) ≡ stays (tree_of v) → (e : Entry) (es fs : List Entry) (found : Option Value) (rest : Attributes)
+    → cond a (Some e.1) found ≡ Some v → (found ≡ Some v → attributes_of fs ≡ rest)
+    → attributes_of (cond a ((e.0, w) ∷ es) (e ∷ fs)) ≡ cond b (kept_attribute e.0 (stays (tree_of e.1)) (attributes_of es)) (attribute e.0 (tree_of e.1) rest)
+change_first true true same stays w v kept e es fs found rest here later =
+    let first : e.1 ≡ v = cc in
+    ap (λ o. kept_attribute e.0 o (attributes_of es)) (kept ∙ ap (λ x. stays (tree_of x)) (sym first))
+change_first true false same stays w v kept e es fs found rest here later = cc
+change_first false true same stays w v kept e es fs found rest here later = cc
+change_first false false same stays w v kept e es fs found rest here later = ap (attribute e.0 (tree_of e.1)) (later here)
+
+-- an attribute that is there takes what stays of its value
+pub change-set_value : (name : List ℕ) (stays : Tree → Option Tree) (w v : Value) → Some (tree_of w) ≡ stays (tree_of v) → (es : List Entry) → lookup (is_at (name_cmp name)) es ≡ Some v
+    → attributes_of (set_value (is_at (name_cmp name)) es w) ≡ change name stays (attributes_of es)
+change-set_value name stays w v kept [] here = refl
+change-set_value name stays w v kept (e ∷ es) here = change_first _ _ (is_eq-slice_cmp name e.0) stays w v kept e es _ _ _ here (change-set_value name stays w v kept es)
+
+absent_first : (b : Bool) (stays : Tree → Option Tree) (name : List ℕ) (t : Tree) (rest : Attributes) (changed : Attributes) → (found : Option Tree) → cond b (Some t) found ≡ None → (found ≡ None → changed ≡ rest)
+    → cond b (kept_attribute name (stays t) rest) (attribute name t changed) ≡ attribute name t rest
+absent_first true stays name t rest changed found none later = cc
+absent_first false stays name t rest changed found none later = ap (attribute name t) (later none)
+
+-- where no attribute has the name, nothing changes
+pub change-absent : (name : List ℕ) (stays : Tree → Option Tree) (inside : Attributes) → value_at name inside ≡ None → change name stays inside ≡ inside
+change-absent name stays no_attributes none = refl
+change-absent name stays (attribute other t rest) none = absent_first (bytes_eq name other) stays other t rest _ _ none (change-absent name stays rest)
+
+some_is_none : {v : Value} → None ≡ Some v → ⊥
+some_is_none e = cc
+
+put_first : (o : Ordering) (name : List ℕ) (w : Value) (e : Entry) (es fs : List Entry) (rest : Attributes) → (o ≡ Less → ⊥) → (is_eq o ≡ false → attributes_of fs ≡ rest)
+    → attributes_of (cond (is_eq o) ((e.0, w) ∷ es) (e ∷ fs)) ≡ match_ordering o (attribute name (tree_of w) (attribute e.0 (tree_of e.1) (attributes_of es))) (attribute e.0 (tree_of w) (attributes_of es)) (attribute e.0 (tree_of e.1) rest)
+put_first Less name w e es fs rest not_below later = absurd (not_below refl)
+put_first Equal name w e es fs rest not_below later = refl
+put_first Greater name w e es fs rest not_below later = ap (attribute e.0 (tree_of e.1)) (later refl)
+
+-- an attribute that is there takes a new value in its place
+pub put-set_value : (name : List ℕ) (w v : Value) (es : List Entry) → IsStrictlySortedBy name_cmp (keys_of es) → lookup (is_at (name_cmp name)) es ≡ Some v
+    → attributes_of (set_value (is_at (name_cmp name)) es w) ≡ put name (tree_of w) (attributes_of es)
+put-set_value name w v [] up here = absurd (some_is_none here)
+put-set_value name w v (e ∷ es) up here =
+    put_first (name_cmp name e.0) name w e es _ _
+    (λ below. some_is_none (sym (lookup-none (is_at (name_cmp name)) (e ∷ es) (none_below_head nat_list_cmp_total name e es up below)) ∙ here))
+    (λ other. put-set_value name w v es (sorted_tail name_cmp e.0 (keys_of es) up) (subst (λ b. cond b (Some e.1) (lookup (is_at (name_cmp name)) es) ≡ Some v) other here))
+
+-- an element that is taken out
+pub change_at-remove : (vs : List Value) (place : ℕ) → place < length vs → trees_of (remove vs place) ≡ change_at place (without_in []) (trees_of vs)
+change_at-remove [] place h = absurd (omega arith)
+change_at-remove (v ∷ vs) zero h = refl
+change_at-remove (v ∷ vs) (suc place) h = ap (tree.tree (tree_of v)) (change_at-remove vs place (omega arith))
+
+-- an element that is there takes what stays of it
+pub change_at-set : (vs : List Value) (place : ℕ) (stays : Tree → Option Tree) (w d : Value) → place < length vs → Some (tree_of w) ≡ stays (tree_of (get_or vs place d)) → trees_of (slice_set vs place w) ≡ change_at place stays (trees_of vs)
+change_at-set [] place stays w d h kept = absurd (omega arith)
+change_at-set (v ∷ vs) zero stays w d h kept = ap (λ o. kept_element o (trees_of vs)) kept
+change_at-set (v ∷ vs) (suc place) stays w d h kept = ap (tree.tree (tree_of v)) (change_at-set vs place stays w d (omega arith) kept)
+
+pub change_at-past : (vs : List Value) (place : ℕ) (stays : Tree → Option Tree) → length vs ≤ place → trees_of vs ≡ change_at place stays (trees_of vs)
+change_at-past [] place stays h = refl
+change_at-past (v ∷ vs) zero stays h = absurd (omega arith)
+change_at-past (v ∷ vs) (suc place) stays h = ap (tree.tree (tree_of v)) (change_at-past vs place stays (omega arith))
+
+-- an element that is replaced, and one that is appended
+pub put_at-set : (vs : List Value) (place : ℕ) (w : Value) → place < length vs → trees_of (slice_set vs place w) ≡ put_at place (tree_of w) (trees_of vs)
+put_at-set [] place w h = absurd (omega arith)
+put_at-set (v ∷ vs) zero w h = refl
+put_at-set (v ∷ vs) (suc place) w h = ap (tree.tree (tree_of v)) (put_at-set vs place w (omega arith))
+
+pub put_at-push : (vs : List Value) (place : ℕ) (w : Value) → length vs ≤ place → trees_of (vs ++ w ∷ []) ≡ put_at place (tree_of w) (trees_of vs)
+put_at-push [] place w h = refl
+put_at-push (v ∷ vs) zero w h = absurd (omega arith)
+put_at-push (v ∷ vs) (suc place) w h = ap (tree.tree (tree_of v)) (put_at-push vs place w (omega arith))

@@ -1,0 +1,6 @@
+pub mod Tree
+pub mod View
+pub mod Equality
+pub mod Sets
+pub mod Sizes
+pub mod Paths

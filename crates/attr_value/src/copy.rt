@@ -1,0 +1,72 @@
+//! Copies, which may want memory.
+
+ghost use Rattle.std.specs.Prelude.{◌≡◌, IfOk};
+ghost use Rattle.attr_value.specs.View.{tree_of, trees_of, attributes};
+
+use crate::value::{Item, Value};
+use std::alloc::AllocError as NoMemory;
+use std::collections::BTreeMap;
+use std::default::Emptied;
+
+impl Value {
+    /// An equal value.
+    #[cycle(copy)]
+    pub fn try_clone(&self) -> Result<Value, NoMemory>
+        ensures { IfOk result (λ copy. tree_of copy ≡ tree_of self.now) }
+    {
+        match self {
+            Value::S(text) => Ok(Value::S(text.try_clone()?)),
+            Value::N(number) => Ok(Value::N(*number)),
+            Value::B(bytes) => Ok(Value::B(bytes.try_clone()?)),
+            Value::Bool(flag) => Ok(Value::Bool(*flag)),
+            Value::Null => Ok(Value::Null),
+            Value::L(list) => Ok(Value::L(copy_of_list(list)?)),
+            Value::M(item) => Ok(Value::M(item.try_clone()?)),
+            Value::Ss(texts) => Ok(Value::Ss(texts.try_clone()?)),
+            Value::Ns(numbers) => Ok(Value::Ns(numbers.try_clone()?)),
+            Value::Bs(binaries) => Ok(Value::Bs(binaries.try_clone()?)),
+        }
+    }
+}
+
+impl Item {
+    /// An equal item.
+    #[cycle(copy)]
+    pub fn try_clone(&self) -> Result<Item, NoMemory>
+        ensures { IfOk result (λ copy. attributes copy ≡ attributes self.now) }
+    {
+        let mut copies = BTreeMap::emptied(&self.attributes)?;
+        for (name, value) in self.attributes.iter() {
+            let name = name.try_clone()?;
+            drop(copies.insert(name, value.try_clone()?)?);
+        }
+        Ok(Item { attributes: copies })
+    }
+}
+
+#[cycle(copy)]
+fn copy_of_list(list: &Vec<Value>) -> Result<Vec<Value>, NoMemory>
+    ensures { IfOk result (λ copy. trees_of copy.items ≡ trees_of list.now.items) }
+{
+    let mut copies = Vec::with_capacity(*list.allocator(), list.len())?;
+    for value in list {
+        copies.push(value.try_clone()?)?;
+    }
+    Ok(copies)
+}
+
+impl Clone for Value {
+    ghost is_clone = { λ value copy. tree_of copy ≡ tree_of value };
+
+    fn clone(&self) -> Result<Value, NoMemory> {
+        self.try_clone()
+    }
+}
+
+impl Clone for Item {
+    ghost is_clone = { λ item copy. attributes copy ≡ attributes item };
+
+    fn clone(&self) -> Result<Item, NoMemory> {
+        self.try_clone()
+    }
+}
