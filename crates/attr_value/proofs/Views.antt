@@ -1,5 +1,5 @@
 -- A value, level by level, and a map of the code beside the attributes that it stands for.
-use Rattle.std.proofs.Common.{◌≡◌, ℕ, List, [], ◌∷◌, ◌++◌, Option, Some, None, option_map, Vec, BTreeMap, Global, Ordering, Less, Equal, Greater, nat_cmp, is_eq, cond, Bool, true, false, bytes_eq, Bor, zero, suc, ◌<◌, ◌≤◌, length, get_or, slice_set, remove, refl, sym, subst, ap, ◌∙◌, arith, rules}
+use Rattle.std.proofs.Common.{◌≡◌, ℕ, List, [], ◌∷◌, ◌++◌, Option, Some, None, option_map, option_and_then, is_some, Vec, BTreeMap, Global, Ordering, Less, Equal, Greater, nat_cmp, is_eq, cond, Bool, true, false, bytes_eq, Bor, zero, suc, ◌<◌, ◌≤◌, length, get_or, slice_set, remove, refl, sym, subst, ap, ◌∙◌, arith, rules}
 use Rattle.std.proofs.lemmas.Cmp.{nat_list_cmp_total}
 use Rattle.std.proofs.lemmas.Map.Text.{is_eq-slice_cmp}
 use Rattle.std.specs.Cmp.Lexicographic.{slice_cmp}
@@ -11,10 +11,11 @@ use Rattle.std.proofs.lemmas.Map.Keys.{sorted_tail}
 use Rattle.std.specs.Map.{keys_of, lookup, set_value, remove_entry}
 use Rattle.std.specs.Ordering.{match_ordering, ordering_reverse}
 use Rattle.std.specs.BTreeMap.{insert_entry, is_at}
+use Rattle.expr_lexer.specs.declared.path.Step.{Step}
 use Rattle.attr_value.specs.Tree as tree
 use Rattle.attr_value.specs.Tree.{Tree, Trees, Attributes, no_attributes, attribute}
 use Rattle.attr_value.specs.View.{tree_of, trees_of, attributes_of, attributes}
-use Rattle.attr_value.specs.Paths.{put, value_at, element_at, change, kept_attribute, change_at, kept_element, put_at, without_in}
+use Rattle.attr_value.specs.Paths.{put, value_at, element_at, change, kept_attribute, change_at, kept_element, put_at, without_in, found_in}
 use Rattle.attr_value.specs.declared.value.Value.{Value, L, M, the_lemmas}
 use Rattle.attr_value.specs.declared.value.Item.{Item}
 
@@ -164,3 +165,17 @@ pub put_at-push : (vs : List Value) (place : ℕ) (w : Value) → length vs ≤ 
 put_at-push [] place w h = refl
 put_at-push (v ∷ vs) zero w h = absurd (omega arith)
 put_at-push (v ∷ vs) (suc place) w h = ap (tree.tree (tree_of v)) (put_at-push vs place w (omega arith))
+
+-- ---- the rest of a path
+
+pub no_steps : (steps : List Step) → length steps ≡ 0 → steps ≡ []
+no_steps [] e = refl
+no_steps (step ∷ steps) e = absurd (omega arith)
+
+-- what no further step finds is what is there
+pub is_some_here : (there : Option Value) → is_some there ≡ is_some (option_and_then (found_in []) (option_map tree_of there))
+is_some_here None = refl
+is_some_here (Some v) = refl
+
+pub value_at_found : (name : List ℕ) (es : List Entry) (v : Option Value) → v ≡ lookup (is_at (name_cmp name)) es → value_at name (attributes_of es) ≡ option_map tree_of v
+value_at_found name es v here = sym (value_at-lookup name es) ∙ ap (option_map tree_of) (sym here)

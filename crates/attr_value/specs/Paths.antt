@@ -129,3 +129,11 @@ IsBadPathWhere P (Fault EmptySet) = ⊥
 IsBadPathWhere P (Fault DuplicateInSet) = ⊥
 IsBadPathWhere P (Fault TooDeep) = ⊥
 IsBadPathWhere P (Fault BadPath) = P
+
+-- memory was refused, or the fault is one of `set`
+abbrev pub IsPathEnd : ValueEnd → Type 0
+IsPathEnd NoMemory = ⊤
+IsPathEnd (Fault EmptySet) = ⊥
+IsPathEnd (Fault DuplicateInSet) = ⊥
+IsPathEnd (Fault TooDeep) = ⊤
+IsPathEnd (Fault BadPath) = ⊤

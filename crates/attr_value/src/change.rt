@@ -1,13 +1,47 @@
 //! Items with or without what a document path leads to.
 
-ghost use Rattle.std.specs.Prelude.{◌≡◌, ◌∷◌, ◌<◌, ◌≤◌, length, Option, Some, None, is_some, option_map, option_and_then, OnOk, OnErr, IfErr};
-ghost use Rattle.attr_value.specs.Paths.{found, found_in, child, value_at, element_at, without, without_in, change, change_at, changed};
+ghost use Rattle.std.specs.Prelude.{◌≡◌, ◌↔◌, ◌∷◌, ◌<◌, is_some, IsTrue, option_map, option_and_then, OnOk, OnErr, IfErr};
+ghost use Rattle.attr_value.specs.Paths.{found, found_in, child, value_at, element_at, with_value, with_in, without, without_in, put, put_at, change, change_at, changed, reach, IsPathEnd, IsBadPathWhere};
+ghost use Rattle.attr_value.specs.Sizes.{item_depth};
+ghost use Rattle.attr_value.specs.Tree as tree;
 ghost use Rattle.attr_value.specs.View.{tree_of, trees_of, attributes};
 
+use crate::fault::{ValueEnd, ValueFault};
 use crate::value::{Item, Value};
 use expr_lexer::{DocPath, Step, Text};
+use std::alloc::AllocError as NoMemory;
+
+/// How many lists and maps may lie in one another.
+pub const MAX_DEPTH: u32 = 32;
 
 impl Item {
+    /// Puts the value at the path: in place of what is there, at the end of a list where its place is past the end, or as
+    /// a new attribute.
+    ///
+    /// `TooDeep` where the value would lie, or hold lists and maps, deeper than [`MAX_DEPTH`], and else `BadPath` where
+    /// the path has no step, does not begin with a name, or its parent is not there or is of another kind. The item stays as
+    /// it was where there is no `Ok`, and the value is dropped then.
+    pub fn set(&mut self, path: &DocPath, value: Value) -> Result<(), ValueEnd>
+        ensures ok { OnOk result (with_value path.now.steps (attributes self.old) (tree_of value) ≡ Some (attributes self.new)) }
+        ensures too_deep { (result ≡ Err (ValueEnd.Fault ValueFault.TooDeep))
+            ↔ (MAX_DEPTH < reach path.now.steps (tree_of value)) }
+        ensures bad_path { result ≡ Err (ValueEnd.Fault ValueFault.BadPath)
+            → with_value path.now.steps (attributes self.old) (tree_of value) ≡ None }
+        ensures no_other { IfErr result IsPathEnd }
+        ensures unchanged { OnErr result (attributes self.new ≡ attributes self.old) }
+    {
+        if is_too_deep(path, &value) {
+            return Err(ValueEnd::Fault(ValueFault::TooDeep));
+        }
+        let Some((first, rest)) = path.steps.as_slice().split_first() else {
+            return Err(ValueEnd::Fault(ValueFault::BadPath));
+        };
+        match first {
+            Step::Name(name) => set_attribute(self, name, rest, value),
+            Step::Index(_) => Err(ValueEnd::Fault(ValueFault::BadPath)),
+        }
+    }
+
     /// Takes out what the path finds, and answers whether something was there. The elements of a list after one that goes
     /// close up. It takes no memory.
     pub fn remove(&mut self, path: &DocPath) -> bool
@@ -74,4 +108,91 @@ fn remove_element(list: &mut Vec<Value>, place: usize, rest: &[Step]) -> bool
         return true;
     };
     remove_below(&mut list[place], step, deeper)
+}
+
+/// Whether the value would lie, or hold lists and maps, deeper than an item may nest.
+fn is_too_deep(path: &DocPath, value: &Value) -> bool
+    ensures { IsTrue result ↔ (MAX_DEPTH < reach path.now.steps (tree_of value.now)) }
+{
+    let above = path.steps.len().saturating_sub(1);
+    above > MAX_DEPTH as usize || value.depth() > MAX_DEPTH - above as u32
+}
+
+/// Puts the value where the name and then the rest of the steps lead.
+#[cycle(set)]
+fn set_attribute(item: &mut Item, name: &Text, rest: &[Step], value: Value) -> Result<(), ValueEnd>
+    ensures ok { OnOk result (with_in (Step.Name name.now ∷ rest.now) (Some (tree.map (attributes item.old))) (tree_of value) ≡ Some (tree.map (attributes item.new))) }
+    ensures bad_path { IfErr result (IsBadPathWhere (with_in (Step.Name name.now ∷ rest.now) (Some (tree.map (attributes item.old))) (tree_of value) ≡ None)) }
+    ensures unchanged { OnErr result (attributes item.new ≡ attributes item.old) }
+{
+    let Some((step, deeper)) = rest.split_first() else {
+        put_attribute(item, name, value)?;
+        return Ok(());
+    };
+    match item.attributes.get_mut(name) {
+        Some(parent) => set_below(parent, step, deeper, value),
+        None => Err(ValueEnd::Fault(ValueFault::BadPath)),
+    }
+}
+
+/// Puts the value where the step and then the rest lead.
+#[cycle(set)]
+fn set_below(parent: &mut Value, step: &Step, rest: &[Step], value: Value) -> Result<(), ValueEnd>
+    ensures ok { OnOk result (with_in (step.now ∷ rest.now) (Some (tree_of parent.old)) (tree_of value) ≡ Some (tree_of parent.new)) }
+    ensures bad_path { IfErr result (IsBadPathWhere (with_in (step.now ∷ rest.now) (Some (tree_of parent.old)) (tree_of value) ≡ None)) }
+    ensures unchanged { OnErr result (tree_of parent.new ≡ tree_of parent.old) }
+{
+    match step {
+        Step::Name(name) => match parent {
+            Value::M(item) => set_attribute(item, name, rest, value),
+            _ => Err(ValueEnd::Fault(ValueFault::BadPath)),
+        },
+        Step::Index(place) => match parent {
+            Value::L(list) => set_element(list, *place as usize, rest, value),
+            _ => Err(ValueEnd::Fault(ValueFault::BadPath)),
+        },
+    }
+}
+
+/// Puts the value where the place and then the rest of the steps lead.
+#[cycle(set)]
+fn set_element(list: &mut Vec<Value>, place: usize, rest: &[Step], value: Value) -> Result<(), ValueEnd>
+    ensures ok { OnOk result (with_in (Step.Index place ∷ rest.now) (Some (tree.list (trees_of list.old.items))) (tree_of value) ≡ Some (tree.list (trees_of list.new.items))) }
+    ensures bad_path { IfErr result (IsBadPathWhere (with_in (Step.Index place ∷ rest.now) (Some (tree.list (trees_of list.old.items))) (tree_of value) ≡ None)) }
+    ensures unchanged { OnErr result (trees_of list.new.items ≡ trees_of list.old.items) }
+{
+    let Some((step, deeper)) = rest.split_first() else {
+        put_element(list, place, value)?;
+        return Ok(());
+    };
+    if list.len() <= place {
+        return Err(ValueEnd::Fault(ValueFault::BadPath));
+    }
+    set_below(&mut list[place], step, deeper, value)
+}
+
+/// Gives the attribute of this name the value, in its place where it is there.
+fn put_attribute(item: &mut Item, name: &Text, value: Value) -> Result<(), NoMemory>
+    ensures ok { OnOk result (attributes item.new ≡ put name.now (tree_of value) (attributes item.old)) }
+    ensures unchanged { OnErr result (attributes item.new ≡ attributes item.old) }
+{
+    if let Some(kept) = item.attributes.get_mut(name) {
+        *kept = value;
+        return Ok(());
+    }
+    item.attributes.insert(name.try_clone()?, value)?;
+    Ok(())
+}
+
+/// Puts the value at this place of the list, or at its end.
+fn put_element(list: &mut Vec<Value>, place: usize, value: Value) -> Result<(), NoMemory>
+    ensures ok { OnOk result (trees_of list.new.items ≡ put_at place (tree_of value) (trees_of list.old.items)) }
+    ensures unchanged { OnErr result (trees_of list.new.items ≡ trees_of list.old.items) }
+{
+    if place < list.len() {
+        list[place] = value;
+    } else {
+        list.push(value)?;
+    }
+    Ok(())
 }

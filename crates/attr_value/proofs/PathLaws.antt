@@ -1,0 +1,83 @@
+-- Putting a value below an attribute or an element, and below a whole path.
+use Rattle.std.proofs.Common.{◌≡◌, ℕ, zero, suc, ◌<◌, List, [], ◌∷◌, length, get_or, slice_set, Bool, true, false, cond, Option, Some, None, option_map, option_and_then, bytes_eq, refl, sym, ap, ◌∙◌, arith}
+use Rattle.std.specs.BTreeMap.{is_at}
+use Rattle.std.specs.Map.{lookup, set_value}
+use Rattle.expr_lexer.specs.declared.path.Step.{Step}
+use Rattle.expr_lexer.specs.declared.path.Step.TheVariants.{Name, Index}
+use Rattle.attr_value.specs.Tree as tree
+use Rattle.attr_value.specs.Tree.{Tree, map, list, Trees, Attributes, no_attributes, attribute}
+use Rattle.attr_value.specs.Paths.{value_at, put, change, element_at, put_at, placed, with_in, with_value, IsBadPathWhere}
+use Rattle.attr_value.specs.View.{tree_of, trees_of, attributes_of}
+use Rattle.attr_value.specs.declared.fault.ValueFault.TheVariants.{EmptySet, DuplicateInSet, TooDeep, BadPath}
+use Rattle.attr_value.specs.declared.fault.ValueEnd.{ValueEnd}
+use Rattle.attr_value.specs.declared.fault.ValueEnd.TheVariants.{Fault, NoMemory}
+use Rattle.attr_value.specs.declared.value.Value.{Value}
+use Rattle.attr_value.proofs.Views.{Entry, name_cmp, change-set_value}
+
+-- a value put below an attribute, and one that finds no place there
+pub with_attribute : (name : List ℕ) (rest : List Step) (inside : Attributes) (there : Option Tree) (below value : Tree) (result : Attributes)
+    → value_at name inside ≡ there → with_in rest there value ≡ Some below → put name below inside ≡ result → with_in (Name name ∷ rest) (Some (map inside)) value ≡ Some (map result)
+with_attribute name rest inside there below value result here fits is =
+    ap (λ o. option_and_then (λ t. placed (Name name) t (map inside)) (with_in rest o value)) here ∙ ap (option_and_then (λ t. placed (Name name) t (map inside))) fits ∙ ap (λ x. Some (map x)) is
+
+pub with_no_attribute : (name : List ℕ) (rest : List Step) (inside : Attributes) (there : Option Tree) (value : Tree)
+    → value_at name inside ≡ there → with_in rest there value ≡ None → with_in (Name name ∷ rest) (Some (map inside)) value ≡ None
+with_no_attribute name rest inside there value here none =
+    ap (λ o. option_and_then (λ t. placed (Name name) t (map inside)) (with_in rest o value)) here ∙ ap (option_and_then (λ t. placed (Name name) t (map inside))) none
+
+-- the same below an element
+pub with_element : (place : ℕ) (rest : List Step) (inside : Trees) (there : Option Tree) (below value : Tree) (result : Trees)
+    → element_at place inside ≡ there → with_in rest there value ≡ Some below → put_at place below inside ≡ result → with_in (Index place ∷ rest) (Some (list inside)) value ≡ Some (list result)
+with_element place rest inside there below value result here fits is =
+    ap (λ o. option_and_then (λ t. placed (Index place) t (list inside)) (with_in rest o value)) here ∙ ap (option_and_then (λ t. placed (Index place) t (list inside))) fits ∙ ap (λ x. Some (list x)) is
+
+pub with_no_element : (place : ℕ) (rest : List Step) (inside : Trees) (there : Option Tree) (value : Tree)
+    → element_at place inside ≡ there → with_in rest there value ≡ None → with_in (Index place ∷ rest) (Some (list inside)) value ≡ None
+with_no_element place rest inside there value here none =
+    ap (λ o. option_and_then (λ t. placed (Index place) t (list inside)) (with_in rest o value)) here ∙ ap (option_and_then (λ t. placed (Index place) t (list inside))) none
+
+-- a bad path stays one where more is known
+pub bad_path_weaker : {P Q : Type 0} → (P → Q) → (end : ValueEnd) → IsBadPathWhere P end → IsBadPathWhere Q end
+bad_path_weaker f NoMemory h = h
+bad_path_weaker f (Fault EmptySet) h = h
+bad_path_weaker f (Fault DuplicateInSet) h = h
+bad_path_weaker f (Fault TooDeep) h = h
+bad_path_weaker f (Fault BadPath) h = f h
+
+same_first : (b : Bool) (x y : Attributes) → y ≡ x → cond b x y ≡ x
+same_first true x y e = refl
+same_first false x y e = e
+
+change-same : (name : List ℕ) (inside : Attributes) → change name (λ t. Some t) inside ≡ inside
+change-same name no_attributes = refl
+change-same name (attribute other t rest) = same_first (bytes_eq name other) (attribute other t rest) _ (ap (attribute other t) (change-same name rest))
+
+-- an equal value in place of an attribute's changes nothing
+pub attribute_same : (name : List ℕ) (w v : Value) (es : List Entry) → tree_of w ≡ tree_of v → lookup (is_at (name_cmp name)) es ≡ Some v → attributes_of (set_value (is_at (name_cmp name)) es w) ≡ attributes_of es
+attribute_same name w v es same here = change-set_value name (λ t. Some t) w v (ap Some same) es here ∙ change-same name (attributes_of es)
+
+-- the same of an element
+pub element_same : (vs : List Value) (place : ℕ) (w d : Value) → place < length vs → tree_of w ≡ tree_of (get_or vs place d) → trees_of (slice_set vs place w) ≡ trees_of vs
+element_same [] place w d h same = absurd (omega arith)
+element_same (v ∷ vs) zero w d h same = ap (λ t. tree.tree t (trees_of vs)) same
+element_same (v ∷ vs) (suc place) w d h same = ap (tree.tree (tree_of v)) (element_same vs place w d (omega arith) same)
+
+-- ---- from an item on
+
+as_map : (name : List ℕ) (inside : Attributes) (below : Option Tree) → option_and_then (λ t. placed (Name name) t (map inside)) below ≡ option_map map (option_map (λ t. put name t inside) below)
+as_map name inside None = refl
+as_map name inside (Some t) = refl
+
+map_is : (o : Option Attributes) (result : Attributes) → option_map map o ≡ Some (map result) → o ≡ Some result
+map_is None result e = cc
+map_is (Some x) result e = cc
+
+map_is_none : (o : Option Attributes) → option_map map o ≡ None → o ≡ None
+map_is_none None e = refl
+map_is_none (Some x) e = cc
+
+pub item_with : (name : List ℕ) (rest : List Step) (inside : Attributes) (value : Tree) (result : Attributes) → with_in (Name name ∷ rest) (Some (map inside)) value ≡ Some (map result) → with_value (Name name ∷ rest) inside value ≡ Some result
+item_with name rest inside value result e = map_is _ result (sym (as_map name inside (with_in rest (value_at name inside) value)) ∙ e)
+
+pub item_with_none : (name : List ℕ) (rest : List Step) (inside : Attributes) (value : Tree) → with_in (Name name ∷ rest) (Some (map inside)) value ≡ None → with_value (Name name ∷ rest) inside value ≡ None
+item_with_none name rest inside value e = map_is_none _ (sym (as_map name inside (with_in rest (value_at name inside) value)) ∙ e)
