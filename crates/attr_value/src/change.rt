@@ -156,7 +156,12 @@ fn set_below(parent: &mut Value, step: &Step, rest: &[Step], value: Value) -> Re
 
 /// Puts the value where the place and then the rest of the steps lead.
 #[cycle(set)]
-fn set_element(list: &mut Vec<Value>, place: usize, rest: &[Step], value: Value) -> Result<(), ValueEnd>
+fn set_element(
+    list: &mut Vec<Value>,
+    place: usize,
+    rest: &[Step],
+    value: Value,
+) -> Result<(), ValueEnd>
     ensures ok { OnOk result (with_in (Step.Index place ∷ rest.now) (Some (tree.list (trees_of list.old.items))) (tree_of value) ≡ Some (tree.list (trees_of list.new.items))) }
     ensures bad_path { IfErr result (IsBadPathWhere (with_in (Step.Index place ∷ rest.now) (Some (tree.list (trees_of list.old.items))) (tree_of value) ≡ None)) }
     ensures unchanged { OnErr result (trees_of list.new.items ≡ trees_of list.old.items) }

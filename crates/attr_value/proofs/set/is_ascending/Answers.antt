@@ -14,6 +14,6 @@ returns-then-not-is_lt g c =
       i - 1,
       omega arith,
       λ d. let first : get_or xs (i - 1) d ≡ a = sym (get_or_read xs (i - 1) a (omega arith) c.index-elements-place.is d) in
-      let second : get_or xs (i - 1 + 1) d ≡ b = ap (λ k. get_or xs k d) next ∙ sym (get_or_read xs i b (omega arith) c.index-elements-place-in-loop-place.is d) in
-      rw (first, second) answered,
+          let second : get_or xs (i - 1 + 1) d ≡ b = ap (λ k. get_or xs k d) next ∙ sym (get_or_read xs i b (omega arith) c.index-elements-place-in-loop-place.is d) in
+          rw (first, second) answered,
     )
