@@ -1,7 +1,7 @@
 -- Sums that stop at a limit, and how a list or a map weighs without its first entry.
-use Rattle.std.proofs.Common.{◌≡◌, ℕ, ◌+◌, ◌<◌, ◌≤◌, List, [], ◌∷◌, length, min, max, drop, get_or, refl, arith}
-use Rattle.attr_value.specs.Sizes.{size, count, elements_size, attribute_count}
-use Rattle.attr_value.specs.View.{tree_of, trees_of, attributes_of}
+use Rattle.std.proofs.Common.{◌≡◌, ℕ, ◌+◌, List, [], ◌∷◌, length, min, max, refl, arith}
+use Rattle.attr_value.specs.Sizes.{count, elements_size, attribute_count}
+use Rattle.attr_value.specs.View.{trees_of, attributes_of}
 use Rattle.attr_value.specs.declared.value.Value.{Value}
 use Rattle.attr_value.proofs.Views.{Entry}
 

@@ -4,9 +4,8 @@ use Rattle.std.specs.Ordering.{nat_cmp, match_ordering}
 use Rattle.std.specs.Cmp.Lexicographic.{slice_cmp}
 use Rattle.expr_lexer.specs.declared.path.Step.{Step}
 use Rattle.expr_lexer.specs.declared.path.Step.TheVariants.{Name, Index}
-use Rattle.attr_value.specs.Tree.{Tree, text, number, binary, boolean, null, list, map, text_set, number_set, binary_set, Trees, no_trees, tree, Attributes, no_attributes, attribute}
+use Rattle.attr_value.specs.Tree.{Tree, list, map, Trees, no_trees, tree, Attributes, no_attributes, attribute}
 use Rattle.attr_value.specs.Sizes.{depth}
-use Rattle.attr_value.specs.declared.fault.ValueFault.{ValueFault}
 use Rattle.attr_value.specs.declared.fault.ValueFault.TheVariants.{EmptySet, DuplicateInSet, TooDeep, BadPath}
 use Rattle.attr_value.specs.declared.fault.ValueEnd.{ValueEnd}
 use Rattle.attr_value.specs.declared.fault.ValueEnd.TheVariants.{Fault, NoMemory}

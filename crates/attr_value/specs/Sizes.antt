@@ -1,5 +1,5 @@
 -- The size of values in bytes, and how deep they nest (DynamoDB Developer Guide, "Item sizes and formats").
-use Rattle.std.specs.Prelude.{ℕ, ◌+◌, ◌/◌, max, List, [], ◌∷◌, length, sum_by, ℤ, unsigned_abs}
+use Rattle.std.specs.Prelude.{ℕ, ◌+◌, ◌/◌, max, length, sum_by, ℤ, unsigned_abs}
 use Rattle.number38.specs.Digits.{significant_digits}
 use Rattle.attr_value.specs.Tree.{Tree, text, number, binary, boolean, null, list, map, text_set, number_set, binary_set, Trees, no_trees, tree, Attributes, no_attributes, attribute}
 

@@ -1,8 +1,7 @@
 //! Items with or without what a document path leads to.
 
-ghost use Rattle.std.specs.Prelude.{◌≡◌, ◌↔◌, ◌∷◌, ◌<◌, is_some, IsTrue, option_map, option_and_then, OnOk, OnErr, IfErr};
+ghost use Rattle.std.specs.Prelude.{◌≡◌, ◌↔◌, ◌∷◌, ◌<◌, is_some, IsTrue, option_and_then, OnOk, OnErr, IfErr};
 ghost use Rattle.attr_value.specs.Paths.{found, found_in, child, value_at, element_at, with_value, with_in, without, without_in, put, put_at, change, change_at, changed, reach, IsPathEnd, IsBadPathWhere};
-ghost use Rattle.attr_value.specs.Sizes.{item_depth};
 ghost use Rattle.attr_value.specs.Tree as tree;
 ghost use Rattle.attr_value.specs.View.{tree_of, trees_of, attributes};
 

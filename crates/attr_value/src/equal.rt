@@ -1,6 +1,6 @@
 //! Equality, and the order of texts, numbers and binaries. Neither takes memory.
 
-ghost use Rattle.std.specs.Prelude.{◌≡◌, ◌↔◌, IsTrue};
+ghost use Rattle.std.specs.Prelude.{◌≡◌};
 ghost use Rattle.attr_value.specs.Equality.{same, same_elements, same_attributes, order};
 ghost use Rattle.attr_value.specs.View.{tree_of, trees_of, attributes};
 

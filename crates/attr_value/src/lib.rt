@@ -6,7 +6,7 @@
 //! - [`string_set`], [`number_set`] and [`binary_set`] keep the elements in order, and refuse a set of none and a repeat.
 //! - [`Item::get`], [`Item::set`] and [`Item::remove`] are `found`, `with_value` and `without` of a document path: what
 //!   stands at the path, and the item with and without it. A refused `set` leaves the item as it was.
-//! - [`Item::set`] refuses exactly the values that would nest deeper than [`MAX_DEPTH`], so no item nests deeper.
+//! - [`Item::set`] refuses exactly the values that would lie, or hold lists and maps, deeper than [`MAX_DEPTH`].
 //! - `size` and `depth` are those of the Developer Guide ("Item sizes and formats"), in one walk.
 //! - `==` says whether two trees are equal, and [`Value::compare`] orders texts, numbers and binaries.
 //! - Only copies, [`Item::set`] and what makes a collection take memory.

@@ -1,4 +1,4 @@
-use Rattle.std.proofs.Common.{◌≡◌, [], ◌∷◌, Option, Some, None, is_some, option_map, option_and_then, refl, sym, ap, ◌∙◌, arith}
+use Rattle.std.proofs.Common.{◌≡◌, [], ◌∷◌, Some, None, is_some, option_and_then, sym, ap, ◌∙◌, arith}
 use Rattle.expr_lexer.specs.declared.path.Step.TheVariants.{Name}
 use Rattle.attr_value.specs.Paths.{found_in, child, value_at, element_at, without_in, change, change_at, changed}
 use Rattle.attr_value.specs.Tree.{map}

@@ -1,6 +1,6 @@
 use Rattle.std.proofs.Common.{sym, ap, ◌∙◌}
 use Rattle.attr_value.specs.Paths.{put}
-use Rattle.attr_value.specs.View.{tree_of, attributes, attributes_of}
+use Rattle.attr_value.specs.View.{tree_of, attributes_of}
 use Rattle.attr_value.proofs.Views.{put-set_value, attributes_of-insert_entry}
 use Rattle.attr_value.proofs.change.put_attribute.Goals as goal
 

@@ -1,4 +1,4 @@
-use Rattle.std.proofs.Common.{◌≡◌, ◌-◌, ◌^◌, length, min, sum_by, take}
+use Rattle.std.proofs.Common.{◌≡◌, ◌-◌, ◌^◌, min, sum_by, take}
 use Rattle.attr_value.specs.Sizes.{number_size}
 use Rattle.attr_value.proofs.size.numbers_bytes.Given as goal
 
