@@ -1,0 +1,4 @@
+pub mod Basics
+pub mod Histories
+pub mod Rule
+pub mod Draws
