@@ -5,3 +5,5 @@ pub mod Draws
 pub mod Looks
 pub mod Counts
 pub mod Leaves
+pub mod Seats
+pub mod Ends

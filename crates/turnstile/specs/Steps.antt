@@ -63,11 +63,29 @@ module _ {E : Type 0} (by : E → ℕ) (cell : E → Option ℕ) (legal : ℕ �
     pub still : (t : Ticket) → Has v.held t → at_cell cell t.cell front ≡ at_cell cell t.cell v.front
     pub strangers : (p : ℕ) → v.made ≤ p → own by p front ≡ []
 
+  -- a seat learned another's front
+  pub record Met (v : View E) (told : List E) (w : View E) : Type 0 where
+    pub numbers : w.numbers ≡ v.numbers
+    pub made : w.made ≡ v.made
+    pub drawn : w.drawn ≡ v.drawn
+    pub drew : w.drew ≡ v.drew
+    pub held : w.held ≡ v.held
+    pub front : w.front ≡ longer v.front told
+    pub learned : IsBeginning told w.front
+    pub grows : Grows v w.front
+
   module _ {C : Type 0} where
     pub record TakesTurn (stands : ℕ → ℕ → C → List E → Type 0) (m : Sat C E) (t : Ticket) (m' : Sat C E) : Type 0 where
       pub front : List E
       pub value : C
       pub after : m' ≡ (inside m.0 t front, (t.cell, Some value) ∷ m.1)
+      pub stands_for : stands n t.cell value (at_cell cell t.cell front)
+      pub grows : Grows m.0 front
+
+    -- the same after the value was taken out of its slot
+    pub record Taken (stands : ℕ → ℕ → C → List E → Type 0) (m : Sat C E) (t : Ticket) (value : C) (m' : Sat C E) : Type 0 where
+      pub front : List E
+      pub after : m' ≡ (inside m.0 t front, (t.cell, None) ∷ m.1)
       pub stands_for : stands n t.cell value (at_cell cell t.cell front)
       pub grows : Grows m.0 front
 

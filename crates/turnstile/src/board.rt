@@ -2,7 +2,8 @@
 ghost use Rattle.turnstile.specs.Steps.{Draws, Looks, Counts, Leaves, Learns, note, but_first, first_alone, joined, nobody};
 
 use crate::world::{EntryOf, World};
-use atomic_table::{Join, Play, Seat, Shared, Split, TableRule};
+use atomic_table::{Join, Play, Seat, Split, Table, TableRule};
+use std::alloc::Global;
 use std::collections::LinkedList;
 use std::marker::PhantomData;
 
@@ -48,7 +49,13 @@ impl<W: World> TableRule<Option<W::Cell>, View<W::Entry>, Size> for TurnRule<W> 
     ghost first = { λ k. starting k.passes };
 }
 
-pub type Board<W> = Shared<Option<<W as World>::Cell>, View<<W as World>::Entry>, Size, TurnRule<W>>;
+pub type Board<W> = Table<
+    Option<<W as World>::Cell>,
+    View<<W as World>::Entry>,
+    Size,
+    TurnRule<W>,
+    Global,
+>;
 
 pub type Place<W> = Seat<Option<<W as World>::Cell>, View<<W as World>::Entry>>;
 

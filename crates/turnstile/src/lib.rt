@@ -2,6 +2,7 @@
 #![tactic(auto)]
 
 mod board;
+mod steps;
 mod world;
 
 pub use world::{EntryOf, World};

@@ -32,7 +32,7 @@ pub trait World {
     ghost starts: { (n : ℕ) → legal n [] };
 
     // What others add in between takes no leave away.
-    ghost may_still: { (n : ℕ) (seen log : List Self.Entry) (e : Self.Entry) → legal n seen → legal n log → Trail by (by e) seen [] log → may n seen e → may n log e };
+    ghost may_still: { (n : ℕ) (seen log : List Self.Entry) (e : Self.Entry) → legal n log → Trail by (by e) seen [] log → may n seen e → may n log e };
 
     ghost goes_on: { (n : ℕ) (log seen : List Self.Entry) (e : Self.Entry) → legal n seen → legal n log → IsBeginning seen log → SeesAll by cell n seen log e → may n log e → answers n seen e → legal n (log ++ e ∷ []) };
 }
