@@ -173,3 +173,9 @@ module _ {C E : Type 0} (by : E → ℕ) (cell : E → Option ℕ) (stands : ℕ
       subst (λ (l : List (ℕ × Option C)). Rule record { words = set s.words ((1 + n) + t.cell) (t.number + 1); homes = put_back s.homes l; views = set s.views id (outside m.0) }) (sym has) (kept s r id m.0 at t ts held idle alone value right),
       refl,
     ))
+
+  pub leaves_at : (z : ℕ) → z ≡ n → (id : ℕ) (m : Me (Option C) (View E)) (t : Ticket) (ts : List Ticket) → m.0.held ≡ t ∷ ts → m.0.drew ≡ None → ((u : Ticket) → Has ts u → u.cell ≢ t.cell)
+      → (value : C) (carried : List (ℕ × Option C)) → m.1 ≡ (t.cell, Some value) ∷ carried → stands n t.cell value (at_cell cell t.cell m.0.front) → (i : ℕ) → i ≡ (1 + n) + t.cell
+      → Allows (Kept by cell stands legal z passes) n id m i (λ _. t.number + 1) (λ _. Leaves (step n i (t.number + 1) 0 none) m (t.number + 1))
+  leaves_at z same id m t ts held idle alone value carried has right i is = subst (λ (k : ℕ). Allows (Kept by cell stands legal z passes) n id m k (λ _. t.number + 1) (λ _. Leaves (step n k (t.number + 1) 0 none) m (t.number + 1))) (sym is)
+      (leaves z same id m t ts held idle alone value carried has right)

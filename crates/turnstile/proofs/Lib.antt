@@ -7,3 +7,4 @@ pub mod Counts
 pub mod Leaves
 pub mod Seats
 pub mod Ends
+pub mod Meets
