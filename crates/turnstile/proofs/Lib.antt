@@ -8,3 +8,4 @@ pub mod Leaves
 pub mod Seats
 pub mod Ends
 pub mod Meets
+pub mod Sound

@@ -2,7 +2,9 @@
 #![tactic(auto)]
 
 mod board;
+mod pass;
 mod steps;
 mod world;
 
+pub use pass::{Pass, Spent};
 pub use world::{EntryOf, World};
