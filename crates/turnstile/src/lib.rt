@@ -4,7 +4,11 @@
 mod board;
 mod pass;
 mod steps;
+mod turn;
+mod turnstile;
 mod world;
 
 pub use pass::{Pass, Spent};
+pub use turn::Turn;
+pub use turnstile::Turnstile;
 pub use world::{EntryOf, World};

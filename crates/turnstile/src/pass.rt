@@ -7,7 +7,7 @@ use crate::world::World;
 use std::marker::Model;
 
 /// How many units a pass has at first: 2^40.
-const MOST_UNITS: u64 = 1 << 40;
+pub(crate) const MOST_UNITS: u64 = 1 << 40;
 
 /// The budget of a pass is used up.
 #[derive(Clone, Copy, Debug, PartialEq, Eq)]

@@ -1,0 +1,110 @@
+ghost use Rattle.std.specs.Prelude.{◌≡◌, ◌+◌, ◌<◌, ◌≤◌, ℕ, List, true, false, Some, None, [], ◌∷◌, ◌++◌, length, slice_get, IfOk, IfErr, vec_capacity};
+ghost use Rattle.turnstile.specs.Histories.{own, at_cell, longer, Trail, Ends, MayStill};
+ghost use Rattle.turnstile.specs.Kept.{ticket};
+ghost use Rattle.turnstile.specs.Passes.{most_units};
+
+use crate::board::Board;
+use crate::pass::{MOST_UNITS, Pass, Spent};
+use crate::steps::{count, draw, meet, put_back, wait};
+use crate::turn::Turn;
+use crate::world::{EntryOf, World};
+use std::marker::Model;
+use std::sync::Wait;
+
+/// Cells behind turns, and one history of their entries.
+pub struct Turnstile<W: World> {
+    table: Board<W>,
+    // Room for the answer of `close`.
+    room: Vec<W::Cell>,
+}
+
+impl<W: World> Model for Turnstile<W> {
+    ghost use Rattle.std.specs.Prelude.{◌≡◌, ◌≤◌, ◌<◌, [], vec_capacity};
+    ghost use Rattle.turnstile.specs.Passes.{TurnstileView, IsSized};
+
+    ghost Value = { TurnstileView };
+
+    ghost view = { λ t. record { id = t.table.shared.table_id; passes = t.table.shared.key.passes } };
+
+    ghost invariant = { λ t. IsSized t.table.shared.table_id t.table.shared.key × (0 < t.table.shared.key.passes) × (t.room.items ≡ []) × (t.table.shared.table_id.slots ≤ vec_capacity t.room) };
+}
+
+impl<W: World> Turnstile<W> {
+    /// Takes one unit of the pass, waits for the turn of the cell and takes it.
+    pub fn enter<R: Wait>(&self, pass: &mut Pass<W>, rt: &R, cell: u32) -> Result<Turn<W>, Spent>
+        requires of { pass.old.turnstile ≡ self.now.id }
+        requires free { pass.old.turns ≡ [] }
+        requires cell { cell < self.now.id.slots }
+        ensures turn { IfOk result (λ t. (t.cell ≡ cell) × (t.counted ≡ false)) }
+        ensures pass { IfOk result (λ t. pass.new ≡ record pass.old { used = pass.old.used + 1; front = pass.new.front; turns = ticket cell t.number ∷ [] }) }
+        ensures stands { IfOk result (λ t. W.stands self.now.id.slots cell t.value (at_cell W.cell cell pass.new.front)) }
+        ensures trail { IfOk result (λ t. Trail W.by pass.old.number pass.old.front [] pass.new.front) }
+        ensures unit { IfOk result (λ t. pass.old.used < most_units) }
+        ensures spent { IfErr result (λ _. (pass.old.used ≡ most_units) × (pass.new ≡ pass.old)) }
+    {
+        if pass.used == MOST_UNITS {
+            return Err(Spent);
+        }
+        pass.used += 1;
+        let number = draw(&self.table, &mut pass.seat, cell as usize);
+        let value = wait(&self.table, &mut pass.seat, rt, cell as usize, number);
+        Ok(Turn {
+            cell,
+            number,
+            value,
+            counted: false,
+        })
+    }
+
+    /// Counts the entry that the caller picks.
+    pub fn commit_entry<E: EntryOf<W, W::Entry>>(&self, pass: &mut Pass<W>, turn: &mut Turn<W>)
+        requires of { pass.old.turnstile ≡ self.now.id }
+        requires turn { pass.old.turns ≡ ticket turn.old.cell turn.old.number ∷ [] }
+        requires once { turn.old.counted ≡ false }
+        requires entry { (W.by E.entry ≡ pass.old.number) × (W.moment E.entry ≡ pass.old.moment) × (W.cell E.entry ≡ Some turn.old.cell) }
+        requires may { MayStill W.by (W.may self.now.id.slots) pass.old.front E.entry }
+        requires answers { W.answers self.now.id.slots pass.old.front E.entry }
+        requires stands { W.stands self.now.id.slots turn.old.cell turn.old.value (at_cell W.cell turn.old.cell pass.old.front ++ E.entry ∷ []) }
+        ensures pass { pass.new ≡ record pass.old { front = pass.new.front } }
+        ensures turn { turn.new ≡ record turn.old { counted = true } }
+        ensures ends { Ends W.by pass.old.number pass.old.front E.entry pass.new.front }
+        ensures stands { W.stands self.now.id.slots turn.new.cell turn.new.value (at_cell W.cell turn.new.cell pass.new.front) }
+    {
+        count::<W, E>(&self.table, &mut pass.seat);
+        turn.counted = true;
+    }
+
+    /// Puts the value back and lets the next one in.
+    pub fn leave<R: Wait>(&self, pass: &mut Pass<W>, _rt: &R, turn: Turn<W>)
+        requires of { pass.old.turnstile ≡ self.now.id }
+        requires turn { pass.old.turns ≡ ticket turn.cell turn.number ∷ [] }
+        requires stands { W.stands self.now.id.slots turn.cell turn.value (at_cell W.cell turn.cell pass.old.front) }
+        ensures { pass.new ≡ record pass.old { turns = [] } }
+    {
+        let Turn {
+            cell,
+            number,
+            value,
+            counted: _,
+        } = turn;
+        put_back(
+            &self.table,
+            &mut pass.seat,
+            cell as usize,
+            number,
+            value,
+        );
+    }
+
+    /// Lets each of the two passes see all that the other had seen.
+    pub fn meet(&self, pass: &mut Pass<W>, other: &mut Pass<W>)
+        requires of { (pass.old.turnstile ≡ self.now.id) × (other.old.turnstile ≡ self.now.id) }
+        requires free { (pass.old.turns ≡ []) × (other.old.turns ≡ []) }
+        ensures pass { pass.new ≡ record pass.old { front = longer pass.old.front other.old.front } }
+        ensures other { other.new ≡ record other.old { front = pass.new.front } }
+        ensures trail { Trail W.by pass.old.number pass.old.front [] pass.new.front }
+        ensures other_trail { Trail W.by other.old.number other.old.front [] pass.new.front }
+    {
+        meet(&self.table, &mut pass.seat, &mut other.seat);
+    }
+}
