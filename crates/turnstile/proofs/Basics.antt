@@ -1,5 +1,6 @@
 -- Lists by their places, and sums over views.
-use Rattle.std.proofs.Common.{◌≡◌, ◌≢◌, ◌⊎◌, ℕ, zero, suc, ◌+◌, ◌*◌, ◌<◌, ◌≤◌, List, [], ◌∷◌, ◌++◌, length, set, Option, Some, None, refl, sym, ap, ◌∙◌, subst, inl, inr, ⊎_elim, arith, add_assoc}
+use Rattle.std.proofs.Common.{◌≡◌, ◌≢◌, ◌⊎◌, ℕ, zero, suc, ◌+◌, ◌-◌, ◌*◌, ◌<◌, ◌≤◌, List, [], ◌∷◌, ◌++◌, length, set, Option, Some, None, refl, sym, ap, ◌∙◌, subst, inl, inr, ⊎_elim, arith, add_assoc}
+use Rattle.std.specs.Prelude.{slice_get, slice_index, take, replicate}
 use mathlib.Core.Option.{some, some-injective, some-ne-none}
 use lib.ListN.{get_elem?}
 use Rattle.turnstile.specs.Histories.{Has}
@@ -74,3 +75,50 @@ upwards_has k (suc (suc m)) p low high (no ne) = inr (upwards_has (suc k) (suc m
 pub length-upwards : (k m : ℕ) → length (upwards k m) ≡ m
 length-upwards k zero = refl
 length-upwards k (suc m) = ap suc (length-upwards (suc k) m)
+
+-- the first of what is left, and the rest
+pub upwards_step : (k n : ℕ) → k < n → upwards k (n - k) ≡ k ∷ upwards (k + 1) (n - (k + 1))
+upwards_step k n h = let e : n - k ≡ suc (n - (k + 1)) = omega arith in let f : suc k ≡ k + 1 = omega arith in ap (upwards k) e ∙ (λ i. k ∷ upwards (f i) (n - (k + 1)))
+
+module _ {A : Type 0} where
+  pub get_here : (xs : List A) (i : ℕ) (x : A) → get_elem? xs i ≡ some x → slice_get xs i ≡ Some x
+  get_here [] i x e = absurd (some-ne-none x (sym e))
+  get_here (y ∷ ys) zero x e = ap Some (some-injective y x e)
+  get_here (y ∷ ys) (suc i) x e = get_here ys i x e
+
+  pub here_get : (xs : List A) (i : ℕ) (x : A) → slice_get xs i ≡ Some x → get_elem? xs i ≡ some x
+  here_get [] i x e = absurd (Some-ne-None x (sym e))
+  here_get (y ∷ ys) zero x e = ap some (Some-injective y x e)
+  here_get (y ∷ ys) (suc i) x e = here_get ys i x e
+
+  pub below_get : (xs : List A) (i : ℕ) (x : A) → slice_get xs i ≡ Some x → i < length xs
+  below_get xs i x e = below_of_there xs i x (here_get xs i x e)
+
+  pub get_below : (xs : List A) (i : ℕ) → i < length xs → (x : A) × (slice_get xs i ≡ Some x)
+  get_below [] i h = absurd (omega arith)
+  get_below (y ∷ ys) zero h = (y, refl)
+  get_below (y ∷ ys) (suc i) h = get_below ys i (omega arith)
+
+  -- an element of a list with one more at its end
+  pub get_push : (xs : List A) (y x : A) (i : ℕ) → slice_get (xs ++ y ∷ []) i ≡ Some x → (slice_get xs i ≡ Some x) ⊎ ((i ≡ length xs) × (y ≡ x))
+  get_push xs y x i e = ⊎_elim (λ h. inl (get_here xs i x h)) (λ h. inr h) (at_push xs y x i (here_get (xs ++ y ∷ []) i x e))
+
+  pub get_front : (xs ys : List A) (i : ℕ) (x : A) → slice_get xs i ≡ Some x → slice_get (xs ++ ys) i ≡ Some x
+  get_front [] ys i x e = absurd (Some-ne-None x (sym e))
+  get_front (z ∷ zs) ys zero x e = e
+  get_front (z ∷ zs) ys (suc i) x e = get_front zs ys i x e
+
+  pub get_last : (xs : List A) (y : A) → slice_get (xs ++ y ∷ []) (length xs) ≡ Some y
+  get_last [] y = refl
+  get_last (x ∷ xs) y = get_last xs y
+
+pub length-blank : (k m : ℕ) → k ≤ m → length (take k (replicate {A = ℕ} m 0)) ≡ k
+length-blank zero m h = refl
+length-blank (suc k) zero h = absurd (omega arith)
+length-blank (suc k) (suc m) h = ap suc (length-blank k m (omega arith))
+
+pub blank_take : (k m i : ℕ) → slice_index (take k (replicate m 0)) i ≡ 0
+blank_take zero m i = refl
+blank_take (suc k) zero i = refl
+blank_take (suc k) (suc m) zero = refl
+blank_take (suc k) (suc m) (suc i) = blank_take k m i

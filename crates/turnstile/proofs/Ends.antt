@@ -111,11 +111,11 @@ module _ {C E : Type 0} (by : E → ℕ) (cell : E → Option ℕ) (stands : ℕ
 
   pub closes : (z : ℕ) → z ≡ n → (words : List ℕ) (xs : List (Option C)) (id : ℕ) (v : View E) → Final (Seen (Kept by cell stands legal z passes) id v) words xs
       → ((p : ℕ) → p < passes → Has v.numbers p) → v.drew ≡ None → v.held ≡ []
-      → (log : List E) × legal n log × IsBeginning v.front log × ((p : ℕ) → p < passes → own by p log ≡ own by p v.front) × EachStands xs log
+      → (log : List E) × legal n log × IsBeginning v.front log × ((p : ℕ) → Has v.numbers p → own by p log ≡ own by p v.front) × EachStands xs log
   closes z same words xs id v final all drew held =
       let f = subst (λ (y : ℕ). Final (Seen (Kept by cell stands legal y passes) id v) words xs) same final in
       let s = f.0 in
       let r : Rule s = f.1.0 in
       let at : get_elem? s.views id ≡ some v = f.1.1 in
       let h = r.seats id v at in
-      (r.log, r.is_legal, h.front, (λ p lt. (h.numbers p (all p lt)).seen), λ c lt. let b = all_home s r id v at all drew held c lt in (b.value, f.4 c (Some b.value) b.there, b.stands_for))
+      (r.log, r.is_legal, h.front, (λ p m. (h.numbers p m).seen), λ c lt. let b = all_home s r id v at all drew held c lt in (b.value, f.4 c (Some b.value) b.there, b.stands_for))

@@ -7,7 +7,10 @@ use Rattle.turnstile.specs.declared.board.View.{View}
 use Rattle.turnstile.specs.Histories.{Has, IsBeginning, longer, is_of, own, at_cell, Trail, Ends, IsTimely}
 use Rattle.turnstile.specs.Kept.{ticket, most_drawn}
 use Rattle.turnstile.specs.Steps.{Sat, waiting, inside, fronted, outside, Grows, Taken, Counts, Met}
-use Rattle.turnstile.specs.Passes.{most_units, emptied, IsSound}
+use Rattle.std.proofs.Common.{◌-◌, take}
+use Rattle.turnstile.specs.Steps.{but_first, first_alone}
+use Rattle.turnstile.specs.Passes.{PassView, most_units, emptied, IsSound, dealing, first_pass, first_passes}
+use Rattle.turnstile.proofs.Basics.{upwards_step}
 use Rattle.turnstile.proofs.Histories.{trail_none, own_mine, timely_same, timely_push, filter_take, filter_skip}
 
 Has_drop : {A : Type 0} (xs : List A) (a : A) → Has (drop 1 xs) a → Has xs a
@@ -156,3 +159,31 @@ module _ {C E : Type 0} (by : E → ℕ) (moment : E → ℕ) (legal : ℕ → L
     strangers = h.strangers;
     timely = λ e i. let t = h.timely e i in omega arith;
   }
+
+-- a pass as it is dealt out
+pub dealing_next : {E : Type 0} (n k : ℕ) → k < n → but_first (dealing {E = E} n k) ≡ dealing n (k + 1)
+dealing_next {E} n k h = ap (λ (l : List ℕ). let v : View E = record { numbers = drop 1 l; made = n; front = []; told = []; drawn = 0; drew = None; held = [] } in v) (upwards_step k n h)
+
+pub dealt_sound : {C E : Type 0} (by moment : E → ℕ) (legal : ℕ → List E → Type 0) (z : TableId) (m : Me (Option C) (View E)) (v : View E) (n k : ℕ) → k < n → legal z.slots [] → v ≡ dealing n k → m ≡ (first_alone v, []) → IsSound by moment legal z m k 0 0
+dealt_sound {C} {E} by moment legal z m v n k h starts is now =
+    let e : m ≡ (first_alone (dealing n k), []) = now ∙ ap (λ (u : View E). let q : Me (Option C) (View E) = (first_alone u, []) in q) is in
+    subst (λ (q : Me (Option C) (View E)). IsSound by moment legal z q k 0 0) (sym e) record {
+      numbered = ap (take 1) (upwards_step k n h);
+      budget = omega arith;
+      few = omega arith;
+      idle = refl;
+      hands = refl;
+      turns = λ t i. absurd i;
+      lawful = starts;
+      strangers = λ p made. refl;
+      timely = λ x i. absurd i;
+    }
+
+pub dealt_is : {C E : Type 0} (z t : TableId) (m : Me (Option C) (View E)) (v : View E) (n k : ℕ) → k < n → t ≡ z → v ≡ dealing n k → m ≡ (first_alone v, [])
+    → ◌≡◌ {A = PassView E} record { turnstile = t; passes = m.0.made; number = k; moment = 0; used = 0; front = m.0.front; turns = m.0.held } (first_pass z n k)
+dealt_is {C} {E} z t m v n k h e is now =
+    let f : m ≡ (first_alone (dealing n k), []) = now ∙ ap (λ (u : View E). let q : Me (Option C) (View E) = (first_alone u, []) in q) is in
+    λ j. record { turnstile = e j; passes = (f j).0.made; number = k; moment = 0; used = 0; front = (f j).0.front; turns = (f j).0.held }
+
+pub first_passes_step : {E : Type 0} (z : TableId) (n k : ℕ) → first_passes {E = E} z n k ++ first_pass z n k ∷ [] ≡ first_passes z n (k + 1)
+first_passes_step {E} z n k = let e : suc k ≡ k + 1 = omega arith in ap (first_passes {E = E} z n) e

@@ -2,4 +2,5 @@ pub mod Histories
 pub mod Kept
 pub mod Steps
 pub mod Passes
+pub mod Values
 pub mod Lending

@@ -8,6 +8,7 @@ use std::collections::LinkedList;
 use std::marker::PhantomData;
 
 /// How many cells there are, and how many passes.
+#[derive(Clone, Copy)]
 pub struct Size {
     pub cells: u64,
     pub passes: u64,

@@ -2,6 +2,7 @@
 #![tactic(auto)]
 
 mod board;
+mod life;
 mod pass;
 mod steps;
 mod turn;

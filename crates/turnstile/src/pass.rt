@@ -1,6 +1,6 @@
-ghost use Rattle.std.specs.Prelude.{◌≡◌, ◌+◌, ◌<◌, ◌≤◌, ℕ, max, [], IfOk, IfErr};
+ghost use Rattle.std.specs.Prelude.{◌≡◌, ◌+◌, ◌<◌, ◌≤◌, ℕ, max, [], ◌∷◌, IfOk, IfErr};
 ghost use Rattle.turnstile.specs.Histories.{own, IsTimely};
-ghost use Rattle.turnstile.specs.Passes.{most_units};
+ghost use Rattle.turnstile.specs.Passes.{most_units, IsFree};
 
 use crate::board::Place;
 use crate::world::World;
@@ -82,6 +82,21 @@ impl<W: World> Pass<W> {
         ensures budget { self.now.used ≤ most_units }
     {
         let _ = &self.used;
+    }
+}
+
+impl<W: World> Pass<W> {
+    pub(crate) fn into_seat(self) -> Place<W>
+        ensures seat { (result.table_id ≡ self.turnstile) × (result.me.0.front ≡ self.front) × (result.me.0.numbers ≡ self.number ∷ []) }
+        ensures free { self.turns ≡ [] → IsFree result.me }
+    {
+        let Self {
+            seat,
+            number: _,
+            moment: _,
+            used: _,
+        } = self;
+        seat
     }
 }
 

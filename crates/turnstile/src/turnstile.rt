@@ -1,13 +1,16 @@
 ghost use Rattle.std.specs.Prelude.{◌≡◌, ◌+◌, ◌<◌, ◌≤◌, ℕ, List, true, false, Some, None, [], ◌∷◌, ◌++◌, length, slice_get, IfOk, IfErr, vec_capacity};
 ghost use Rattle.turnstile.specs.Histories.{own, at_cell, longer, Trail, Ends, MayStill};
 ghost use Rattle.turnstile.specs.Kept.{ticket};
-ghost use Rattle.turnstile.specs.Passes.{most_units};
+ghost use Rattle.turnstile.specs.Passes.{most_units, first_passes, EachStands, IsOneHistory};
 
-use crate::board::Board;
+use crate::board::{Board, Size};
+use crate::life::{deal, fill, gather, open, take_values};
 use crate::pass::{MOST_UNITS, Pass, Spent};
 use crate::steps::{count, draw, meet, put_back, wait};
 use crate::turn::Turn;
 use crate::world::{EntryOf, World};
+use expr_lexer::Seq;
+use std::alloc::{AllocError as NoMemory, Global};
 use std::marker::Model;
 use std::sync::Wait;
 
@@ -30,6 +33,31 @@ impl<W: World> Model for Turnstile<W> {
 }
 
 impl<W: World> Turnstile<W> {
+    /// Puts 1 to 65 cells behind turns, and makes 1 to 64 passes, numbered from 0.
+    pub fn make(
+        alloc: Global,
+        cells: Seq<W::Cell>,
+        passes: u32,
+    ) -> Result<(Turnstile<W>, Seq<Pass<W>>), NoMemory>
+        requires cells { (1 ≤ length cells) × (length cells ≤ 65) }
+        requires passes { (1 ≤ passes) × (passes ≤ 64) }
+        requires stand { EachStands W.stands (length cells) cells (λ _. []) }
+        ensures turnstile { IfOk result (λ made. (made.0.id.slots ≡ length cells) × (made.0.passes ≡ passes)) }
+        ensures passes { IfOk result (λ made. made.1 ≡ first_passes made.0.id passes passes) }
+    {
+        let cells: Vec<W::Cell> = cells.into();
+        let room = Vec::with_capacity(alloc, cells.len())?;
+        let dealt = Vec::with_capacity(alloc, passes as usize)?;
+        let size = Size {
+            cells: cells.len() as u64,
+            passes: passes as u64,
+        };
+        let slots = fill(alloc, cells)?;
+        let (table, place) = open::<W>(alloc, &size, slots)?;
+        let dealt = deal(&table, place, passes, dealt)?;
+        Ok((Turnstile { table, room }, Seq::from(dealt)))
+    }
+
     /// Takes one unit of the pass, waits for the turn of the cell and takes it.
     pub fn enter<R: Wait>(&self, pass: &mut Pass<W>, rt: &R, cell: u32) -> Result<Turn<W>, Spent>
         requires of { pass.old.turnstile ≡ self.now.id }
@@ -106,5 +134,27 @@ impl<W: World> Turnstile<W> {
         ensures other_trail { Trail W.by other.old.number other.old.front [] pass.new.front }
     {
         meet(&self.table, &mut pass.seat, &mut other.seat);
+    }
+
+    /// The cells after all that was counted. It takes no memory.
+    pub fn close(self, passes: Seq<Pass<W>>) -> Seq<W::Cell>
+        requires of { (i : ℕ) (p : _) → slice_get passes i ≡ Some p → (p.turnstile ≡ self.id) × (p.turns ≡ []) }
+        requires all { (q : ℕ) → q < self.passes → (i : ℕ) × (p : _) × (slice_get passes i ≡ Some p) × (p.number ≡ q) }
+        ensures count { length result ≡ self.id.slots }
+        ensures history { IsOneHistory W.by W.cell W.stands W.legal self.id.slots passes result }
+    {
+        let Turnstile { table, room } = self;
+        let mut passes: Vec<Pass<W>> = passes.into();
+        let Some(first) = passes.pop() else {
+            unreachable!()
+        };
+        let place = gather(&table, first.into_seat(), passes);
+        Seq::from(take_values::<W>(table, place, room))
+    }
+}
+
+impl<W: World> Drop for Turnstile<W> {
+    fn drop(self) {
+        let Self { table: _, room: _ } = self;
     }
 }
