@@ -9,3 +9,4 @@ pub mod Seats
 pub mod Ends
 pub mod Meets
 pub mod Sound
+pub mod Stacks

@@ -4,3 +4,4 @@ pub mod Steps
 pub mod Passes
 pub mod Values
 pub mod Lending
+pub mod LendingOne

@@ -6,10 +6,14 @@ mod life;
 mod pass;
 mod steps;
 mod turn;
+mod turns;
 mod turnstile;
 mod world;
 
-pub use pass::{Pass, Spent};
-pub use turn::Turn;
+pub use pass::{Pass, Spent, TurnEnd};
+pub use turn::{AllTurns, Turn};
 pub use turnstile::Turnstile;
 pub use world::{EntryOf, World};
+
+#[cfg(test)]
+mod tests;

@@ -4,6 +4,7 @@ ghost use Rattle.turnstile.specs.Passes.{most_units, IsFree};
 
 use crate::board::Place;
 use crate::world::World;
+use std::alloc::AllocError as NoMemory;
 use std::marker::Model;
 
 /// How many units a pass has at first: 2^40.
@@ -12,6 +13,25 @@ pub(crate) const MOST_UNITS: u64 = 1 << 40;
 /// The budget of a pass is used up.
 #[derive(Clone, Copy, Debug, PartialEq, Eq)]
 pub struct Spent;
+
+/// Why the turns of all cells were not taken.
+#[derive(Clone, Copy, Debug, PartialEq, Eq)]
+pub enum TurnEnd {
+    /// The budget of the pass is used up.
+    Spent,
+    /// There was no memory.
+    NoMemory,
+}
+
+impl From<NoMemory> for TurnEnd {
+    ghost use Rattle.turnstile.specs.declared.pass.TurnEnd.TheVariants as end;
+
+    ghost from_gives = { λ _ why. why ≡ end.NoMemory };
+
+    fn from(_: NoMemory) -> TurnEnd {
+        TurnEnd::NoMemory
+    }
+}
 
 /// What a thread counts with: a number of its own, a moment, a budget of units, and a front, which is the longest
 /// history that it has seen.

@@ -22,3 +22,24 @@ impl<W: World> Turn<W> {
         &mut self.value
     }
 }
+
+/// The turns of all cells, which lend their values. They can't be dropped: they must be left.
+pub struct AllTurns<W: World> {
+    pub(crate) numbers: Vec<u64>,
+    pub(crate) values: Vec<W::Cell>,
+    pub(crate) counted: bool,
+}
+
+impl<W: World> AllTurns<W> {
+    ghost use Rattle.std.specs.Borrow.{sem};
+    ghost use Rattle.turnstile.specs.LendingOne.{LendsOne};
+
+    /// The value of the cell `i`.
+    pub fn cell(&mut self, i: u32) -> &mut W::Cell
+        requires { i < length self.old.values.items }
+        ensures* writes_back { sem 𝓛 (LendsOne W.row W.Cell.row W.Entry.row self.entry i result) }
+        ensures value { result.now ≡ slice_index_or self.old.values.items i result.now }
+    {
+        &mut self.values[i as usize]
+    }
+}

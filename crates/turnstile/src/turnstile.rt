@@ -1,13 +1,14 @@
-ghost use Rattle.std.specs.Prelude.{◌≡◌, ◌+◌, ◌<◌, ◌≤◌, ℕ, List, true, false, Some, None, [], ◌∷◌, ◌++◌, length, slice_get, IfOk, IfErr, vec_capacity};
+ghost use Rattle.std.specs.Prelude.{◌≡◌, ◌↔◌, ◌+◌, ◌<◌, ◌≤◌, ℕ, List, true, false, Some, None, [], ◌∷◌, ◌++◌, length, slice_get, IfOk, IfErr, vec_capacity};
 ghost use Rattle.turnstile.specs.Histories.{own, at_cell, longer, Trail, Ends, MayStill};
 ghost use Rattle.turnstile.specs.Kept.{ticket};
-ghost use Rattle.turnstile.specs.Passes.{most_units, first_passes, EachStands, IsOneHistory};
+ghost use Rattle.turnstile.specs.Passes.{most_units, first_passes, EachStands, HoldsAll, IsOneHistory};
 
 use crate::board::{Board, Size};
 use crate::life::{deal, fill, gather, open, take_values};
-use crate::pass::{MOST_UNITS, Pass, Spent};
+use crate::pass::{MOST_UNITS, Pass, Spent, TurnEnd};
 use crate::steps::{count, draw, meet, put_back, wait};
-use crate::turn::Turn;
+use crate::turn::{AllTurns, Turn};
+use crate::turns::{leave_turns, take_turns};
 use crate::world::{EntryOf, World};
 use expr_lexer::Seq;
 use std::alloc::{AllocError as NoMemory, Global};
@@ -122,6 +123,72 @@ impl<W: World> Turnstile<W> {
             number,
             value,
         );
+    }
+
+    /// Takes one unit of the pass, and takes the turns of all cells, in ascending order.
+    pub fn enter_all<R: Wait>(
+        &self,
+        alloc: Global,
+        pass: &mut Pass<W>,
+        rt: &R,
+    ) -> Result<AllTurns<W>, TurnEnd>
+        requires of { pass.old.turnstile ≡ self.now.id }
+        requires free { pass.old.turns ≡ [] }
+        ensures turns { IfOk result (λ t. (length t.values.items ≡ self.now.id.slots) × (t.counted ≡ false)) }
+        ensures pass { IfOk result (λ t. pass.new ≡ record pass.old { used = pass.old.used + 1; front = pass.new.front; turns = pass.new.turns }) }
+        ensures holds { IfOk result (λ t. HoldsAll pass.new t.numbers.items) }
+        ensures stands { IfOk result (λ t. EachStands W.stands self.now.id.slots t.values.items (λ c. at_cell W.cell c pass.new.front)) }
+        ensures trail { IfOk result (λ t. Trail W.by pass.old.number pass.old.front [] pass.new.front) }
+        ensures unit { IfOk result (λ t. pass.old.used < most_units) }
+        ensures spent { IfErr result (λ end. (end ≡ TurnEnd.Spent ↔ (pass.old.used ≡ most_units)) × (pass.new ≡ pass.old)) }
+    {
+        if pass.left() == 0 {
+            return Err(TurnEnd::Spent);
+        }
+        let count = self.table.slot_count();
+        let numbers = Vec::with_capacity(alloc, count)?;
+        let values = Vec::with_capacity(alloc, count)?;
+        let (numbers, values) = take_turns(&self.table, pass, rt, numbers, values);
+        Ok(AllTurns {
+            numbers,
+            values,
+            counted: false,
+        })
+    }
+
+    /// Counts the entry that the caller picks, which is of all cells.
+    pub fn commit_all<E: EntryOf<W, W::Entry>>(&self, pass: &mut Pass<W>, turns: &mut AllTurns<W>)
+        requires of { pass.old.turnstile ≡ self.now.id }
+        requires turns { HoldsAll pass.old turns.old.numbers.items }
+        requires once { turns.old.counted ≡ false }
+        requires entry { (W.by E.entry ≡ pass.old.number) × (W.moment E.entry ≡ pass.old.moment) × (W.cell E.entry ≡ None) }
+        requires may { MayStill W.by (W.may self.now.id.slots) pass.old.front E.entry }
+        requires answers { W.answers self.now.id.slots pass.old.front E.entry }
+        requires count { length turns.old.values.items ≡ self.now.id.slots }
+        requires stands { EachStands W.stands self.now.id.slots turns.old.values.items (λ c. at_cell W.cell c pass.old.front ++ E.entry ∷ []) }
+        ensures pass { pass.new ≡ record pass.old { front = pass.new.front } }
+        ensures turns { turns.new ≡ record turns.old { counted = true } }
+        ensures ends { Ends W.by pass.old.number pass.old.front E.entry pass.new.front }
+        ensures stands { EachStands W.stands self.now.id.slots turns.new.values.items (λ c. at_cell W.cell c pass.new.front) }
+    {
+        count::<W, E>(&self.table, &mut pass.seat);
+        turns.counted = true;
+    }
+
+    /// Puts the values back and lets the next ones in.
+    pub fn leave_all<R: Wait>(&self, pass: &mut Pass<W>, _rt: &R, turns: AllTurns<W>)
+        requires of { pass.old.turnstile ≡ self.now.id }
+        requires turns { HoldsAll pass.old turns.numbers.items }
+        requires count { length turns.values.items ≡ self.now.id.slots }
+        requires stands { EachStands W.stands self.now.id.slots turns.values.items (λ c. at_cell W.cell c pass.old.front) }
+        ensures { pass.new ≡ record pass.old { turns = [] } }
+    {
+        let AllTurns {
+            numbers,
+            values,
+            counted: _,
+        } = turns;
+        leave_turns(&self.table, &mut pass.seat, numbers, values);
     }
 
     /// Lets each of the two passes see all that the other had seen.

@@ -1,0 +1,49 @@
+use Rattle.std.proofs.Common.{◌≡◌, ℕ, ◌<◌, ◌≤◌, ◌+◌, ◌*◌, Bool, true, length, filter, Some, [], ◌∷◌, ◌++◌, arith, ap, ◌∙◌, sym, subst, refl, inl, eq-eqb}
+use Rattle.atomic_table.specs.Seated.{TableId}
+use Rattle.turnstile.specs.Histories.{Has, is_of, at_cell, Ends}
+use Rattle.turnstile.specs.Kept.{ticket}
+use Rattle.turnstile.specs.Steps.{Counts}
+use Rattle.turnstile.specs.Passes.{PassView, IsSound, stacked}
+use Rattle.turnstile.proofs.Basics.{get_below, below_get}
+use Rattle.turnstile.proofs.Stacks.{stacked_here}
+use Rattle.turnstile.proofs.Sound.{counted}
+use Rattle.turnstile.proofs.turnstile.Turnstile.commit_all.Goals as goal
+
+pub count-requires-clause-held : goal.count-requires-clause-held
+count-requires-clause-held g c = λ d lt is. let v = c.pass.view_is in let s = c.self.view_is in let t = c.args.turns.now in
+    let held = ap (λ x. x.turns) v ∙ c.requires.turns.0 in
+    let count = c.requires.turns.1 in let slots = ap (λ (x : TableId). x.slots) (c.requires.of ∙ sym (ap (λ x. x.id) s)) in
+    let u = get_below t.numbers.items d (omega arith) in (u.0, subst (λ l. Has l (ticket d u.0)) (sym held) (stacked_here t.numbers.items d u.0 u.1))
+
+pub invariant_of-pass : goal.invariant_of-pass
+invariant_of-pass g c = let W = g.W.World in let v = c.pass.view_is in let s = c.self.view_is in let p = c.pass.inside in let n : ℕ = c.self.inside.table.shared.table_id.slots in
+    let same : p.seat.table_id ≡ c.self.inside.table.shared.table_id = ap (λ x. x.turnstile) v ∙ (c.requires.of ∙ sym (ap (λ x. x.id) s)) in
+    let slots : n ≡ p.seat.table_id.slots = sym (ap (λ (x : TableId). x.slots) same) in
+    let m = p.seat.me in let b = c.count.new.place.me in let e = g.E.EntryOf.entry in
+    let counts = subst (λ (x : ℕ). Counts W.by W.cell W.legal x e m b) slots c.count.ensures.counts in
+    let done = counted W.by W.cell W.moment W.legal W.stands p.seat.table_id p.number p.moment p.used m b e c.pass.invariant (c.requires.entry.0 ∙ sym (ap (λ x. x.number) v)) (c.requires.entry.1 ∙ sym (ap (λ x. x.moment) v)) counts in
+    subst (λ (z : TableId). IsSound W.by W.moment W.legal z b p.number p.moment p.used) (sym c.count.ensures.seat.0) done.sound
+
+pub returns-clause-ends : goal.returns-clause-ends
+returns-clause-ends g c = let W = g.W.World in let v = c.pass.view_is in let s = c.self.view_is in let p = c.pass.inside in let n : ℕ = c.self.inside.table.shared.table_id.slots in
+    let same : p.seat.table_id ≡ c.self.inside.table.shared.table_id = ap (λ x. x.turnstile) v ∙ (c.requires.of ∙ sym (ap (λ x. x.id) s)) in
+    let slots : n ≡ p.seat.table_id.slots = sym (ap (λ (x : TableId). x.slots) same) in
+    let m = p.seat.me in let b = c.count.new.place.me in let e = g.E.EntryOf.entry in
+    let counts = subst (λ (x : ℕ). Counts W.by W.cell W.legal x e m b) slots c.count.ensures.counts in
+    let done = counted W.by W.cell W.moment W.legal W.stands p.seat.table_id p.number p.moment p.used m b e c.pass.invariant (c.requires.entry.0 ∙ sym (ap (λ x. x.number) v)) (c.requires.entry.1 ∙ sym (ap (λ x. x.moment) v)) counts in
+    subst (λ x. Ends W.by x.number x.front e b.0.front) v done.ends
+
+pub returns-clause-stands : goal.returns-clause-stands
+returns-clause-stands g c = λ k x at. let W = g.W.World in let v = c.pass.view_is in let s = c.self.view_is in let p = c.pass.inside in let n : ℕ = c.self.inside.table.shared.table_id.slots in
+    let same : p.seat.table_id ≡ c.self.inside.table.shared.table_id = ap (λ x. x.turnstile) v ∙ (c.requires.of ∙ sym (ap (λ x. x.id) s)) in
+    let slots : n ≡ p.seat.table_id.slots = sym (ap (λ (x : TableId). x.slots) same) in
+    let m = p.seat.me in let b = c.count.new.place.me in let e = g.E.EntryOf.entry in
+    let counts = subst (λ (x : ℕ). Counts W.by W.cell W.legal x e m b) slots c.count.ensures.counts in
+    let done = counted W.by W.cell W.moment W.legal W.stands p.seat.table_id p.number p.moment p.used m b e c.pass.invariant (c.requires.entry.0 ∙ sym (ap (λ x. x.number) v)) (c.requires.entry.1 ∙ sym (ap (λ x. x.moment) v)) counts in
+    let t = c.args.turns.now in
+    let held = ap (λ x. x.turns) v ∙ c.requires.turns.0 in
+    let lt = below_get t.values.items k x at in let count = c.requires.count in let numbers = c.requires.turns.1 in let of = ap (λ (x : TableId). x.slots) c.requires.of in
+    let u = get_below t.numbers.items k (omega arith) in
+    let here : is_of (W.cell e) k ≡ true = subst (λ o. is_of o k ≡ true) (sym c.requires.entry.2) refl in
+    let added = done.added (ticket k u.0) (subst (λ l. Has l (ticket k u.0)) (sym held) (stacked_here t.numbers.items k u.0 u.1)) here in
+    subst (λ l. W.stands c.args.self.now.id.slots k x l) (sym (added ∙ ap (λ x. at_cell W.cell k x.front ++ e ∷ []) v)) (c.requires.stands k x at)
