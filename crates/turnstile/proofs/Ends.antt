@@ -1,26 +1,21 @@
 -- The rule as a table is made, and what it says as it is closed.
-use Rattle.std.proofs.Common.{◌≡◌, ◌≢◌, ◌⊎◌, ℕ, zero, suc, ◌+◌, ◌*◌, ◌%◌, ◌^◌, ◌<◌, ◌≤◌, Bool, true, false, cond, ◌==◌, List, [], ◌∷◌, ◌++◌, length, drop, set, get_or, Option, Some, None, refl, sym, ap, ◌∙◌, subst, inl, inr, ⊎_elim, arith, length-set, length-append, get_or-set_other, get_or-set_same, eq-eqb, ne_eqb, eqb-true, true≢false}
+use Rattle.std.proofs.Common.{◌≡◌, ℕ, zero, suc, ◌+◌, ◌<◌, ◌≤◌, List, [], ◌∷◌, length, Option, Some, None, refl, sym, ap, ◌∙◌, subst, ⊎_elim, arith}
 use Rattle.std.specs.Prelude.{slice_index}
 use mathlib.Core.Logic.{dite}
 use mathlib.Core.Option.{some, some-ne-none, some-injective, none}
 use mathlib.Core.Option as maybe
-use native.Mathlib.Decide.{ℕ_discrete, dec_lt}
+use native.Mathlib.Decide.{dec_lt}
 use lib.ListN.{get_elem?}
-use lib.Seq.{set-get_or}
-use Rattle.atomic_table.specs.Table.{State, Me, step, Act, keeps, takes, gives, stepped, Allows, rest, put_back}
-use Rattle.atomic_table.proofs.Lists.{at_set, set_here, set_else, set_again}
+use Rattle.atomic_table.specs.Table.{State}
 use Rattle.turnstile.specs.declared.board.Ticket.{Ticket}
 use Rattle.turnstile.specs.declared.board.View.{View}
-use Rattle.turnstile.specs.Histories.{Has, IsBeginning, longer, is_of, own, at_cell}
-use Rattle.turnstile.specs.Kept.{most_drawn, ticket, drawn_at, served_at, total, drawn_of, parts_of, Open, AtHome, Waits, Holds, HasNumber, Fits, CellKept, Kept}
-use Rattle.turnstile.specs.Steps.{waiting, inside, fronted, outside, Draws, Leaves, Grows, TakesTurn, Counts, Learns, Looks}
-use Rattle.turnstile.proofs.Basics.{Some-injective, Some-ne-None, here_of_there, below_of_there, one_there, total-set, total_few}
-use Rattle.turnstile.proofs.Histories.{begins_self, begins_push, longer_of, longer_either, squeeze, filter_skip, none_before, own_other, own_mine}
+use Rattle.turnstile.specs.Histories.{Has, IsBeginning, own, at_cell}
+use Rattle.turnstile.specs.Kept.{ticket, drawn_at, served_at, Open, AtHome, Waits, Holds, Fits, CellKept, Kept}
+use Rattle.turnstile.proofs.Basics.{Some-ne-None, one_there}
 use Rattle.std.proofs.Common.{map}
 use lib.ListN.{length-map}
 use Rattle.atomic_table.specs.Table.{opening, Final, Seen}
 use Rattle.atomic_table.proofs.Lists.{at_map}
-use Rattle.turnstile.specs.Kept.{upwards}
 use Rattle.turnstile.specs.Steps.{starting}
 use Rattle.turnstile.proofs.Basics.{nil_or_has, Has-upwards, length-upwards}
 

@@ -1,8 +1,8 @@
 -- Beginnings of one history, and what a pass or a cell has in them.
-use Rattle.std.proofs.Common.{◌≡◌, ◌≢◌, ◌⊎◌, ℕ, zero, suc, ◌+◌, ◌<◌, ◌≤◌, Bool, true, false, cond, leb, ◌==◌, List, [], ◌∷◌, ◌++◌, length, filter, Option, Some, None, refl, sym, ap, ◌∙◌, subst, inl, inr, ⊎_elim, arith, append_assoc, append-nil, length-append, leb-true, leb-false, eq-eqb, ne_eqb, eqb-true}
+use Rattle.std.proofs.Common.{◌≡◌, ◌≢◌, ◌⊎◌, ℕ, ◌≤◌, Bool, true, false, cond, leb, ◌==◌, List, [], ◌∷◌, ◌++◌, length, filter, Some, refl, sym, ap, ◌∙◌, subst, inl, inr, ⊎_elim, arith, append_assoc, append-nil, length-append, leb-true, leb-false, eq-eqb, ne_eqb, eqb-true}
 use Rattle.std.proofs.lemmas.List.{append_cancel_left, nil_from_length}
 use Rattle.std.proofs.lemmas.List.Elements.{filter-append}
-use Rattle.turnstile.specs.Histories.{Has, IsBeginning, longer, is_of, own, at_cell, Trail, Ends, IsTimely}
+use Rattle.turnstile.specs.Histories.{Has, IsBeginning, longer, is_of, own, Trail, Ends, IsTimely}
 use Rattle.turnstile.proofs.Basics.{Has-append}
 
 module _ {E : Type 0} where
@@ -106,10 +106,10 @@ module _ {E : Type 0} where
     -- P before e, e one of the entries that the pass added
     pub at : (xs es : List E) (e : E) (fs ys : List E) → Trail by p xs (es ++ e ∷ fs) ys → (past : List E) × Trail by p xs es past × Trail by p (past ++ e ∷ []) fs ys
     at xs es e fs ys t = let s = split t.rest es t.mine in (
-        xs ++ s.0,
-        record { rest = s.0; is = refl; mine = s.2 },
-        record { rest = s.1; is = append_assoc (xs ++ s.0) (e ∷ []) s.1 ∙ (append_assoc xs s.0 (e ∷ s.1) ∙ (ap (λ l. xs ++ l) s.4 ∙ t.is)); mine = s.3 },
-      )
+      xs ++ s.0,
+      record { rest = s.0; is = refl; mine = s.2 },
+      record { rest = s.1; is = append_assoc (xs ++ s.0) (e ∷ []) s.1 ∙ (append_assoc xs s.0 (e ∷ s.1) ∙ (ap (λ l. xs ++ l) s.4 ∙ t.is)); mine = s.3 },
+    )
       where
         split : (rest es : List E) → own by p rest ≡ es ++ e ∷ fs → (before : List E) × (after : List E) × (own by p before ≡ es) × (own by p after ≡ fs) × (before ++ e ∷ after ≡ rest)
         split [] [] h = absurd (cc)

@@ -1,21 +1,18 @@
 -- Serving the next ticket keeps the rule: the value goes back to its slot.
-use Rattle.std.proofs.Common.{◌≡◌, ◌≢◌, ◌⊎◌, ℕ, zero, suc, ◌+◌, ◌*◌, ◌%◌, ◌^◌, ◌<◌, ◌≤◌, Bool, true, false, cond, ◌==◌, List, [], ◌∷◌, ◌++◌, length, drop, set, get_or, Option, Some, None, refl, sym, ap, ◌∙◌, subst, inl, inr, ⊎_elim, arith, length-set, length-append, get_or-set_other, get_or-set_same, eq-eqb, ne_eqb, eqb-true, true≢false}
-use Rattle.std.specs.Prelude.{slice_index}
+use Rattle.std.proofs.Common.{◌≡◌, ◌≢◌, ℕ, ◌+◌, ◌<◌, List, ◌∷◌, drop, set, Option, Some, None, refl, sym, ap, ◌∙◌, subst, inl, inr, ⊎_elim, arith, length-set, get_or-set_other, get_or-set_same}
 use mathlib.Core.Logic.{dite}
 use mathlib.Core.Option.{some, some-ne-none, some-injective, none}
 use mathlib.Core.Option as maybe
-use native.Mathlib.Decide.{ℕ_discrete, dec_lt}
+use native.Mathlib.Decide.{ℕ_discrete}
 use lib.ListN.{get_elem?}
-use lib.Seq.{set-get_or}
-use Rattle.atomic_table.specs.Table.{State, Me, step, Act, keeps, takes, gives, stepped, Allows, rest, put_back}
-use Rattle.atomic_table.proofs.Lists.{at_set, set_here, set_else, set_again}
+use Rattle.atomic_table.specs.Table.{State, Me, step, gives, Allows, put_back}
+use Rattle.atomic_table.proofs.Lists.{set_here, set_else}
 use Rattle.turnstile.specs.declared.board.Ticket.{Ticket}
 use Rattle.turnstile.specs.declared.board.View.{View}
-use Rattle.turnstile.specs.Histories.{Has, IsBeginning, longer, is_of, own, at_cell}
-use Rattle.turnstile.specs.Kept.{most_drawn, ticket, drawn_at, served_at, total, drawn_of, parts_of, Open, AtHome, Waits, Holds, HasNumber, Fits, CellKept, Kept}
-use Rattle.turnstile.specs.Steps.{waiting, inside, fronted, outside, Draws, Leaves, Grows, TakesTurn, Counts, Learns, Looks}
-use Rattle.turnstile.proofs.Basics.{Some-injective, Some-ne-None, here_of_there, below_of_there, one_there, total-set, total_few}
-use Rattle.turnstile.proofs.Histories.{begins_self, begins_push, longer_of, longer_either, squeeze, filter_skip, none_before, own_other, own_mine}
+use Rattle.turnstile.specs.Histories.{Has, at_cell}
+use Rattle.turnstile.specs.Kept.{ticket, drawn_at, served_at, Open, AtHome, Waits, Holds, Fits, CellKept, Kept}
+use Rattle.turnstile.specs.Steps.{outside, Leaves}
+use Rattle.turnstile.proofs.Basics.{Some-ne-None}
 use Rattle.turnstile.proofs.Rule.{rebuild, still_open, same_total}
 
 module _ {C E : Type 0} (by : E → ℕ) (cell : E → Option ℕ) (stands : ℕ → ℕ → C → List E → Type 0) (legal : ℕ → List E → Type 0) (n passes : ℕ) where
@@ -110,12 +107,12 @@ module _ {C E : Type 0} (by : E → ℕ) (cell : E → Option ℕ) (stands : ℕ
       };
       held = λ b m. let x = h.held b m in let q = drawn b.cell x.below in let to = x.to in
           let c : b.cell ≢ t.cell = λ c. ne (ours j b.cell b.number c (x.turn ∙ (ap (served_at n s.words) c ∙ sym a.turn)) x.mine) in record {
-        below = x.below;
-        turn = x.turn ∙ sym (served_else b.cell c);
-        to = omega arith;
-        mine = x.mine;
-        known = x.known;
-      };
+            below = x.below;
+            turn = x.turn ∙ sym (served_else b.cell c);
+            to = omega arith;
+            mine = x.mine;
+            known = x.known;
+          };
     }
 
     fits_here : Fit words' homes' r.log r.owner r.holder id w
@@ -131,12 +128,12 @@ module _ {C E : Type 0} (by : E → ℕ) (cell : E → Option ℕ) (stands : ℕ
       drew = λ b f. absurd (Some-ne-None b (sym f ∙ idle));
       held = λ b m. let m' : Has ts b = subst (λ (l : List Ticket). Has l b) out m in let x = h.held b (subst (λ (l : List Ticket). Has l b) (sym held) (inr m')) in
           let q = drawn b.cell x.below in let to = x.to in record {
-        below = x.below;
-        turn = x.turn ∙ sym (served_else b.cell (alone b m'));
-        to = omega arith;
-        mine = x.mine;
-        known = x.known;
-      };
+            below = x.below;
+            turn = x.turn ∙ sym (served_else b.cell (alone b m'));
+            to = omega arith;
+            mine = x.mine;
+            known = x.known;
+          };
     }
 
     keeps_open : (b : Ticket) → ¬ (t ≡ b) → Open v b → Open w b
@@ -146,7 +143,7 @@ module _ {C E : Type 0} (by : E → ℕ) (cell : E → Option ℕ) (stands : ℕ
     cells' d below = let k = r.cells d below in let q = drawn d below in let few = k.few in let same = same_total by cell stands legal n passes s id v w at refl in let o = k.ordered in
         dite (ℕ_discrete d t.cell)
         (λ c. let here = served_here in let p : served_at n words' d ≡ served_at n words' t.cell = ap (served_at n words') c in let p' : served_at n s.words d ≡ served_at n s.words t.cell = ap (served_at n s.words) c in
-            let q' : drawn_at s.words d ≡ drawn_at s.words t.cell = ap (drawn_at s.words) c in let to = a.to in let turn = a.turn in record {
+        let q' : drawn_at s.words d ≡ drawn_at s.words t.cell = ap (drawn_at s.words) c in let to = a.to in let turn = a.turn in record {
           ordered = omega arith;
           at_rest = λ e. home_at d c;
           few = omega arith;
@@ -167,12 +164,12 @@ module _ {C E : Type 0} (by : E → ℕ) (cell : E → Option ℕ) (stands : ℕ
       → (value : C) (carried : List (ℕ × Option C)) → m.1 ≡ (t.cell, Some value) ∷ carried → stands n t.cell value (at_cell cell t.cell m.0.front)
       → Allows (Kept by cell stands legal z passes) n id m ((1 + n) + t.cell) (λ _. t.number + 1) (λ _. Leaves (step n ((1 + n) + t.cell) (t.number + 1) 0 none) m (t.number + 1))
   leaves z same id m t ts held idle alone value carried has right = subst (λ (y : ℕ). Allows (Kept by cell stands legal y passes) n id m ((1 + n) + t.cell) (λ _. t.number + 1) (λ _. Leaves (step n ((1 + n) + t.cell) (t.number + 1) 0 none) m (t.number + 1))) (sym same) (λ s r len at small. (
-      outside m.0,
-      gives,
-      tt,
-      subst (λ (l : List (ℕ × Option C)). Rule record { words = set s.words ((1 + n) + t.cell) (t.number + 1); homes = put_back s.homes l; views = set s.views id (outside m.0) }) (sym has) (kept s r id m.0 at t ts held idle alone value right),
-      refl,
-    ))
+    outside m.0,
+    gives,
+    tt,
+    subst (λ (l : List (ℕ × Option C)). Rule record { words = set s.words ((1 + n) + t.cell) (t.number + 1); homes = put_back s.homes l; views = set s.views id (outside m.0) }) (sym has) (kept s r id m.0 at t ts held idle alone value right),
+    refl,
+  ))
 
   pub leaves_at : (z : ℕ) → z ≡ n → (id : ℕ) (m : Me (Option C) (View E)) (t : Ticket) (ts : List Ticket) → m.0.held ≡ t ∷ ts → m.0.drew ≡ None → ((u : Ticket) → Has ts u → u.cell ≢ t.cell)
       → (value : C) (carried : List (ℕ × Option C)) → m.1 ≡ (t.cell, Some value) ∷ carried → stands n t.cell value (at_cell cell t.cell m.0.front) → (i : ℕ) → i ≡ (1 + n) + t.cell

@@ -1,21 +1,20 @@
 -- Looking whose turn it is keeps the rule, and who finds its own takes the value and learns the whole history.
-use Rattle.std.proofs.Common.{◌≡◌, ◌≢◌, ◌⊎◌, ℕ, zero, suc, ◌+◌, ◌*◌, ◌%◌, ◌^◌, ◌<◌, ◌≤◌, Bool, true, false, cond, ◌==◌, List, [], ◌∷◌, ◌++◌, length, drop, set, get_or, Option, Some, None, refl, sym, ap, ◌∙◌, subst, inl, inr, ⊎_elim, arith, length-set, length-append, get_or-set_other, get_or-set_same, eq-eqb, ne_eqb, eqb-true, true≢false}
+use Rattle.std.proofs.Common.{◌≡◌, ◌≢◌, ℕ, ◌+◌, ◌<◌, List, ◌∷◌, set, Option, Some, refl, sym, ap, ◌∙◌, subst, inl, inr, ⊎_elim, arith, length-set}
 use Rattle.std.specs.Prelude.{slice_index}
 use mathlib.Core.Logic.{dite}
 use mathlib.Core.Option.{some, some-ne-none, some-injective, none}
 use mathlib.Core.Option as maybe
-use native.Mathlib.Decide.{ℕ_discrete, dec_lt}
+use native.Mathlib.Decide.{ℕ_discrete}
 use lib.ListN.{get_elem?}
 use lib.Seq.{set-get_or}
-use Rattle.atomic_table.specs.Table.{State, Me, step, Act, keeps, takes, gives, stepped, Allows, rest, put_back}
-use Rattle.atomic_table.proofs.Lists.{at_set, set_here, set_else, set_again}
+use Rattle.atomic_table.specs.Table.{State, Me, step, keeps, takes, Allows}
+use Rattle.atomic_table.proofs.Lists.{set_else}
 use Rattle.turnstile.specs.declared.board.Ticket.{Ticket}
 use Rattle.turnstile.specs.declared.board.View.{View}
-use Rattle.turnstile.specs.Histories.{Has, IsBeginning, longer, is_of, own, at_cell}
-use Rattle.turnstile.specs.Kept.{most_drawn, ticket, drawn_at, served_at, total, drawn_of, parts_of, Open, AtHome, Waits, Holds, HasNumber, Fits, CellKept, Kept}
-use Rattle.turnstile.specs.Steps.{waiting, inside, fronted, outside, Draws, Leaves, Grows, TakesTurn, Counts, Learns, Looks}
-use Rattle.turnstile.proofs.Basics.{Some-injective, Some-ne-None, here_of_there, below_of_there, one_there, total-set, total_few}
-use Rattle.turnstile.proofs.Histories.{begins_self, begins_push, longer_of, longer_either, squeeze, filter_skip, none_before, own_other, own_mine}
+use Rattle.turnstile.specs.Kept.{ticket, drawn_at, served_at, AtHome, Waits, Holds, Fits, CellKept, Kept}
+use Rattle.turnstile.specs.Steps.{inside, TakesTurn, Looks}
+use Rattle.turnstile.proofs.Basics.{Some-injective, Some-ne-None}
+use Rattle.turnstile.proofs.Histories.{begins_self}
 use Rattle.turnstile.proofs.Rule.{grows_to, rebuild, still_open, same_total, unmoved}
 
 module _ {C E : Type 0} (by : E → ℕ) (cell : E → Option ℕ) (stands : ℕ → ℕ → C → List E → Type 0) (legal : ℕ → List E → Type 0) (n passes : ℕ) where

@@ -1,10 +1,10 @@
 -- What a seat knows after it was told of another's front.
-use Rattle.std.proofs.Common.{◌≡◌, ℕ, ◌+◌, List, [], ◌∷◌, ◌++◌, Option, Some, None, sym, ap, ◌∙◌, subst, arith, append-nil, length}
+use Rattle.std.proofs.Common.{◌≡◌, ℕ, List, [], ◌∷◌, Option, Some, None, sym, ap, ◌∙◌, subst, arith, append-nil}
 use Rattle.atomic_table.specs.Table.{Me, rest}
 use Rattle.turnstile.specs.declared.board.Ticket.{Ticket}
 use Rattle.turnstile.specs.declared.board.View.{View}
-use Rattle.turnstile.specs.Histories.{Has, IsBeginning, longer, own, at_cell}
-use Rattle.turnstile.specs.Steps.{fronted, note, joined, Grows, TakesTurn, Taken, Learns, Met}
+use Rattle.turnstile.specs.Histories.{IsBeginning, at_cell}
+use Rattle.turnstile.specs.Steps.{note, joined, Grows, TakesTurn, Taken, Learns, Met}
 use Rattle.turnstile.proofs.Basics.{Has_front, Some-injective}
 
 head_or : {A : Type 0} → A → List A → A
@@ -48,8 +48,8 @@ module _ {C E : Type 0} (by : E → ℕ) (cell : E → Option ℕ) (legal : ℕ 
       let e = took.after in
       let in_hand : a.1 ≡ (t.cell, Some took.value) ∷ m.1 = ap (λ (q : Me (Option C) (View E)). q.1) e in
       let same : took.value ≡ x = Some-injective took.value x (sym (one_value t.cell o took.value (rest a.1) m.1 (sym was ∙ in_hand)) ∙ is) in record {
-    front = took.front;
-    after = now ∙ ap (λ (q : Me (Option C) (View E)). let z : Me (Option C) (View E) = (q.0, (t.cell, None) ∷ rest q.1) in z) e;
-    stands_for = subst (λ (y : C). stands n t.cell y (at_cell cell t.cell took.front)) same took.stands_for;
-    grows = took.grows;
-  }
+        front = took.front;
+        after = now ∙ ap (λ (q : Me (Option C) (View E)). let z : Me (Option C) (View E) = (q.0, (t.cell, None) ∷ rest q.1) in z) e;
+        stands_for = subst (λ (y : C). stands n t.cell y (at_cell cell t.cell took.front)) same took.stands_for;
+        grows = took.grows;
+      }

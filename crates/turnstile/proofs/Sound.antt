@@ -1,17 +1,17 @@
 -- Each call keeps what holds of every pass.
-use Rattle.std.proofs.Common.{◌≡◌, ◌≢◌, ℕ, zero, suc, ◌+◌, ◌*◌, ◌^◌, ◌<◌, ◌≤◌, Bool, true, List, [], ◌∷◌, ◌++◌, length, map, drop, Option, Some, None, refl, sym, ap, ◌∙◌, subst, inl, inr, ⊎_elim, arith, max}
+use Rattle.std.proofs.Common.{◌≡◌, ℕ, suc, ◌+◌, ◌*◌, ◌^◌, ◌<◌, ◌≤◌, true, List, [], ◌∷◌, ◌++◌, length, drop, Option, None, refl, sym, ap, ◌∙◌, subst, inl, inr, ⊎_elim, arith}
 use Rattle.atomic_table.specs.Table.{Me, rest}
 use Rattle.atomic_table.specs.Seated.{TableId}
 use Rattle.turnstile.specs.declared.board.Ticket.{Ticket}
 use Rattle.turnstile.specs.declared.board.View.{View}
-use Rattle.turnstile.specs.Histories.{Has, IsBeginning, longer, is_of, own, at_cell, Trail, Ends, IsTimely}
+use Rattle.turnstile.specs.Histories.{Has, is_of, own, at_cell, Trail, Ends, IsTimely}
 use Rattle.turnstile.specs.Kept.{ticket, most_drawn}
-use Rattle.turnstile.specs.Steps.{Sat, waiting, inside, fronted, outside, Grows, Taken, Counts, Met}
-use Rattle.std.proofs.Common.{◌-◌, take}
+use Rattle.turnstile.specs.Steps.{waiting, outside, Taken, Counts, Met}
+use Rattle.std.proofs.Common.{take}
 use Rattle.turnstile.specs.Steps.{but_first, first_alone}
 use Rattle.turnstile.specs.Passes.{PassView, most_units, emptied, IsSound, dealing, first_pass, first_passes}
 use Rattle.turnstile.proofs.Basics.{upwards_step}
-use Rattle.turnstile.proofs.Histories.{trail_none, own_mine, timely_same, timely_push, filter_take, filter_skip}
+use Rattle.turnstile.proofs.Histories.{trail_none, timely_same, timely_push, filter_take}
 
 Has_drop : {A : Type 0} (xs : List A) (a : A) → Has (drop 1 xs) a → Has xs a
 Has_drop [] a h = h
@@ -53,24 +53,24 @@ module _ {C E : Type 0} (by : E → ℕ) (cell : E → Option ℕ) (moment : E �
       let front : b.0.front ≡ k.front = ap (λ (q : M). q.0.front) e in
       let held : b.0.held ≡ ticket c t ∷ m.0.held = ap (λ (q : M). q.0.held) e in
       let same : own by number k.front ≡ own by number m.0.front = k.grows.same number (has_number m h) in record {
-    sound = record {
-      numbered = ap (λ (q : M). q.0.numbers) e ∙ h.numbered;
-      budget = h.budget;
-      few = let d : b.0.drawn ≡ m.0.drawn + 1 = ap (λ (q : M). q.0.drawn) e in omega arith;
-      idle = ap (λ (q : M). q.0.drew) e;
-      hands = ap (λ (q : M). q.1) e ∙ (ap (λ (l : List (ℕ × Option C)). (c, None) ∷ l) h.hands ∙ ap emptied (sym held));
-      turns = λ u i. ⊎_elim (λ f. subst (λ (x : Ticket). (x.cell < z.slots) × (x.number < 2 ^ 60)) f (lt, small)) (λ o. h.turns u o) (subst (λ (l : List Ticket). Has l u) held i);
-      lawful = subst (legal z.slots) (sym front) k.grows.lawful;
-      strangers = λ p made. subst (λ (f : List E). own by p f ≡ []) (sym front) (k.grows.strangers p (subst (λ (x : ℕ). x ≤ p) (ap (λ (q : M). q.0.made) e) made));
-      timely = subst (IsTimely by moment number now) (sym front) (timely_same by moment number now m.0.front k.front same h.timely);
-    };
-    trail = subst (Trail by number m.0.front []) (sym front) (trail_none by number m.0.front k.front k.grows.extends same);
-    stands_for = subst (λ (f : List E). stands z.slots c value (at_cell cell c f)) (sym front) k.stands_for;
-    held = held;
-    made = ap (λ (q : M). q.0.made) e;
-    drawn = ap (λ (q : M). q.0.drawn) e;
-    still = λ u i. subst (λ (f : List E). at_cell cell u.cell f ≡ at_cell cell u.cell m.0.front) (sym front) (k.grows.still u i);
-  }
+        sound = record {
+          numbered = ap (λ (q : M). q.0.numbers) e ∙ h.numbered;
+          budget = h.budget;
+          few = let d : b.0.drawn ≡ m.0.drawn + 1 = ap (λ (q : M). q.0.drawn) e in omega arith;
+          idle = ap (λ (q : M). q.0.drew) e;
+          hands = ap (λ (q : M). q.1) e ∙ (ap (λ (l : List (ℕ × Option C)). (c, None) ∷ l) h.hands ∙ ap emptied (sym held));
+          turns = λ u i. ⊎_elim (λ f. subst (λ (x : Ticket). (x.cell < z.slots) × (x.number < 2 ^ 60)) f (lt, small)) (λ o. h.turns u o) (subst (λ (l : List Ticket). Has l u) held i);
+          lawful = subst (legal z.slots) (sym front) k.grows.lawful;
+          strangers = λ p made. subst (λ (f : List E). own by p f ≡ []) (sym front) (k.grows.strangers p (subst (λ (x : ℕ). x ≤ p) (ap (λ (q : M). q.0.made) e) made));
+          timely = subst (IsTimely by moment number now) (sym front) (timely_same by moment number now m.0.front k.front same h.timely);
+        };
+        trail = subst (Trail by number m.0.front []) (sym front) (trail_none by number m.0.front k.front k.grows.extends same);
+        stands_for = subst (λ (f : List E). stands z.slots c value (at_cell cell c f)) (sym front) k.stands_for;
+        held = held;
+        made = ap (λ (q : M). q.0.made) e;
+        drawn = ap (λ (q : M). q.0.drawn) e;
+        still = λ u i. subst (λ (f : List E). at_cell cell u.cell f ≡ at_cell cell u.cell m.0.front) (sym front) (k.grows.still u i);
+      }
 
   -- an entry was counted
   pub record Counted (m : M) (e : E) (b : M) : Type 0 where
@@ -86,22 +86,22 @@ module _ {C E : Type 0} (by : E → ℕ) (cell : E → Option ℕ) (moment : E �
       let front : b.0.front ≡ k.past ++ e ∷ [] = ap (λ (q : M). q.0.front) f in
       let held : b.0.held ≡ m.0.held = ap (λ (q : M). q.0.held) f in
       let same : own by number k.past ≡ own by number m.0.front = k.grows.same number (has_number m h) in record {
-    sound = record {
-      numbered = ap (λ (q : M). q.0.numbers) f ∙ h.numbered;
-      budget = h.budget;
-      few = let d : b.0.drawn ≡ m.0.drawn = ap (λ (q : M). q.0.drawn) f in let few = h.few in omega arith;
-      idle = ap (λ (q : M). q.0.drew) f ∙ h.idle;
-      hands = ap (λ (q : M). q.1) f ∙ (h.hands ∙ ap emptied (sym held));
-      turns = λ u i. h.turns u (subst (λ (l : List Ticket). Has l u) held i);
-      lawful = subst (legal z.slots) (sym front) k.lawful;
-      strangers = λ p made. subst (λ (l : List E). own by p l ≡ []) (sym front) (k.strangers p (subst (λ (x : ℕ). x ≤ p) (ap (λ (q : M). q.0.made) f) made));
-      timely = subst (IsTimely by moment number now) (sym front) (timely_push by moment number now k.past e mine at_moment (timely_same by moment number now m.0.front k.past same h.timely));
-    };
-    ends = record { past = k.past; none = trail_none by number m.0.front k.past k.grows.extends same; is = sym front };
-    held = held;
-    made = ap (λ (q : M). q.0.made) f;
-    added = λ u i is. ap (at_cell cell u.cell) front ∙ (filter_take (λ (x : E). is_of (cell x) u.cell) k.past e is ∙ ap (λ (l : List E). l ++ e ∷ []) (k.grows.still u i));
-  }
+        sound = record {
+          numbered = ap (λ (q : M). q.0.numbers) f ∙ h.numbered;
+          budget = h.budget;
+          few = let d : b.0.drawn ≡ m.0.drawn = ap (λ (q : M). q.0.drawn) f in let few = h.few in omega arith;
+          idle = ap (λ (q : M). q.0.drew) f ∙ h.idle;
+          hands = ap (λ (q : M). q.1) f ∙ (h.hands ∙ ap emptied (sym held));
+          turns = λ u i. h.turns u (subst (λ (l : List Ticket). Has l u) held i);
+          lawful = subst (legal z.slots) (sym front) k.lawful;
+          strangers = λ p made. subst (λ (l : List E). own by p l ≡ []) (sym front) (k.strangers p (subst (λ (x : ℕ). x ≤ p) (ap (λ (q : M). q.0.made) f) made));
+          timely = subst (IsTimely by moment number now) (sym front) (timely_push by moment number now k.past e mine at_moment (timely_same by moment number now m.0.front k.past same h.timely));
+        };
+        ends = record { past = k.past; none = trail_none by number m.0.front k.past k.grows.extends same; is = sym front };
+        held = held;
+        made = ap (λ (q : M). q.0.made) f;
+        added = λ u i is. ap (at_cell cell u.cell) front ∙ (filter_take (λ (x : E). is_of (cell x) u.cell) k.past e is ∙ ap (λ (l : List E). l ++ e ∷ []) (k.grows.still u i));
+      }
 
   -- the turn that was taken last was left
   pub left : (m b : M) → Sound m → b ≡ (outside m.0, rest m.1) → Sound b

@@ -4,7 +4,6 @@ use mathlib.Core.Option.{some}
 use mathlib.Core.Option as maybe
 use lib.ListN.{get_elem?}
 use Rattle.atomic_table.specs.Table.{State}
-use Rattle.turnstile.specs.declared.board.Size.{Size}
 use Rattle.turnstile.specs.declared.board.Ticket.{Ticket}
 use Rattle.turnstile.specs.declared.board.View.{View}
 use Rattle.turnstile.specs.Histories.{Has, IsBeginning, own, at_cell}

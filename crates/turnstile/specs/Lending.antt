@@ -1,5 +1,4 @@
 -- What a turn lends.
-use Rattle.std.specs.Prelude.{ℕ}
 use Rattle.std.specs.Borrow.{Lends, MutBor, Fml}
 use denote.RattleType.{RattleType}
 use Rattle.turnstile.specs.declared.turn.Turn.{Turn}

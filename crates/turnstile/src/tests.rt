@@ -1,3 +1,9 @@
+ghost use Rattle.std.specs.Prelude.{◌≡◌, ◌+◌, ◌<◌, ◌≤◌, ◌%◌, ◌^◌, ℕ, true, false, [], ◌∷◌, ◌++◌, Some, None, IfOk, sum_by, length, slice_get};
+ghost use Rattle.turnstile.specs.Passes.{HoldsAll};
+ghost use Rattle.turnstile.specs.Histories.{at_cell};
+ghost use Rattle.turnstile.specs.Kept.{ticket};
+ghost use Rattle.turnstile.specs.declared.tests.Added.{Added};
+
 use super::*;
 use expr_lexer::Seq;
 use std::alloc::Global;
@@ -7,12 +13,6 @@ use std::sync::Wait;
 use std::sync::atomic::{AtomicBool, Ordering};
 use std::test::*;
 use std::thread::{Threads, join};
-
-ghost use Rattle.std.specs.Prelude.{◌≡◌, ◌+◌, ◌<◌, ◌≤◌, ◌%◌, ◌^◌, ℕ, true, false, [], ◌∷◌, ◌++◌, Some, None, IfOk, sum_by, length, slice_get};
-ghost use Rattle.turnstile.specs.Passes.{HoldsAll};
-ghost use Rattle.turnstile.specs.Histories.{at_cell};
-ghost use Rattle.turnstile.specs.Kept.{ticket};
-ghost use Rattle.turnstile.specs.declared.tests.Added.{Added};
 
 // Counters, and the amounts that were added to them.
 struct Counters;
@@ -98,7 +98,11 @@ fn add<R: Wait>(
 }
 
 // Adds 1 a thousand times, to the three cells in turn.
-fn count_up<R: Wait>(turnstile: &Turnstile<Counters>, pass: Pass<Counters>, rt: &R) -> Pass<Counters>
+fn count_up<R: Wait>(
+    turnstile: &Turnstile<Counters>,
+    pass: Pass<Counters>,
+    rt: &R,
+) -> Pass<Counters>
     requires of { pass.turnstile ≡ turnstile.now.id }
     requires free { pass.turns ≡ [] }
     requires cells { 3 ≤ turnstile.now.id.slots }
@@ -216,7 +220,10 @@ fn two_thousand(rt: HostRuntime) -> Result<(), Fail> {
     assert_eq!(rt; first.moment(), 5);
     first.spend()?;
     assert_eq!(rt; first.left(), (1 << 40) - 1001);
-    assert_eq!(rt; touch_all(&turnstile, &mut first, &rt, alloc), Ok((668, 666, 666)));
+    assert_eq!(rt;
+        touch_all(&turnstile, &mut first, &rt, alloc),
+        Ok((668, 666, 666))
+    );
     assert_eq!(rt; first.left(), (1 << 40) - 1002);
     assert_eq!(rt; first.number(), 0);
     let cells = closed(alloc, turnstile, first, second)?;
@@ -283,7 +290,10 @@ fn four_threads(rt: HostRuntime) -> Result<(), Fail> {
             requires { (three.turnstile ≡ shared.now.id) × (four.turnstile ≡ shared.now.id) × (three.turns ≡ []) × (four.turns ≡ []) × (3 ≤ shared.now.id.slots) }
         { mingle_two(handle, shared, three, four, alloc) },
     );
-    assert_eq!(rt; touch_all(&turnstile, &mut last, &rt, alloc), Ok((400, 400, 400)));
+    assert_eq!(rt;
+        touch_all(&turnstile, &mut last, &rt, alloc),
+        Ok((400, 400, 400))
+    );
     Ok(())
 }
 
@@ -317,12 +327,7 @@ fn hold<R: Wait>(
     seen
 }
 
-fn visit<R: Wait>(
-    turnstile: &Turnstile<Counters>,
-    pass: Pass<Counters>,
-    rt: &R,
-    done: &AtomicBool,
-)
+fn visit<R: Wait>(turnstile: &Turnstile<Counters>, pass: Pass<Counters>, rt: &R, done: &AtomicBool)
     requires of { pass.turnstile ≡ turnstile.now.id }
     requires free { pass.turns ≡ [] }
     requires cells { 3 ≤ turnstile.now.id.slots }

@@ -116,13 +116,7 @@ impl<W: World> Turnstile<W> {
             value,
             counted: _,
         } = turn;
-        put_back(
-            &self.table,
-            &mut pass.seat,
-            cell as usize,
-            number,
-            value,
-        );
+        put_back(&self.table, &mut pass.seat, cell as usize, number, value);
     }
 
     /// Takes one unit of the pass, and takes the turns of all cells, in ascending order.

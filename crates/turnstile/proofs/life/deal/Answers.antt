@@ -1,4 +1,4 @@
-use Rattle.std.proofs.Common.{◌≡◌, ℕ, ◌+◌, ◌-◌, ◌<◌, ◌≤◌, [], ◌∷◌, ◌++◌, Option, arith, ap, ◌∙◌, sym, subst, refl}
+use Rattle.std.proofs.Common.{ℕ, ◌+◌, ◌-◌, ◌<◌, [], ◌∷◌, ◌++◌, Option, arith, ap, ◌∙◌}
 use Rattle.atomic_table.specs.Table.{Me}
 use Rattle.turnstile.specs.declared.board.View.{View}
 use Rattle.turnstile.specs.Kept.{upwards}

@@ -1,7 +1,7 @@
-use Rattle.std.proofs.Common.{◌≡◌, ℕ, List, [], ◌∷◌, ◌++◌, length, vec_len, Some, arith, ap, ◌∙◌, sym, subst, refl, inl, inr, ⊎_elim}
+use Rattle.std.proofs.Common.{◌≡◌, [], ◌∷◌, length, vec_len, Some, arith, ◌∙◌, sym, subst, refl, inl, inr, ⊎_elim}
 use Rattle.std.specs.Prelude.{slice_get}
 use Rattle.turnstile.specs.Histories.{Has}
-use Rattle.turnstile.specs.Passes.{PassView, HasPass}
+use Rattle.turnstile.specs.Passes.{HasPass}
 use Rattle.turnstile.proofs.Basics.{get_last, get_push, get_front, below_get}
 use Rattle.turnstile.proofs.life.gather.Goals as goal
 

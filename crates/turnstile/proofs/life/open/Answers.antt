@@ -1,4 +1,4 @@
-use Rattle.std.proofs.Common.{◌≡◌, ℕ, length, vec_len, arith, refl}
+use Rattle.std.proofs.Common.{◌≡◌, length, vec_len, arith, refl}
 use Rattle.turnstile.proofs.Ends.{opens_at}
 use Rattle.turnstile.proofs.life.open.Goals as goal
 

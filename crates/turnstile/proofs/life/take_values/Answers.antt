@@ -1,11 +1,11 @@
-use Rattle.std.proofs.Common.{◌≡◌, ◌≢◌, ℕ, zero, suc, ◌+◌, ◌<◌, ◌≤◌, Bool, true, false, List, [], ◌∷◌, ◌++◌, length, get_or, set, Some, Option, IsSome, vec_len, vec_capacity, arith, rules, ap, ◌∙◌, sym, subst, refl, filter, ⊎_elim, get_or-set_other}
+use Rattle.std.proofs.Common.{◌≡◌, ℕ, zero, suc, ◌+◌, Bool, false, List, [], ◌∷◌, length, get_or, set, Some, IsSome, arith, rules, ap, ◌∙◌, sym, subst, refl, filter, ⊎_elim, get_or-set_other}
 use Rattle.std.specs.Prelude.{slice_get}
 use Rattle.std.proofs.lemmas.List.{length_push}
 use mathlib.Core.Logic.{dite}
 use mathlib.Core.Option.{some, some-injective}
 use native.Mathlib.Decide.{ℕ_discrete}
 use lib.ListN.{get_elem?}
-use Rattle.std.specs.Mem.Slots.{slots_filled, slots_len, slots_items}
+use Rattle.std.specs.Mem.Slots.{slots_filled, slots_items}
 use Rattle.turnstile.specs.Histories.{is_of}
 use Rattle.turnstile.proofs.Basics.{get_push, below_get, Some-injective}
 use Rattle.turnstile.proofs.Ends.{closes}

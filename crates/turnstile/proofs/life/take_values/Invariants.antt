@@ -14,5 +14,5 @@ invariant-loop-slot g l = record {
   len : slots_len l.closed.slots ≡ slots_len l.initial.closed.slots;
   roomy : slots_len l.closed.slots ≤ vec_capacity l.values;
   count : length l.values.items ≡ l.slot;
-  taken : (c : ℕ) (x : _) → slice_get l.values.items c ≡ Some x → get_elem? (slots_items l.initial.closed.slots) c ≡ some (Some x)
+  taken : (c : ℕ) (x : _) → slice_get l.values.items c ≡ Some x → get_elem? (slots_items l.initial.closed.slots) c ≡ some (Some x);
 }

@@ -1,4 +1,4 @@
-use Rattle.std.proofs.Common.{◌≡◌, ℕ, arith, ap, ◌∙◌, ◌+◌, subst, sym, drop}
+use Rattle.std.proofs.Common.{arith, ap, ◌∙◌, ◌+◌, subst, sym, drop}
 use Rattle.atomic_table.specs.Table.{rest}
 use Rattle.turnstile.specs.Histories.{at_cell}
 use Rattle.turnstile.specs.Kept.{ticket}

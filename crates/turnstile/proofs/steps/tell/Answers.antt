@@ -1,4 +1,4 @@
-use Rattle.std.proofs.Common.{arith, ap, ◌∙◌, sym, subst, []}
+use Rattle.std.proofs.Common.{arith, ap, ◌∙◌, subst}
 use Rattle.turnstile.specs.Histories.{Has}
 use Rattle.turnstile.proofs.Seats.{notes, gathers}
 use Rattle.turnstile.proofs.Rule.{learns}
@@ -32,7 +32,7 @@ load-requires g c = let W = g.W.World in let b = c.args.board.now.shared in let 
 pub returns : goal.returns
 returns g c = let W = g.W.World in let b = c.args.board.now.shared in let s = c.split_seat-note.ensures in let j = c.join_seat.ensures in let l = c.load.ensures in
     let m = met_of W.by W.cell W.legal b.table_id.slots c.args.place.now.me.0 c.args.other.now.me.0 c.split_seat-note.result.me.0 c.args.place.now.me.1 c.join_seat.new.seat.me c.load.new.seat.me (ap (λ q. q.0) s.4) j.2 l.2 in record {
-  seat = (l.0 ∙ j.0, l.1 ∙ j.1, m.1);
-  met = m.0;
-  other = (s.0, s.1, s.2);
-}
+      seat = (l.0 ∙ j.0, l.1 ∙ j.1, m.1);
+      met = m.0;
+      other = (s.0, s.1, s.2);
+    }

@@ -1,7 +1,7 @@
-use Rattle.std.proofs.Common.{◌≡◌, arith, ap, ◌∙◌, sym, subst, ◌+◌, ◌∷◌, Some, IsSome, rules}
+use Rattle.std.proofs.Common.{arith, ap, ◌∙◌, sym, subst, ◌+◌, ◌∷◌, Some, IsSome, rules}
 use Rattle.atomic_table.specs.Table.{rest}
 use Rattle.turnstile.specs.Kept.{ticket}
-use Rattle.turnstile.specs.Steps.{Taken, TakesTurn}
+use Rattle.turnstile.specs.Steps.{Taken}
 use Rattle.turnstile.proofs.Looks.{looks}
 use Rattle.turnstile.proofs.Meets.{taken_of, one_value}
 use Rattle.turnstile.proofs.steps.wait.Goals as goal

@@ -1,11 +1,10 @@
-use Rattle.std.proofs.Common.{◌≡◌, ◌≢◌, ℕ, ◌+◌, ◌<◌, ◌≤◌, [], ◌∷◌, ◌++◌, length, drop, filter, vec_len, Some, None, Option, arith, ap, ◌∙◌, sym, subst}
+use Rattle.std.proofs.Common.{◌≡◌, ℕ, [], ◌∷◌, length, drop, filter, vec_len, Some, None, Option, arith, ap, ◌∙◌, sym, subst}
 use Rattle.std.specs.Prelude.{slice_get}
 use Rattle.std.proofs.lemmas.List.{length_push}
 use Rattle.atomic_table.specs.Table.{Me, rest}
 use Rattle.atomic_table.specs.Seated.{TableId}
 use Rattle.turnstile.specs.declared.board.View.{View}
-use Rattle.turnstile.specs.declared.board.Ticket.{Ticket}
-use Rattle.turnstile.specs.Histories.{Has, is_of, at_cell}
+use Rattle.turnstile.specs.Histories.{Has, is_of}
 use Rattle.turnstile.specs.Kept.{ticket}
 use Rattle.turnstile.specs.Steps.{outside}
 use Rattle.turnstile.specs.Passes.{stacked, emptied}

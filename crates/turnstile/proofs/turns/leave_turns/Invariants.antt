@@ -11,7 +11,7 @@ invariant-loop-number g l = let W = g.W.World in let m = l.initial.place in reco
   count : length l.values.items ≡ length l.numbers.items;
   few : length l.numbers.items ≤ m.table_id.slots;
   small : (k t : ℕ) → slice_get l.numbers.items k ≡ Some t → t < 2 ^ 60;
-  stands : EachStands W.stands m.table_id.slots l.values.items (λ c. at_cell W.cell c m.me.0.front)
+  stands : EachStands W.stands m.table_id.slots l.values.items (λ c. at_cell W.cell c m.me.0.front);
 }
 
 abbrev pub decreases-loop-number : goal.decreases-loop-number

@@ -1,8 +1,8 @@
-use Rattle.std.proofs.Common.{◌≡◌, ℕ, ◌+◌, ◌*◌, ◌<◌, ◌≤◌, [], ◌∷◌, ◌++◌, length, filter, Some, arith, ap, ◌∙◌, sym, subst, ⊎_elim}
+use Rattle.std.proofs.Common.{◌≡◌, ℕ, ◌+◌, ◌*◌, ◌<◌, ◌≤◌, [], ◌∷◌, length, filter, Some, arith, ap, ◌∙◌, sym, subst, ⊎_elim}
 use Rattle.std.specs.Prelude.{slice_get}
 use Rattle.std.proofs.lemmas.List.{length_push}
 use Rattle.atomic_table.specs.Seated.{TableId}
-use Rattle.turnstile.specs.Histories.{Has, is_of, at_cell}
+use Rattle.turnstile.specs.Histories.{Has, is_of}
 use Rattle.turnstile.specs.Kept.{ticket}
 use Rattle.turnstile.specs.Steps.{Taken}
 use Rattle.turnstile.specs.Passes.{stacked}

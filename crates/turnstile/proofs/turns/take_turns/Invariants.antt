@@ -1,4 +1,4 @@
-use Rattle.std.proofs.Common.{◌≡◌, ◌≤◌, ◌+◌, ◌*◌, ℕ, [], length, vec_capacity}
+use Rattle.std.proofs.Common.{◌≡◌, ◌≤◌, ◌+◌, ◌*◌, [], length, vec_capacity}
 use Rattle.turnstile.specs.Histories.{at_cell, Trail}
 use Rattle.turnstile.specs.Passes.{IsSound, stacked, EachStands}
 use Rattle.turnstile.proofs.turns.take_turns.Given as goal
@@ -16,5 +16,5 @@ invariant-loop-cell g l = let W = g.W.World in let p = l.initial.pass-inside in 
   held : me.0.held ≡ stacked 0 l.numbers.items [];
   count : (length l.numbers.items ≡ l.cell) × (length l.values.items ≡ l.cell);
   stands : EachStands W.stands z.slots l.values.items (λ c. at_cell W.cell c me.0.front);
-  roomy : (z.slots ≤ vec_capacity l.numbers) × (z.slots ≤ vec_capacity l.values)
+  roomy : (z.slots ≤ vec_capacity l.numbers) × (z.slots ≤ vec_capacity l.values);
 }

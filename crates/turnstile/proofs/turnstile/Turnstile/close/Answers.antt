@@ -30,7 +30,7 @@ take_values-requires-clause-all g c = λ q lt. let W = g.W.World in let new = c.
     let s = c.into_seat.ensures in let a = c.gather-place.ensures in let place = c.gather-place.result.me.0 in
     let got_first : HasPass W.by first.number first.front place = a.kept first.number first.front (subst (λ f. HasPass W.by first.number f c.into_seat.result.me.0) s.seat.1 record { has = subst (λ l. Has l first.number) (sym s.seat.2) (inl refl); trail = trail_self W.by first.number c.into_seat.result.me.0.front }) in
     let got : (i : ℕ) (p : PassView g.row.W-Entry.Denot) → slice_get c.args.passes i ≡ Some p → HasPass W.by p.number p.front place = λ i p e. ⊎_elim (λ h. a.got i p h) (λ h. subst (λ x. HasPass W.by x.number x.front place) h.1 got_first)
-        (get_push new first p i (subst (λ l. slice_get l i ≡ Some p) (sym all_is) e)) in
+    (get_push new first p i (subst (λ l. slice_get l i ≡ Some p) (sym all_is) e)) in
     let h = c.requires.all q (subst (λ (k : ℕ). q < k) (ap (λ t. t.passes) c.self.view_is) lt) in
     subst (λ x. Has place.numbers x) h.3 (got h.0 h.1 h.2).has
 
@@ -41,7 +41,7 @@ returns-clause-history g c = let W = g.W.World in let new = c.pop.new.self.items
     let s = c.into_seat.ensures in let a = c.gather-place.ensures in let place = c.gather-place.result.me.0 in
     let got_first : HasPass W.by first.number first.front place = a.kept first.number first.front (subst (λ f. HasPass W.by first.number f c.into_seat.result.me.0) s.seat.1 record { has = subst (λ l. Has l first.number) (sym s.seat.2) (inl refl); trail = trail_self W.by first.number c.into_seat.result.me.0.front }) in
     let got : (i : ℕ) (p : PassView g.row.W-Entry.Denot) → slice_get c.args.passes i ≡ Some p → HasPass W.by p.number p.front place = λ i p e. ⊎_elim (λ h. a.got i p h) (λ h. subst (λ x. HasPass W.by x.number x.front place) h.1 got_first)
-        (get_push new first p i (subst (λ l. slice_get l i ≡ Some p) (sym all_is) e)) in
+    (get_push new first p i (subst (λ l. slice_get l i ≡ Some p) (sym all_is) e)) in
     let k = c.take_values.ensures.kept in
     subst (λ l. IsOneHistory W.by W.cell W.stands W.legal c.args.self.id.slots c.args.passes l) (sym c.from.ensures)
     (subst (λ (z : TableId). IsOneHistory W.by W.cell W.stands W.legal z.slots c.args.passes c.take_values.result.items) sid record {

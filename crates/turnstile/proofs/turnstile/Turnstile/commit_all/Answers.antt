@@ -1,9 +1,9 @@
-use Rattle.std.proofs.Common.{◌≡◌, ℕ, ◌<◌, ◌≤◌, ◌+◌, ◌*◌, Bool, true, length, filter, Some, [], ◌∷◌, ◌++◌, arith, ap, ◌∙◌, sym, subst, refl, inl, eq-eqb}
+use Rattle.std.proofs.Common.{◌≡◌, ℕ, true, [], ◌∷◌, ◌++◌, arith, ap, ◌∙◌, sym, subst, refl}
 use Rattle.atomic_table.specs.Seated.{TableId}
 use Rattle.turnstile.specs.Histories.{Has, is_of, at_cell, Ends}
 use Rattle.turnstile.specs.Kept.{ticket}
 use Rattle.turnstile.specs.Steps.{Counts}
-use Rattle.turnstile.specs.Passes.{PassView, IsSound, stacked}
+use Rattle.turnstile.specs.Passes.{IsSound}
 use Rattle.turnstile.proofs.Basics.{get_below, below_get}
 use Rattle.turnstile.proofs.Stacks.{stacked_here}
 use Rattle.turnstile.proofs.Sound.{counted}

@@ -1,9 +1,9 @@
-use Rattle.std.proofs.Common.{◌≡◌, ℕ, ◌<◌, ◌≤◌, ◌+◌, ◌*◌, Bool, true, [], ◌∷◌, ◌++◌, Some, arith, ap, ◌∙◌, sym, subst, refl, inl, eq-eqb}
+use Rattle.std.proofs.Common.{◌≡◌, ℕ, true, [], ◌∷◌, ◌++◌, ap, ◌∙◌, sym, subst, refl, inl, eq-eqb}
 use Rattle.atomic_table.specs.Seated.{TableId}
 use Rattle.turnstile.specs.Histories.{Has, is_of, at_cell, Ends}
 use Rattle.turnstile.specs.Kept.{ticket}
 use Rattle.turnstile.specs.Steps.{Counts}
-use Rattle.turnstile.specs.Passes.{PassView, IsSound}
+use Rattle.turnstile.specs.Passes.{IsSound}
 use Rattle.turnstile.proofs.Histories.{is_of_same}
 use Rattle.turnstile.proofs.Sound.{counted}
 use Rattle.turnstile.proofs.turnstile.Turnstile.commit_entry.Goals as goal

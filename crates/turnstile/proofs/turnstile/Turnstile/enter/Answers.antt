@@ -1,9 +1,9 @@
-use Rattle.std.proofs.Common.{◌≡◌, ℕ, ◌<◌, ◌≤◌, ◌+◌, ◌*◌, [], ◌∷◌, arith, ap, ◌∙◌, sym, subst}
+use Rattle.std.proofs.Common.{◌≡◌, ℕ, ◌<◌, ◌≤◌, ◌+◌, ◌*◌, [], arith, ap, ◌∙◌, sym, subst}
 use Rattle.atomic_table.specs.Seated.{TableId}
 use Rattle.turnstile.specs.Histories.{Trail}
 use Rattle.turnstile.specs.Kept.{ticket}
 use Rattle.turnstile.specs.Steps.{Taken}
-use Rattle.turnstile.specs.Passes.{PassView, most_units}
+use Rattle.turnstile.specs.Passes.{most_units}
 use Rattle.turnstile.proofs.Sound.{entered, spent}
 use Rattle.turnstile.proofs.turnstile.Turnstile.enter.Goals as goal
 

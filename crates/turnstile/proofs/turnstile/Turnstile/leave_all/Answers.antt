@@ -1,4 +1,4 @@
-use Rattle.std.proofs.Common.{◌≡◌, ℕ, [], ◌∷◌, ap, ◌∙◌, sym, subst, filter}
+use Rattle.std.proofs.Common.{ap, ◌∙◌, sym, subst, filter}
 use Rattle.atomic_table.specs.Seated.{TableId}
 use Rattle.turnstile.specs.Histories.{Has, is_of}
 use Rattle.turnstile.specs.Kept.{ticket}
