@@ -210,6 +210,7 @@ fn two_thousand(rt: HostRuntime) -> Result<(), Fail> {
     let mut passes: Vec<Pass<Counters>> = passes.into();
     let two = passes.pop().ok_or("the second pass")?;
     let one = passes.pop().ok_or("the first pass")?;
+    assert_eq!(rt; turnstile.cells(), 3);
     let (first, second) = two_threads(&rt, &turnstile, one, two);
     assert_eq!(rt; first.left(), (1 << 40) - 1000);
     assert_eq!(rt; second.left(), (1 << 40) - 1000);

@@ -59,6 +59,13 @@ impl<W: World> Turnstile<W> {
         Ok((Turnstile { table, room }, Seq::from(dealt)))
     }
 
+    /// How many cells there are.
+    pub fn cells(&self) -> usize
+        ensures { result ≡ self.now.id.slots }
+    {
+        self.table.slot_count()
+    }
+
     /// Takes one unit of the pass, waits for the turn of the cell and takes it.
     pub fn enter<R: Wait>(&self, pass: &mut Pass<W>, rt: &R, cell: u32) -> Result<Turn<W>, Spent>
         requires of { pass.old.turnstile ≡ self.now.id }
