@@ -1,0 +1,6 @@
+mod Basics
+mod StampLaws
+mod Invariant
+mod Local
+mod Ends
+mod Kept
