@@ -4,3 +4,5 @@ mod Invariant
 mod Local
 mod Ends
 mod Kept
+mod Readings
+mod SerialLaws

@@ -1,5 +1,5 @@
 -- The one order of all that was accepted, and the tables that it makes: no word of cells, holds or stamps of items.
-use Rattle.std.specs.Prelude.{◌≡◌, ℕ, ◌+◌, Bool, true, false, not, ◌&&◌, ◌||◌, nat_eq, List, [], ◌∷◌, Option, None, Some, is_some, if◌then◌else◌}
+use Rattle.std.specs.Prelude.{◌≡◌, ℕ, ◌+◌, length, Bool, true, false, not, ◌&&◌, ◌||◌, nat_eq, List, [], ◌∷◌, Option, None, Some, is_some, if◌then◌else◌}
 use Rattle.std.specs.List.{find, list_any}
 use Rattle.txn_core.specs.declared.stamp.Stamp.{Stamp}
 use Rattle.txn_core.specs.Stamps.{earlier, single}
@@ -48,6 +48,20 @@ module _ {K A D : Type 0} where
   serial (Commits n ∷ es) = Whole n (begun_stamp es n) (begun_actions es n) ∷ serial es
   serial (Changed d moment ∷ es) = Altered d moment ∷ serial es
   serial (_ ∷ es) = serial es
+
+  -- the committed transaction of this number, whole and once; nothing of any other
+  abbrev pub once_whole : List (Effect K A D) → ℕ → List (Stamp × List A)
+  once_whole es n = if is_committed es n then (begun_stamp es n, begun_actions es n) ∷ [] else []
+
+  -- the number of effects before that commit
+  abbrev pub place : List (Effect K A D) → ℕ → ℕ
+  place [] n = 0
+  place (Commits m ∷ es) n = if nat_eq m n then length es else place es n
+  place (_ ∷ es) n = place es n
+
+  abbrev pub point_by : List (Effect K A D) → Option ℕ → ℕ
+  point_by es None = length es
+  point_by es (Some n) = place es n
 
 -- the stamp and the actions of a number at each place where it stands in the order
 abbrev pub standings : {A D : Type 0} → List (Change A D) → ℕ → List (Stamp × List A)
@@ -112,3 +126,7 @@ module _ {K V A F C D : Type 0} (P : Protocol K V A F C D) where
   IsStampOrder [] = Unit {0}
   IsStampOrder (Whole n stamp actions ∷ cs) = IsAfter stamp actions cs × IsStampOrder cs
   IsStampOrder (_ ∷ cs) = IsStampOrder cs
+
+  -- the point of the history at which an item is shown: the end, or where a transaction waits on it, before that commit
+  abbrev pub point : List (Effect K A D) → K → ℕ
+  point es q = point_by es (waiting es q)
