@@ -6,3 +6,4 @@ mod Ends
 mod Kept
 mod Readings
 mod SerialLaws
+mod Points

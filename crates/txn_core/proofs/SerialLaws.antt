@@ -11,6 +11,7 @@ use Rattle.txn_core.specs.Effects.{Effect, Wrote, Begun, Prepared, Commits, Canc
 use Rattle.txn_core.specs.World.{Pending, Spot, Ledger, World, holder, on_item, action_on, touches, at, ledger_begun, ledger_decided, world}
 use Rattle.txn_core.specs.Runs.{IsRun, MayCommit}
 use Rattle.txn_core.specs.Serial.{Change, Single, Whole, Altered, begun_stamp, begun_actions, committed_numbers, is_committed, decisions, serial, standings, once_whole, catalog_of, tables, is_applied, waits_on, waiting, before, shown_by, shown, Share, IsAfter, IsStampOrder}
+use Rattle.txn_core.specs.Laws.{HoldsTheTables, ActsAsAccepted}
 use Rattle.txn_core.proofs.Basics.{none_some, some_is, true_false, at_split, held, holder_is, some_of}
 use Rattle.txn_core.proofs.Invariant.{GoodSpot, Good}
 use Rattle.txn_core.proofs.Ends.{find_passes}
@@ -18,7 +19,7 @@ use Rattle.txn_core.proofs.Kept.{good}
 use Rattle.txn_core.proofs.Readings.{is_commit, is_commit-true, decided_count, catalog_read, actions_read, stamp_read, fate_read, decisions_read, applied_read, tab_read, base_read}
 
 -- what is found stands in the list
-find_listed : (test : ℕ → Bool) (ns : List ℕ) (n : ℕ) → find test ns ≡ Some n → list_any (λ m. nat_eq m n) ns ≡ true
+pub find_listed : (test : ℕ → Bool) (ns : List ℕ) (n : ℕ) → find test ns ≡ Some n → list_any (λ m. nat_eq m n) ns ≡ true
 find_listed test [] n e = absurd (cc)
 find_listed test (m ∷ ns) n e =
     cond_both (test m) (Some m) (find test ns) (λ o. o ≡ Some n → (nat_eq m n || list_any (λ k. nat_eq k n) ns) ≡ true)
@@ -30,7 +31,7 @@ find_listed test (m ∷ ns) n e =
     or_true false b h = h
 
 -- where nothing is found, nothing in the list passes
-find_none : (test : ℕ → Bool) (ns : List ℕ) (n : ℕ) → find test ns ≡ None → list_any (λ m. nat_eq m n) ns ≡ true → test n ≡ false
+pub find_none : (test : ℕ → Bool) (ns : List ℕ) (n : ℕ) → find test ns ≡ None → list_any (λ m. nat_eq m n) ns ≡ true → test n ≡ false
 find_none test [] n e h = absurd (cc)
 find_none test (m ∷ ns) n e h =
     cond_both (test m) (Some m) (find test ns) (λ o. test m ≡ false ⊎ (test m ≡ true) → o ≡ None → test n ≡ false)
@@ -73,25 +74,15 @@ module _ {K V A F C D : Type 0} (P : Protocol K V A F C D) (law : IsLawful P) wh
         unapplied = applied_read P es q n ∙ not-true (is_applied P es q n) parts.1;
       }
 
-  -- it holds the item's value in the tables, and the row is as it was before its commit
-  pub record Veils (es : List (Effect K A D)) (q : K) (n : ℕ) : Type 0 where
-    pub pending : Pending V
-    pub is_held : ((world P es).spot q).pend ≡ Some pending
-    pub its : pending.number ≡ n
-    pub image : pending.image ≡ tables P (serial es) q
-    pub row : ((world P es).spot q).row ≡ before P es n q
-
-  pub veils : (es : List (Effect K A D)) → IsRun P es → (q : K) (n : ℕ) → waiting P es q ≡ Some n → Veils es q n
-  veils es run q n e =
+  -- it holds the item, and veils what it did to the tables
+  pub holds_the_tables : (es : List (Effect K A D)) → IsRun P es → (q : K) (n : ℕ) → waiting P es q ≡ Some n → HoldsTheTables P es q n × (((world P es).spot q).row ≡ before P es n q)
+  holds_the_tables es run q n e =
       let w = waiting_is es run q n e in
       let g = (good P law es run).spots q in
       let h = held ((world P es).spot q).pend n (g.waits n w.committed w.touched w.unapplied) in
       let v = g.veiled h.0 h.1 (subst (λ x. (world P es).ledger.fate x ≡ Committed) (sym h.2) w.committed) in
-      record {
-        pending = h.0; is_held = h.1; its = h.2;
-        image = sym v.0 ∙ tab_read P es run q;
-        row = v.1 ∙ ap (λ x. ((world P es).spot q).base x) h.2 ∙ base_read P es run q n;
-      }
+      (record { pending = h.0; is_held = h.1; its = h.2; image = sym v.0 ∙ tab_read P es run q },
+      v.1 ∙ ap (λ x. ((world P es).spot q).base x) h.2 ∙ base_read P es run q n)
 
   pub rows_are_shown : (es : List (Effect K A D)) → IsRun P es → (q : K) → ((world P es).spot q).row ≡ shown P es q
   rows_are_shown es run q = go (waiting P es q) refl
@@ -105,7 +96,7 @@ module _ {K V A F C D : Type 0} (P : Protocol K V A F C D) (law : IsLawful P) wh
             (find_none (waits_on P es q) (committed_numbers es) p.number e (committed_of es run p.number f)))
       go : (o : Option ℕ) → waiting P es q ≡ o → ((world P es).spot q).row ≡ shown_by P es q o
       go None e = unveiled e ((world P es).spot q).pend refl ∙ tab_read P es run q
-      go (Some n) e = (veils es run q n e).row
+      go (Some n) e = (holds_the_tables es run q n e).1
 
   -- at most one decision
   pub decided_once : (es : List (Effect K A D)) → IsRun P es → (n : ℕ) → decisions es n ≤ 1
@@ -116,7 +107,7 @@ module _ {K V A F C D : Type 0} (P : Protocol K V A F C D) (law : IsLawful P) wh
       few _ = omega arith
 
   -- a committed number was begun before
-  committed_before : (es : List (Effect K A D)) → IsRun P es → (n : ℕ) → is_committed es n ≡ true → (world P es).ledger.next ≡ n → ⊥
+  pub committed_before : (es : List (Effect K A D)) → IsRun P es → (n : ℕ) → is_committed es n ≡ true → (world P es).ledger.next ≡ n → ⊥
   committed_before es run n h e =
       let f = committed_is es run n h in
       let u = (good P law es run).fresh n (omega arith) in cc
@@ -150,13 +141,7 @@ module _ {K V A F C D : Type 0} (P : Protocol K V A F C D) (law : IsLawful P) wh
   stands_once (_ ∷ es) run n = stands_once es run.0 n
 
   -- at a commit, each action does to the tables what its accepted Prepare found
-  pub record Outcome' (es : List (Effect K A D)) (n : ℕ) (q : K) (a : A) : Type 0 where
-    pub pending : Pending V
-    pub is_held : ((world P es).spot q).pend ≡ Some pending
-    pub its : pending.number ≡ n
-    pub outcome : P.act (catalog_of P (serial es)) a (tables P (serial es) q) ≡ New pending.image
-
-  pub outcome_at_commit : (es : List (Effect K A D)) (n : ℕ) → IsRun P (Commits n ∷ es) → (q : K) (a : A) → on_item P (begun_actions es n) q ≡ Some a → Outcome' es n q a
+  pub outcome_at_commit : (es : List (Effect K A D)) (n : ℕ) → IsRun P (Commits n ∷ es) → (q : K) (a : A) → on_item P (begun_actions es n) q ≡ Some a → ActsAsAccepted P es n q a
   outcome_at_commit es n run q a e =
       let may : MayCommit P (world P es) n = run.1 in
       let g = (good P law es run.0).spots q in
@@ -171,8 +156,73 @@ module _ {K V A F C D : Type 0} (P : Protocol K V A F C D) (law : IsLawful P) wh
       }
 
   -- each transaction in the list is committed, with this stamp and these actions
-  AllWhole : Ledger A → List (Change A D) → Type 0
+  abbrev pub AllWhole : Ledger A → List (Change A D) → Type 0
   AllWhole l [] = Unit {0}
   AllWhole l (Whole n stamp actions ∷ cs) = ((l.fate n ≡ Committed) × (l.stamp n ≡ stamp) × (l.actions n ≡ actions)) × AllWhole l cs
   AllWhole l (Single a ∷ cs) = AllWhole l cs
   AllWhole l (Altered d moment ∷ cs) = AllWhole l cs
+
+  all_more : (l m : Ledger A) → ((n : ℕ) → l.fate n ≡ Committed → (m.fate n ≡ Committed) × (m.stamp n ≡ l.stamp n) × (m.actions n ≡ l.actions n)) → (cs : List (Change A D)) → AllWhole l cs → AllWhole m cs
+  all_more l m keeps [] h = tt
+  all_more l m keeps (Whole n stamp actions ∷ cs) h = let k = keeps n h.0.0 in ((k.0, k.1 ∙ h.0.1, k.2 ∙ h.0.2), all_more l m keeps cs h.1)
+  all_more l m keeps (Single a ∷ cs) h = all_more l m keeps cs h
+  all_more l m keeps (Altered d moment ∷ cs) h = all_more l m keeps cs h
+
+  all_whole : (es : List (Effect K A D)) → IsRun P es → AllWhole (world P es).ledger (serial es)
+  all_whole [] run = tt
+  all_whole (Commits n ∷ es) run =
+      let l = (world P es).ledger in
+      ((at_split l.fate n Committed n (λ x. x ≡ Committed) (λ e. refl) (λ e. absurd (e refl)), stamp_read P es run.0 n, actions_read P es run.0 n),
+      all_more l (ledger_decided l n Committed) (λ m f. (at_split l.fate n Committed m (λ x. x ≡ Committed) (λ e. refl) (λ e. f), refl, refl)) (serial es) (all_whole es run.0))
+  all_whole (Begun stamp actions ∷ es) run =
+      let l = (world P es).ledger in
+      let old : (m : ℕ) → l.fate m ≡ Committed → l.next ≡ m → ⊥ = λ m f e. committed_before es run.0 m (committed_of es run.0 m f) e in
+      all_more l (ledger_begun l stamp actions)
+      (λ m f. (f, at_split l.stamp l.next stamp m (λ x. x ≡ l.stamp m) (λ e. absurd (old m f e)) (λ e. refl), at_split l.actions l.next actions m (λ x. x ≡ l.actions m) (λ e. absurd (old m f e)) (λ e. refl)))
+      (serial es) (all_whole es run.0)
+  all_whole (Cancels n ∷ es) run =
+      let l = (world P es).ledger in
+      all_more l (ledger_decided l n Cancelled)
+      (λ m f. (at_split l.fate n Cancelled m (λ x. x ≡ Committed) (λ e. let u = subst (λ x. l.fate x ≡ Undecided) e run.1.1 in absurd (cc)) (λ e. f), refl, refl))
+      (serial es) (all_whole es run.0)
+  all_whole (Finished n ∷ es) run = all_more (world P es).ledger (world P (Finished n ∷ es)).ledger (λ m f. (f, refl, refl)) (serial es) (all_whole es run.0)
+  all_whole (Forgot n ∷ es) run = all_more (world P es).ledger (world P (Forgot n ∷ es)).ledger (λ m f. (f, refl, refl)) (serial es) (all_whole es run.0)
+  all_whole (Wrote a moment ∷ es) run = all_whole es run.0
+  all_whole (Changed d moment ∷ es) run = all_whole es run.0
+  all_whole (_ ∷ es) run = all_whole es run.0
+
+  -- a transaction that commits comes after each one in the order that shares an item with it
+  after_shared : (es : List (Effect K A D)) (n : ℕ) → IsRun P (Commits n ∷ es) → (m : ℕ) (other : Stamp) (others : List A) → ((world P es).ledger.fate m ≡ Committed) × ((world P es).ledger.stamp m ≡ other) × ((world P es).ledger.actions m ≡ others) → Share P (begun_actions es n) others → earlier other (begun_stamp es n) ≡ true
+  after_shared es n run m other others whole share = applied (((world P es).spot share.0).applied m) refl
+    where
+      applied : (b : Bool) → ((world P es).spot share.0).applied m ≡ b → earlier other (begun_stamp es n) ≡ true
+      applied b e =
+          let may : MayCommit P (world P es) n = run.1 in
+          let l = (world P es).ledger in
+          let g = (good P law es run.0).spots share.0 in
+          let mine = ap (λ x. is_some (on_item P x share.0)) (actions_read P es run.0 n) ∙ share.1 in
+          let its = ap (λ x. is_some (on_item P x share.0)) whole.2 ∙ share.2 in
+          let h = held ((world P es).spot share.0).pend n (g.ready n may.first (may.all_accepted share.0 mine)) in
+          elim b as (λ x. ((world P es).spot share.0).applied m ≡ x → earlier other (begun_stamp es n) ≡ true) [
+            | true ↦ λ a.
+                let stamps : h.0.stamp ≡ begun_stamp es n = g.stamped h.0 h.1 ∙ ap l.stamp h.2 ∙ stamp_read P es run.0 n in
+                (λ i. earlier (sym whole.1 i) (sym stamps i)) ∙ g.above h.0 m h.1 a
+            | false ↦ λ a.
+                let same : n ≡ m = sym h.2 ∙ some_is h.0.number m (sym (holder_is ((world P es).spot share.0).pend h.0 h.1) ∙ g.waits m whole.0 its a) in
+                let u = subst (λ x. l.fate x ≡ Undecided) same may.first in
+                let f = whole.0 in
+                absurd (cc)
+          ] e
+
+  after_all : (es : List (Effect K A D)) (n : ℕ) → IsRun P (Commits n ∷ es) → (cs : List (Change A D)) → AllWhole (world P es).ledger cs → IsAfter P (begun_stamp es n) (begun_actions es n) cs
+  after_all es n run [] h = tt
+  after_all es n run (Whole m other others ∷ cs) h = (after_shared es n run m other others h.0, after_all es n run cs h.1)
+  after_all es n run (Single a ∷ cs) h = after_all es n run cs h
+  after_all es n run (Altered d moment ∷ cs) h = after_all es n run cs h
+
+  pub stamp_order : (es : List (Effect K A D)) → IsRun P es → IsStampOrder P (serial es)
+  stamp_order [] run = tt
+  stamp_order (Commits n ∷ es) run = (after_all es n run (serial es) (all_whole es run.0), stamp_order es run.0)
+  stamp_order (Wrote a moment ∷ es) run = stamp_order es run.0
+  stamp_order (Changed d moment ∷ es) run = stamp_order es run.0
+  stamp_order (_ ∷ es) run = stamp_order es run.0

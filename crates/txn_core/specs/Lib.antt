@@ -5,3 +5,4 @@ pub mod Effects
 pub mod World
 pub mod Runs
 pub mod Serial
+pub mod Laws
