@@ -1,6 +1,7 @@
 pub mod Course
 pub mod Stamps
 pub mod Protocol
+pub mod Service
 pub mod Effects
 pub mod World
 pub mod Runs

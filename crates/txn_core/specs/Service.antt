@@ -1,0 +1,30 @@
+-- What the messages need to know beside the protocol: tokens, the catalog's own answers, and the cells' numbers.
+use Rattle.std.specs.Prelude.{◌≡◌, ℕ, Bool, true, false, List, Option, None}
+use Rattle.txn_core.specs.Protocol.{Protocol, IsLawful}
+
+-- what the catalog says of a command: it is carried out, or refused
+pub data Ruling (B : Type 0) : Type 0 where
+  Carries : B → Ruling B
+  Refuses : B → Ruling B
+
+-- Q: a question about the catalog; B: what is told of it
+pub record Service (K V A F C D Q B : Type 0) : Type 0 where
+  pub core : Protocol K V A F C D
+  -- the cell of the catalog's answers, of transactions and of tokens
+  pub control : ℕ
+  -- whether two transactions have the same parameters
+  pub same_actions : List A → List A → Bool
+  -- the answer to a question
+  pub tell : C → Q → B
+  -- the refusal of a command's name or number, which comes before all else
+  pub refuses : D → C → Option B
+  -- whether an item is of the command's table, so that a pending on it stands in the command's way
+  pub concerns : D → C → K → Bool
+  -- what becomes of a command that nothing stands in the way of
+  pub rules : D → ℕ → C → Ruling B
+
+-- a command spares the tables that it doesn't concern, and what actions do there
+pub record IsServiceLawful {K V A F C D Q B : Type 0} (S : Service K V A F C D Q B) : Type 0 where
+  pub core : IsLawful S.core
+  pub spares : (d : D) (moment : ℕ) (c : C) (q : K) → S.refuses d c ≡ None → S.concerns d c q ≡ false → S.core.there c q ≡ true → S.core.there (S.core.change d moment c) q ≡ true
+  pub acts_alike : (d : D) (moment : ℕ) (c : C) (q : K) (a : A) (v : Option V) → S.refuses d c ≡ None → S.concerns d c q ≡ false → S.core.there c q ≡ true → S.core.same (S.core.key_of a) q ≡ true → S.core.act (S.core.change d moment c) a v ≡ S.core.act c a v
