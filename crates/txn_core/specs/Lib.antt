@@ -7,3 +7,6 @@ pub mod World
 pub mod Runs
 pub mod Serial
 pub mod Laws
+pub mod Answers
+pub mod History
+pub mod Legal

@@ -1,0 +1,150 @@
+-- Legal histories: each entry has the answer that its cell gives, and nobody sends what the protocol forbids.
+use Rattle.std.specs.Prelude.{◌≡◌, ◌≢◌, ◌⊎◌, ℕ, ◌<◌, ◌≤◌, Bool, true, false, ◌&&◌, nat_eq, List, [], ◌∷◌, length, All, Any, AllPairs, Option, None, Some}
+use Rattle.std.specs.List.{list_any, list_all}
+use Rattle.txn_core.specs.declared.stamp.Stamp.{Stamp}
+use Rattle.txn_core.specs.declared.reason.Reason.{Reason}
+use Rattle.txn_core.specs.declared.message.Message.{Message}
+use Rattle.txn_core.specs.declared.answer.Answer.{Answer}
+use Rattle.txn_core.specs.declared.entry.Entry.{Entry}
+use Rattle.txn_core.specs.Protocol.{Protocol}
+use Rattle.txn_core.specs.Service.{Ruling, Carries, Refuses, Service}
+use Rattle.txn_core.specs.World.{Pending, Spot, World, holder, last, on_item, here, world}
+use Rattle.txn_core.specs.Serial.{begun_stamp, begun_actions}
+use Rattle.txn_core.specs.Answers.{get_answer, write_answer, prepare_answer, apply_answer, release_answer, version_answer, begin_answer, has_record, decide_answer, done_answer, forget_answer, fate_answer, recall_answer, unfinished}
+use Rattle.txn_core.specs.History.{is_accepted, reason_of, effects, Had, begins, commits, cancels, finishes, forgets, finds_no_table, is_own_begin, reasons_of, IsTimely, found_kept}
+
+module _ {K V A F C D Q B : Type 0} (S : Service K V A F C D Q B) where
+  -- the least number, in the first cell that has one, of those that hold an item of the command's table
+  pub record IsInTheWay (w : World K V A C) (d : D) (n : ℕ) : Type 0 where
+    pub item : K
+    pub concerned : S.concerns d w.catalog item ≡ true
+    pub holds : holder (w.spot item).pend ≡ Some n
+    pub least : (q : K) (m : ℕ) → S.concerns d w.catalog q ≡ true → holder (w.spot q).pend ≡ Some m → (S.core.cell_of item < S.core.cell_of q) ⊎ ((S.core.cell_of item ≡ S.core.cell_of q) × (n ≤ m))
+
+  -- no transaction holds an item of the command's table
+  abbrev pub IsClear : World K V A C → D → Type 0
+  IsClear w d = (q : K) → S.concerns d w.catalog q ≡ true → (w.spot q).pend ≡ None
+
+  abbrev pub ruling_answer : Ruling B → Answer V A F B
+  ruling_answer (Carries told) = Answer.Changed told
+  ruling_answer (Refuses told) = Answer.Refused told
+
+  -- a command's answer: the refusal of the name or number; else Held; else what the catalog says
+  abbrev pub IsRuled : World K V A C → D → ℕ → Option B → Answer V A F B → Type 0
+  IsRuled w d moment (Some told) a = a ≡ Answer.Refused told
+  IsRuled w d moment None a =
+      ((n : ℕ) × (a ≡ Answer.Held n) × IsInTheWay w d n)
+      ⊎ ((a ≡ ruling_answer (S.rules d moment w.catalog)) × IsClear w d)
+
+  -- the answer that the cells give after the history
+  abbrev pub IsAnswer : List (Entry K V A F D Q B) → ℕ → Message K V A F D Q → Answer V A F B → Type 0
+  IsAnswer es moment (Message.Get key) a =
+      let w = world S.core (effects es) in a ≡ get_answer (S.core.there w.catalog key) (w.spot key).row
+  IsAnswer es moment (Message.Write action) a =
+      let w = world S.core (effects es) in
+      let s = w.spot (S.core.key_of action) in
+      a ≡ write_answer (S.core.there w.catalog (S.core.key_of action)) (holder s.pend) s.row (S.core.act w.catalog action s.row)
+  IsAnswer es moment (Message.Prepare n stamp action) a =
+      let w = world S.core (effects es) in
+      let s = w.spot (S.core.key_of action) in
+      a ≡ prepare_answer (S.core.there w.catalog (S.core.key_of action)) (holder s.pend) n (last (here S.core w (S.core.key_of action)) s) stamp s.row (S.core.act w.catalog action s.row)
+  IsAnswer es moment (Message.Apply n key) a = a ≡ apply_answer (holder ((world S.core (effects es)).spot key).pend) n
+  IsAnswer es moment (Message.Release n key) a = a ≡ release_answer (holder ((world S.core (effects es)).spot key).pend) n
+  IsAnswer es moment (Message.ReadVersion key) a =
+      let w = world S.core (effects es) in
+      let s = w.spot key in
+      a ≡ version_answer (S.core.there w.catalog key) s.row s.version (here S.core w key).gone (holder s.pend)
+  IsAnswer es moment (Message.Begin token actions) a =
+      let w = world S.core (effects es) in
+      a ≡ begin_answer S.same_actions (list_all (λ x. S.core.there w.catalog (S.core.key_of x)) actions) (found_kept es moment token) actions (record { moment = moment; number = w.ledger.next })
+  IsAnswer es moment (Message.Decide n commit reasons) a =
+      let l = (world S.core (effects es)).ledger in a ≡ decide_answer (has_record l n) (l.fate n) commit
+  IsAnswer es moment (Message.Done n) a = a ≡ done_answer (has_record (world S.core (effects es)).ledger n)
+  IsAnswer es moment (Message.Forget n) a = a ≡ forget_answer (has_record (world S.core (effects es)).ledger n)
+  IsAnswer es moment (Message.FateOf n) a =
+      let l = (world S.core (effects es)).ledger in a ≡ fate_answer (has_record l n) (l.fate n)
+  IsAnswer es moment (Message.Recall n) a =
+      let l = (world S.core (effects es)).ledger in a ≡ recall_answer (has_record l n) (l.fate n) (l.stamp n) (l.actions n) (reasons_of es n)
+  IsAnswer es moment Message.Unfinished a = a ≡ Answer.Numbers (unfinished (world S.core (effects es)).ledger)
+  IsAnswer es moment (Message.Ask question) a = a ≡ Answer.Told (S.tell (world S.core (effects es)).catalog question)
+  IsAnswer es moment (Message.Command d) a =
+      let w = world S.core (effects es) in IsRuled w d moment (S.refuses d w.catalog) a
+
+  -- a Prepare of the number on the item; it was accepted; an Apply of it there, and a Release
+  abbrev pub prepares : ℕ → K → Message K V A F D Q → Bool
+  prepares n k (Message.Prepare m stamp action) = nat_eq m n && S.core.same (S.core.key_of action) k
+  prepares n k _ = false
+
+  abbrev pub accepts : ℕ → K → Message K V A F D Q → Answer V A F B → Bool
+  accepts n k m a = prepares n k m && is_accepted a
+
+  abbrev pub applies : ℕ → K → Message K V A F D Q → Answer V A F B → Bool
+  applies n k (Message.Apply m key) a = nat_eq m n && S.core.same key k
+  applies n k _ a = false
+
+  abbrev pub releases : ℕ → K → Message K V A F D Q → Answer V A F B → Bool
+  releases n k (Message.Release m key) a = nat_eq m n && S.core.same key k
+  releases n k _ a = false
+
+  -- a Prepare of the action in the history was answered with this reason
+  abbrev pub WasTold : List (Entry K V A F D Q B) → ℕ → A → Reason V F → Type 0
+  WasTold es n action reason = Any (λ e. (prepares n (S.core.key_of action) e.message ≡ true) × (reason_of e.answer ≡ Some reason)) es
+
+  -- each reason is one that a Prepare of its action was answered
+  abbrev pub AreTold : List (Entry K V A F D Q B) → ℕ → List A → List (Reason V F) → Type 0
+  AreTold es n [] [] = Unit {0}
+  AreTold es n (action ∷ actions) (reason ∷ reasons) = WasTold es n action reason × AreTold es n actions reasons
+  AreTold es n _ _ = ⊥
+
+  -- a cancel has its cause: the reasons were told and one of them is a refusal; or a table was gone, and no reason is given
+  abbrev pub HasCause : List (Entry K V A F D Q B) → ℕ → List A → List (Reason V F) → Type 0
+  HasCause es n actions reasons =
+      (AreTold es n actions reasons × Any (λ r. r ≢ Reason.None) reasons)
+      ⊎ (Had (finds_no_table n) es × (length reasons ≡ length actions) × All (λ r. r ≡ Reason.None) reasons)
+
+  -- a decision's ground: every action was accepted, or there is a cause to cancel
+  abbrev pub HasGround : List (Entry K V A F D Q B) → ℕ → Bool → List (Reason V F) → Type 0
+  HasGround es n true reasons = All (λ x. Had (accepts n (S.core.key_of x)) es) (begun_actions (effects es) n)
+  HasGround es n false reasons = HasCause es n (begun_actions (effects es) n) reasons
+
+  -- what may be sent after the history, by this pass
+  abbrev pub Allowed : List (Entry K V A F D Q B) → ℕ → Message K V A F D Q → Type 0
+  -- 1 to 100 actions, no two of them on one item
+  Allowed es pass (Message.Begin token actions) =
+      (1 ≤ length actions) × (length actions ≤ 100) × AllPairs (λ x y. S.core.same (S.core.key_of x) (S.core.key_of y) ≡ false) actions
+  -- a begun number, with its stamp and one of its actions
+  Allowed es pass (Message.Prepare n stamp action) =
+      Had (begins n) es × (stamp ≡ begun_stamp (effects es) n) × (on_item S.core (begun_actions (effects es) n) (S.core.key_of action) ≡ Some action)
+  Allowed es pass (Message.Decide n commit reasons) = Had (begins n) es × HasGround es n commit reasons
+  -- after the commit
+  Allowed es pass (Message.Apply n key) = Had (commits n) es
+  -- after the cancel, or of a number that was forgotten
+  Allowed es pass (Message.Release n key) = Had (cancels n) es ⊎ Had (forgets n) es
+  -- after a commit an Apply of each action, after a cancel a Release
+  Allowed es pass (Message.Done n) =
+      Had (begins n) es × ((Had (commits n) es × All (λ x. Had (applies n (S.core.key_of x)) es) (begun_actions (effects es) n)) ⊎ (Had (cancels n) es × All (λ x. Had (releases n (S.core.key_of x)) es) (begun_actions (effects es) n)))
+  -- after its Done, by the pass whose Begin drew it
+  Allowed es pass (Message.Forget n) = Had (finishes n) es × (list_any (is_own_begin pass n) es ≡ true)
+  Allowed es pass _ = Unit {0}
+
+  -- where a message goes: to the cell of its key, to the control cell, or to all cells
+  abbrev pub sent_to : Message K V A F D Q → Option ℕ
+  sent_to (Message.Get key) = Some (S.core.cell_of key)
+  sent_to (Message.Write action) = Some (S.core.cell_of (S.core.key_of action))
+  sent_to (Message.Prepare n stamp action) = Some (S.core.cell_of (S.core.key_of action))
+  sent_to (Message.Apply n key) = Some (S.core.cell_of key)
+  sent_to (Message.Release n key) = Some (S.core.cell_of key)
+  sent_to (Message.ReadVersion key) = Some (S.core.cell_of key)
+  sent_to (Message.Command d) = None
+  sent_to _ = Some S.control
+
+  -- an entry that may come after the history
+  pub record Follows (es : List (Entry K V A F D Q B)) (e : Entry K V A F D Q B) : Type 0 where
+    pub answer : IsAnswer es e.moment e.message e.answer
+    pub allowed : Allowed es e.pass e.message
+    pub cell : e.cell ≡ sent_to e.message
+    pub timely : IsTimely es e.pass e.moment
+
+  abbrev pub IsLegal : List (Entry K V A F D Q B) → Type 0
+  IsLegal [] = Unit {0}
+  IsLegal (e ∷ es) = IsLegal es × Follows es e
