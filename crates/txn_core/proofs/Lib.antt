@@ -7,3 +7,5 @@ mod Kept
 mod Readings
 mod SerialLaws
 mod Points
+mod Grows
+mod Bridge
