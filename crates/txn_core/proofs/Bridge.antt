@@ -1,4 +1,4 @@
--- A legal history is a run of the protocol: what the words of a history say of the state, entry by entry.
+-- What each answered message changes may happen.
 use Rattle.std.proofs.Common.{◌≡◌, ◌≢◌, ◌⊎◌, inl, inr, ℕ, suc, ◌<◌, ◌≤◌, Bool, true, false, not, ◌&&◌, ◌||◌, nat_eq, List, [], ◌∷◌, Option, None, Some, is_some, if◌then◌else◌, refl, sym, ap, ◌∙◌, subst, arith}
 use Rattle.std.specs.List.{find, list_any, list_all}
 use Rattle.std.specs.Prelude.{All}
@@ -28,37 +28,27 @@ use Rattle.txn_core.proofs.Readings.{actions_read, stamp_read}
 use Rattle.txn_core.proofs.Grows.{Grows, grows}
 
 -- what holds of all holds of what is found
-all_found : {X : Type 0} (Q : X → Type 0) (test : X → Bool) (xs : List X) (x : X) → All Q xs → find test xs ≡ Some x → Q x
+pub all_found : {X : Type 0} (Q : X → Type 0) (test : X → Bool) (xs : List X) (x : X) → All Q xs → find test xs ≡ Some x → Q x
 all_found Q test [] x h e = absurd (cc)
 all_found Q test (y ∷ ys) x h e =
     cond_both (test y) (Some y) (find test ys) (λ o. o ≡ Some x → Q x)
     (λ is k. subst Q (some_is y x k) (h 0 y (omega arith)))
     (λ is k. all_found Q test ys x (λ j d lt. h (suc j) d (omega arith)) k) e
 
-unheld : {V : Type 0} (o : Option (Pending V)) → holder o ≡ None → o ≡ None
+pub unheld : {V : Type 0} (o : Option (Pending V)) → holder o ≡ None → o ≡ None
 unheld None e = refl
 unheld (Some p) e = absurd (cc)
 
-is_holder-true : (h : Option ℕ) (n : ℕ) → is_holder h n ≡ true → h ≡ Some n
+pub is_holder-true : (h : Option ℕ) (n : ℕ) → is_holder h n ≡ true → h ≡ Some n
 is_holder-true None n e = absurd (cc)
 is_holder-true (Some m) n e = ap Some (eqb-true m n e)
 
-where_true : {K A D : Type 0} (b : Bool) (e : Effect K A D) → b ≡ true → where_so b e ≡ e
+pub where_true : {K A D : Type 0} (b : Bool) (e : Effect K A D) → b ≡ true → where_so b e ≡ e
 where_true b e h = ap (λ x. where_so x e) h
 
 module _ {K V A F C D Q B : Type 0} (S : Service K V A F C D Q B) (law : IsServiceLawful S) where
-  -- what the words of a history say of the state
-  pub record Facts (es : List (Entry K V A F D Q B)) : Type 0 where
-    pub begun : (n : ℕ) → Had (begins n) es → n < (world S.core (effects es)).ledger.next
-    pub accepted : (n : ℕ) (k : K) → Had (accepts S n k) es → ((world S.core (effects es)).spot k).accepted n ≡ true
-    pub committed : (n : ℕ) → Had (commits n) es → (world S.core (effects es)).ledger.fate n ≡ Committed
-    pub cancelled : (n : ℕ) → Had (cancels n) es → (world S.core (effects es)).ledger.fate n ≡ Cancelled
-    pub applied : (n : ℕ) (k : K) → Had (applies S n k) es → ((world S.core (effects es)).ledger.fate n ≡ Committed) × (touches S.core (world S.core (effects es)).ledger n k ≡ true → ((world S.core (effects es)).spot k).applied n ≡ true)
-    pub done : (n : ℕ) → Had (finishes n) es → (world S.core (effects es)).ledger.done n ≡ true
-    pub gone : (n : ℕ) → Had (forgets n) es → (world S.core (effects es)).ledger.gone n ≡ true
-
   module _ (w : World K V A C) where
-    may_write : (a : A) (moment : ℕ) (b : Bool) (h : Option ℕ) (o : Outcome V F) → S.core.there w.catalog (S.core.key_of a) ≡ b → holder (w.spot (S.core.key_of a)).pend ≡ h → S.core.act w.catalog a (w.spot (S.core.key_of a)).row ≡ o → May S.core w (where_so (is_written {V = V} {A = A} {F = F} {B = B} (write_answer b h (w.spot (S.core.key_of a)).row o)) (Wrote a moment))
+    pub may_write : (a : A) (moment : ℕ) (b : Bool) (h : Option ℕ) (o : Outcome V F) → S.core.there w.catalog (S.core.key_of a) ≡ b → holder (w.spot (S.core.key_of a)).pend ≡ h → S.core.act w.catalog a (w.spot (S.core.key_of a)).row ≡ o → May S.core w (where_so (is_written {V = V} {A = A} {F = F} {B = B} (write_answer b h (w.spot (S.core.key_of a)).row o)) (Wrote a moment))
     may_write a moment false h o is_there is_held is_out = tt
     may_write a moment true (Some n) o is_there is_held is_out = tt
     may_write a moment true None (New v) is_there is_held is_out =
@@ -66,7 +56,7 @@ module _ {K V A F C D Q B : Type 0} (S : Service K V A F C D Q B) (law : IsServi
     may_write a moment true None Unmet is_there is_held is_out = tt
     may_write a moment true None (Fails fault) is_there is_held is_out = tt
 
-    may_prepare : (n : ℕ) (stamp : Stamp) (a : A) → n < w.ledger.next → stamp ≡ w.ledger.stamp n → action_on S.core w.ledger n (S.core.key_of a) ≡ Some a → (b : Bool) (h : Option ℕ) (o : Outcome V F) → S.core.there w.catalog (S.core.key_of a) ≡ b → holder (w.spot (S.core.key_of a)).pend ≡ h → S.core.act w.catalog a (w.spot (S.core.key_of a)).row ≡ o → May S.core w (where_so (is_accepted {V = V} {A = A} {F = F} {B = B} (prepare_answer b h n (last (here S.core w (S.core.key_of a)) (w.spot (S.core.key_of a))) stamp (w.spot (S.core.key_of a)).row o)) (Prepared n stamp a))
+    pub may_prepare : (n : ℕ) (stamp : Stamp) (a : A) → n < w.ledger.next → stamp ≡ w.ledger.stamp n → action_on S.core w.ledger n (S.core.key_of a) ≡ Some a → (b : Bool) (h : Option ℕ) (o : Outcome V F) → S.core.there w.catalog (S.core.key_of a) ≡ b → holder (w.spot (S.core.key_of a)).pend ≡ h → S.core.act w.catalog a (w.spot (S.core.key_of a)).row ≡ o → May S.core w (where_so (is_accepted {V = V} {A = A} {F = F} {B = B} (prepare_answer b h n (last (here S.core w (S.core.key_of a)) (w.spot (S.core.key_of a))) stamp (w.spot (S.core.key_of a)).row o)) (Prepared n stamp a))
     may_prepare n stamp a begun its_stamp its_action false h o is_there is_held is_out = tt
     may_prepare n stamp a begun its_stamp its_action true (Some m) o is_there is_held is_out =
         cond_both (nat_eq m n) Answer.Accepted (Answer.Held m) (λ x. May S.core w (where_so (is_accepted {V = V} {A = A} {F = F} {B = B} x) (Prepared n stamp a)))
@@ -90,17 +80,17 @@ module _ {K V A F C D Q B : Type 0} (S : Service K V A F C D Q B) (law : IsServi
         by_outcome e Unmet out = tt
         by_outcome e (Fails fault) out = tt
 
-    may_apply : (n : ℕ) (k : K) → w.ledger.fate n ≡ Committed → May S.core w (where_so (is_applied {V = V} {A = A} {F = F} {B = B} (apply_answer (holder (w.spot k).pend) n)) (Applied n k))
+    pub may_apply : (n : ℕ) (k : K) → w.ledger.fate n ≡ Committed → May S.core w (where_so (is_applied {V = V} {A = A} {F = F} {B = B} (apply_answer (holder (w.spot k).pend) n)) (Applied n k))
     may_apply n k committed =
         cond_both (is_holder (holder (w.spot k).pend) n) Answer.Applied Answer.Nothing (λ x. May S.core w (where_so (is_applied {V = V} {A = A} {F = F} {B = B} x) (Applied n k)))
         (λ e. (is_holder-true (holder (w.spot k).pend) n e, committed)) (λ e. tt)
 
-    may_release : (n : ℕ) (k : K) → (w.ledger.fate n ≡ Cancelled) ⊎ (w.ledger.gone n ≡ true) → May S.core w (where_so (is_released {V = V} {A = A} {F = F} {B = B} (release_answer (holder (w.spot k).pend) n)) (Released n k))
+    pub may_release : (n : ℕ) (k : K) → (w.ledger.fate n ≡ Cancelled) ⊎ (w.ledger.gone n ≡ true) → May S.core w (where_so (is_released {V = V} {A = A} {F = F} {B = B} (release_answer (holder (w.spot k).pend) n)) (Released n k))
     may_release n k why =
         cond_both (is_holder (holder (w.spot k).pend) n) Answer.Released Answer.Nothing (λ x. May S.core w (where_so (is_released {V = V} {A = A} {F = F} {B = B} x) (Released n k)))
         (λ e. (is_holder-true (holder (w.spot k).pend) n e, why)) (λ e. tt)
 
-    may_begin : (actions : List A) (moment : ℕ) (b : Bool) (o : Option (KeptToken A)) → May S.core w (begin_effect {D = D} actions (begin_answer {V = V} {F = F} {B = B} S.same_actions b o actions (record { moment = moment; number = w.ledger.next })))
+    pub may_begin : (actions : List A) (moment : ℕ) (b : Bool) (o : Option (KeptToken A)) → May S.core w (begin_effect {D = D} actions (begin_answer {V = V} {F = F} {B = B} S.same_actions b o actions (record { moment = moment; number = w.ledger.next })))
     may_begin actions moment false o = tt
     may_begin actions moment true None = refl
     may_begin actions moment true (Some kept) =
@@ -109,7 +99,7 @@ module _ {K V A F C D Q B : Type 0} (S : Service K V A F C D Q B) (law : IsServi
         (λ e. cond_both (is_some kept.completed) (Answer.Repeat kept.number) (Answer.Running kept.number) (λ x. May S.core w (begin_effect {V = V} {F = F} {D = D} {B = B} actions x)) (λ _. tt) (λ _. tt))
         (λ e. tt)
 
-    may_decide : (n : ℕ) → n < w.ledger.next → (recorded : Bool) (fate : Fate) (commit : Bool) → w.ledger.fate n ≡ fate → (commit ≡ true → (q : K) → touches S.core w.ledger n q ≡ true → (w.spot q).accepted n ≡ true) → May S.core w (decide_effect {K = K} {D = D} n (decide_answer {V = V} {A = A} {F = F} {B = B} recorded fate commit))
+    pub may_decide : (n : ℕ) → n < w.ledger.next → (recorded : Bool) (fate : Fate) (commit : Bool) → w.ledger.fate n ≡ fate → (commit ≡ true → (q : K) → touches S.core w.ledger n q ≡ true → (w.spot q).accepted n ≡ true) → May S.core w (decide_effect {K = K} {D = D} n (decide_answer {V = V} {A = A} {F = F} {B = B} recorded fate commit))
     may_decide n begun false fate commit is all_accepted = tt
     may_decide n begun true Undecided true is all_accepted = record { begun = begun; first = is; all_accepted = all_accepted refl }
     may_decide n begun true Undecided false is all_accepted = (begun, is)
@@ -117,15 +107,15 @@ module _ {K V A F C D Q B : Type 0} (S : Service K V A F C D Q B) (law : IsServi
     may_decide n begun true Cancelled commit is all_accepted = tt
     may_decide n begun true Gone commit is all_accepted = tt
 
-    may_done : (n : ℕ) (b : Bool) → MayFinish S.core w n → May S.core w (where_so (is_finished {V = V} {A = A} {F = F} {B = B} (done_answer b)) (Finished n))
+    pub may_done : (n : ℕ) (b : Bool) → MayFinish S.core w n → May S.core w (where_so (is_finished {V = V} {A = A} {F = F} {B = B} (done_answer b)) (Finished n))
     may_done n true may = may
     may_done n false may = tt
 
-    may_forget : (n : ℕ) (b : Bool) → w.ledger.done n ≡ true → May S.core w (where_so (is_forgotten {V = V} {A = A} {F = F} {B = B} (forget_answer b)) (Forgot n))
+    pub may_forget : (n : ℕ) (b : Bool) → w.ledger.done n ≡ true → May S.core w (where_so (is_forgotten {V = V} {A = A} {F = F} {B = B} (forget_answer b)) (Forgot n))
     may_forget n true done = done
     may_forget n false done = tt
 
-    may_change : Good S.core w → (d : D) (moment : ℕ) → S.refuses d w.catalog ≡ None → IsClear S w d → MayChange S.core w d moment
+    pub may_change : Good S.core w → (d : D) (moment : ℕ) → S.refuses d w.catalog ≡ None → IsClear S w d → MayChange S.core w d moment
     may_change g d moment named clear =
         record {
           stays = λ q p e. law.spares d moment w.catalog q named (unconcerned q p e (S.concerns d w.catalog q) refl) ((g.spots q).alive p e);
@@ -136,7 +126,7 @@ module _ {K V A F C D Q B : Type 0} (S : Service K V A F C D Q B) (law : IsServi
         unconcerned q p e true h = none_some (w.spot q).pend p (clear q h) e
         unconcerned q p e false h = h
 
-    may_command : Good S.core w → (d : D) (moment : ℕ) (a : Answer V A F B) (o : Option B) → S.refuses d w.catalog ≡ o → IsRuled S w d moment o a → May S.core w (where_so (is_changed a) (Changed d moment))
+    pub may_command : Good S.core w → (d : D) (moment : ℕ) (a : Answer V A F B) (o : Option B) → S.refuses d w.catalog ≡ o → IsRuled S w d moment o a → May S.core w (where_so (is_changed a) (Changed d moment))
     may_command g d moment a (Some told) named is = subst (λ x. May S.core w (where_so (is_changed x) (Changed d moment))) (sym is) tt
     may_command g d moment a None named (inl (n, is, way)) = subst (λ x. May S.core w (where_so (is_changed x) (Changed d moment))) (sym is) tt
     may_command g d moment a None named (inr (is, clear)) = subst (λ x. May S.core w (where_so (is_changed x) (Changed d moment))) (sym is) (by_ruling (S.rules d moment w.catalog))

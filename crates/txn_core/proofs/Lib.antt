@@ -9,3 +9,4 @@ mod SerialLaws
 mod Points
 mod Grows
 mod Bridge
+mod LegalRuns
