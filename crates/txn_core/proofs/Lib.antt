@@ -10,3 +10,5 @@ mod Points
 mod Grows
 mod Bridge
 mod LegalRuns
+mod Causes
+mod Prefix

@@ -7,6 +7,8 @@ use Rattle.txn_core.specs.Effects.{Effect, Wrote, Begun, Prepared, Commits, Canc
 use Rattle.txn_core.specs.World.{Pending, on_item, touches, holder, world}
 use Rattle.txn_core.specs.Runs.{IsRun}
 use Rattle.txn_core.specs.Serial.{begun_actions, committed_numbers, is_committed, is_applied, waits_on, waiting, place, point_by, point}
+use Rattle.txn_core.specs.declared.entry.Entry.{Entry}
+use Rattle.txn_core.specs.History.{effect, effects}
 use Rattle.txn_core.proofs.Basics.{some_is, true_false}
 use Rattle.txn_core.proofs.Ends.{find_passes}
 use Rattle.txn_core.proofs.Kept.{good}
@@ -94,3 +96,7 @@ module _ {K V A F C D : Type 0} (P : Protocol K V A F C D) (law : IsLawful P) wh
   pub point_forward : (xs es : List (Effect K A D)) → IsRun P (xs ++ es) → (q : K) → point P es q ≤ point P (xs ++ es) q
   point_forward [] es run q = omega arith
   point_forward (x ∷ xs) es run q = let h = point_forward xs es run.0 q in let k = point_step x (xs ++ es) run q in omega arith
+
+  pub history_forward : {V' Q B : Type 0} (newer es : List (Entry K V' A F D Q B)) → IsRun P (effects (newer ++ es)) → (q : K) → point P (effects es) q ≤ point P (effects (newer ++ es)) q
+  history_forward [] es run q = omega arith
+  history_forward (x ∷ newer) es run q = let h = history_forward newer es run.0 q in let k = point_step (effect x) (effects (newer ++ es)) run q in omega arith

@@ -6,7 +6,7 @@ pub mod Effects
 pub mod World
 pub mod Runs
 pub mod Serial
-pub mod Laws
 pub mod Answers
 pub mod History
 pub mod Legal
+pub mod Laws

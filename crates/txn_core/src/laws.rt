@@ -1,43 +1,66 @@
 //! Why the transactions have one serial order: each law is the contract of a function without parameters.
 //!
-//! They speak of runs: lists of effects, the newest first, of which each may happen after those before it. What an
-//! effect changes, and when it may happen, stands in `specs/World.antt` and `specs/Runs.antt`; the one order and the
-//! tables that it makes stand in `specs/Serial.antt`, with no word of cells.
-ghost use Rattle.std.specs.Prelude.{◌≡◌, ◌≤◌, ℕ, List, ◌∷◌, ◌++◌, Some};
-ghost use Rattle.txn_core.specs.Effects.{Effect, Commits};
-ghost use Rattle.txn_core.specs.World.{on_item, world};
-ghost use Rattle.txn_core.specs.Runs.{IsRun};
+//! They hold of every legal history, for every number of partitions `n`, with nothing assumed of the schedule. A history
+//! is the list of its entries, the newest first; legal histories are defined in `specs/Legal.antt`, what entries change
+//! in `specs/History.antt` and `specs/World.antt`, and the one order, with the tables that it makes, in
+//! `specs/Serial.antt`, with no word of cells.
+ghost use Rattle.std.specs.Prelude.{◌≡◌, ◌≤◌, ℕ, List, ◌∷◌, ◌++◌, Option, Some};
+ghost use Rattle.txn_core.specs.Effects.{Commits};
+ghost use Rattle.txn_core.specs.World.{on_item};
 ghost use Rattle.txn_core.specs.Serial.{begun_actions, decisions, serial, standings, once_whole, waiting, shown, point, IsStampOrder};
-ghost use Rattle.txn_core.specs.Laws.{HoldsTheTables, ActsAsAccepted};
+ghost use Rattle.txn_core.specs.History.{effect, effects, IsTimely};
+ghost use Rattle.txn_core.specs.Legal.{IsAnswer, Allowed, sent_to, IsLegal};
+ghost use Rattle.txn_core.specs.Laws.{row_of, HoldsTheTables, ActsAsAccepted, IsRealHolder, IsRealStamp};
+ghost use Rattle.txn_core.specs.declared.message.Message.{Message};
+ghost use Rattle.txn_core.specs.declared.answer.Answer.{Answer};
+ghost use Rattle.txn_core.specs.declared.entry.Entry.{Entry};
+ghost use Rattle.txn_core.specs.declared.stamp.Stamp.{Stamp};
 
 use crate::rules::Rules;
 
 /// [Rows are shown]. The committed row of each item is what a reader is shown, and where a committed transaction waits
 /// on an item, that transaction holds the item and its new image is the item of the tables.
 pub fn rows_are_shown<R: Rules>()
-    ensures rows { (n : ℕ) (es : List (Effect R.Key R.Action R.Command)) → IsRun (R.protocol n) es → (q : R.Key) → ((world (R.protocol n) es).spot q).row ≡ shown (R.protocol n) es q }
-    ensures images { (n : ℕ) (es : List (Effect R.Key R.Action R.Command)) → IsRun (R.protocol n) es → (q : R.Key) (m : ℕ) → waiting (R.protocol n) es q ≡ Some m → HoldsTheTables (R.protocol n) es q m }
+    ensures rows { (n : ℕ) (es : List (Entry R.Key R.Value R.Action R.Fault R.Command R.Question R.Told)) → IsLegal (R.protocol n) es → (q : R.Key) → row_of (R.protocol n).core (effects es) q ≡ shown (R.protocol n).core (effects es) q }
+    ensures images { (n : ℕ) (es : List (Entry R.Key R.Value R.Action R.Fault R.Command R.Question R.Told)) → IsLegal (R.protocol n) es → (q : R.Key) (m : ℕ) → waiting (R.protocol n).core (effects es) q ≡ Some m → HoldsTheTables (R.protocol n).core (effects es) q m }
 {
 }
 
 /// [One fate]. Each number is decided at most once. A committed one stands in the one order once and whole, no other
 /// one stands there, and at its commit each of its actions does to the tables what its Prepare was accepted for.
 pub fn one_fate<R: Rules>()
-    ensures once { (n : ℕ) (es : List (Effect R.Key R.Action R.Command)) → IsRun (R.protocol n) es → (m : ℕ) → decisions es m ≤ 1 }
-    ensures whole { (n : ℕ) (es : List (Effect R.Key R.Action R.Command)) → IsRun (R.protocol n) es → (m : ℕ) → standings (serial es) m ≡ once_whole es m }
-    ensures accepted { (n : ℕ) (es : List (Effect R.Key R.Action R.Command)) (m : ℕ) → IsRun (R.protocol n) (Commits m ∷ es) → (q : R.Key) (a : R.Action) → on_item (R.protocol n) (begun_actions es m) q ≡ Some a → ActsAsAccepted (R.protocol n) es m q a }
+    ensures once { (n : ℕ) (es : List (Entry R.Key R.Value R.Action R.Fault R.Command R.Question R.Told)) → IsLegal (R.protocol n) es → (m : ℕ) → decisions (effects es) m ≤ 1 }
+    ensures whole { (n : ℕ) (es : List (Entry R.Key R.Value R.Action R.Fault R.Command R.Question R.Told)) → IsLegal (R.protocol n) es → (m : ℕ) → standings (serial (effects es)) m ≡ once_whole (effects es) m }
+    ensures accepted { (n : ℕ) (e : Entry R.Key R.Value R.Action R.Fault R.Command R.Question R.Told) (es : List (Entry R.Key R.Value R.Action R.Fault R.Command R.Question R.Told)) (m : ℕ) → IsLegal (R.protocol n) (e ∷ es) → effect e ≡ Commits m → (q : R.Key) (a : R.Action) → on_item (R.protocol n).core (begun_actions (effects es) m) q ≡ Some a → ActsAsAccepted (R.protocol n).core (effects es) m q a }
 {
 }
 
 /// [Timestamp order]. Two transactions of the one order that share an item stand in the order of their stamps.
 pub fn timestamp_order<R: Rules>()
-    ensures { (n : ℕ) (es : List (Effect R.Key R.Action R.Command)) → IsRun (R.protocol n) es → IsStampOrder (R.protocol n) (serial es) }
+    ensures { (n : ℕ) (es : List (Entry R.Key R.Value R.Action R.Fault R.Command R.Question R.Told)) → IsLegal (R.protocol n) es → IsStampOrder (R.protocol n).core (serial (effects es)) }
 {
 }
 
-/// [Reads go forward]. The point of the history at which an item is shown is never before the one that an earlier
-/// reader was shown.
+/// [Reads go forward]. A Get is what a reader is shown before its entry, and the point of the history at which an item
+/// is shown is never before the one at which an earlier reader was shown it.
 pub fn reads_go_forward<R: Rules>()
-    ensures { (n : ℕ) (newer es : List (Effect R.Key R.Action R.Command)) → IsRun (R.protocol n) (newer ++ es) → (q : R.Key) → point (R.protocol n) es q ≤ point (R.protocol n) (newer ++ es) q }
+    ensures shown { (n : ℕ) (es : List (Entry R.Key R.Value R.Action R.Fault R.Command R.Question R.Told)) → IsLegal (R.protocol n) es → (moment : ℕ) (key : R.Key) (v : Option R.Value) → IsAnswer (R.protocol n) es moment (Message.Get key) (Answer.Row v) → v ≡ shown (R.protocol n).core (effects es) key }
+    ensures forward { (n : ℕ) (newer es : List (Entry R.Key R.Value R.Action R.Fault R.Command R.Question R.Told)) → IsLegal (R.protocol n) (newer ++ es) → (q : R.Key) → point (R.protocol n).core (effects es) q ≤ point (R.protocol n).core (effects (newer ++ es)) q }
+{
+}
+
+/// [Real causes], of Held and Late. The number of a Held holds the message's item, and of a Prepare it is another's; of a
+/// command it holds an item of its table. The stamp of a Late is the item's, or where it is absent the floor of its
+/// cell, and isn't earlier than the transaction's.
+pub fn real_causes<R: Rules>()
+    ensures held { (n : ℕ) (es : List (Entry R.Key R.Value R.Action R.Fault R.Command R.Question R.Told)) (moment : ℕ) (m : Message R.Key R.Value R.Action R.Fault R.Command R.Question) (number : ℕ) → IsAnswer (R.protocol n) es moment m (Answer.Held number) → IsRealHolder (R.protocol n) es m number }
+    ensures late { (n : ℕ) (es : List (Entry R.Key R.Value R.Action R.Fault R.Command R.Question R.Told)) (moment : ℕ) (number : ℕ) (stamp : Stamp) (action : R.Action) (t : Stamp) → IsAnswer (R.protocol n) es moment (Message.Prepare number stamp action) (Answer.Late t) → IsRealStamp (R.protocol n) es (Message.Prepare number stamp action) t }
+{
+}
+
+/// Who has seen only a beginning of the history may go by it: what may be sent after that beginning may be sent after
+/// the whole, so the entry that follows keeps the history legal.
+pub fn seen_is_enough<R: Rules>()
+    ensures { (n : ℕ) (newer es : List (Entry R.Key R.Value R.Action R.Fault R.Command R.Question R.Told)) → IsLegal (R.protocol n) (newer ++ es) → (e : Entry R.Key R.Value R.Action R.Fault R.Command R.Question R.Told) → Allowed (R.protocol n) es e.pass e.message → IsAnswer (R.protocol n) (newer ++ es) e.moment e.message e.answer → e.cell ≡ sent_to (R.protocol n) e.message → IsTimely (newer ++ es) e.pass e.moment → IsLegal (R.protocol n) (e ∷ (newer ++ es)) }
 {
 }

@@ -1,7 +1,8 @@
-ghost use Rattle.std.specs.Prelude.{◌≡◌, ◌+◌, ◌≤◌, ℕ};
-ghost use Rattle.txn_core.specs.Protocol.{Protocol, IsLawful};
+ghost use Rattle.std.specs.Prelude.{◌≡◌, ℕ};
+ghost use Rattle.txn_core.specs.Service.{Service, IsServiceLawful};
 
-/// What the protocol needs to know of tables: which item a key stands for, where it lives, and what actions do.
+/// What the protocol needs to know of tables: which item a key stands for, where it lives, what actions do, and what
+/// the catalog answers.
 ///
 /// The laws of this crate hold for whatever meets this trait, for every number of partitions.
 pub trait Rules {
@@ -17,14 +18,19 @@ pub trait Rules {
     type Catalog;
     /// A change of the catalog.
     type Command;
+    /// A question about the catalog.
+    type Question;
+    /// What is told of the catalog.
+    type Told;
 
     /// Items, actions and catalogs, for a number of partitions.
-    ghost protocol: { ℕ → Protocol Self.Key Self.Value Self.Action Self.Fault Self.Catalog Self.Command };
+    ghost protocol: { ℕ → Service Self.Key Self.Value Self.Action Self.Fault Self.Catalog Self.Command Self.Question Self.Told };
 
     /// Whether both keys stand for one item.
     fn is_same(left: &Self::Key, right: &Self::Key) -> bool
-        ensures { (partitions : ℕ) → result ≡ (protocol partitions).same left.now right.now };
+        ensures { (partitions : ℕ) → result ≡ (protocol partitions).core.same left.now right.now };
 
-    /// Keys that stand for one item can't be told apart, and the number of a table never comes again.
-    ghost lawful: { (partitions : ℕ) → IsLawful (protocol partitions) };
+    /// Keys that stand for one item can't be told apart, the number of a table never comes again, and a command spares
+    /// the tables that it doesn't concern.
+    ghost lawful: { (partitions : ℕ) → IsServiceLawful (protocol partitions) };
 }

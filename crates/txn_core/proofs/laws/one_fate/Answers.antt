@@ -1,10 +1,19 @@
+use Rattle.std.proofs.Common.{◌∷◌, subst, ap}
+use Rattle.txn_core.specs.Effects.{Commits}
+use Rattle.txn_core.specs.Runs.{IsRun}
+use Rattle.txn_core.specs.History.{effects}
 use Rattle.txn_core.proofs.SerialLaws.{decided_once, stands_once, outcome_at_commit}
+use Rattle.txn_core.proofs.LegalRuns.{legal_run}
 use Rattle.txn_core.proofs.laws.one_fate.Goals as goal
 
 pub returns : goal.returns
 returns g c =
+    let S = g.R.Rules.protocol in
+    let law = g.met.R.Rules.lawful in
     record {
-      once = λ n es run m. decided_once (g.R.Rules.protocol n) (g.met.R.Rules.lawful n) es run m;
-      whole = λ n es run m. stands_once (g.R.Rules.protocol n) (g.met.R.Rules.lawful n) es run m;
-      accepted = λ n es m run q a e. outcome_at_commit (g.R.Rules.protocol n) (g.met.R.Rules.lawful n) es m run q a e;
+      once = λ n es legal m. decided_once (S n).core (law n).core (effects es) (legal_run (S n) (law n) es legal) m;
+      whole = λ n es legal m. stands_once (S n).core (law n).core (effects es) (legal_run (S n) (law n) es legal) m;
+      accepted = λ n e es m legal commit q a h.
+          outcome_at_commit (S n).core (law n).core (effects es) m
+          (subst (λ x. IsRun (S n).core (x ∷ effects es)) commit (legal_run (S n) (law n) (e ∷ es) legal)) q a h;
     }

@@ -1,0 +1,11 @@
+use Rattle.txn_core.proofs.Causes.{real_holder, late_stamp}
+use Rattle.txn_core.proofs.laws.real_causes.Goals as goal
+
+pub returns : goal.returns
+returns g c =
+    let S = g.R.Rules.protocol in
+    let law = g.met.R.Rules.lawful in
+    record {
+      held = λ n es moment m number is. real_holder (S n) (law n) es moment m number is;
+      late = λ n es moment number stamp action t is. late_stamp (S n) (law n) es moment number stamp action t is;
+    }
