@@ -91,7 +91,7 @@ module _ {K V A F C D : Type 0} (P : Protocol K V A F C D) (law : IsLawful P) wh
         (λ t h. floor_rises (here P w k) (w.spot k) (image_or (w.spot k).row (w.spot k).pend) (stamp_or (w.spot k).stamp (w.spot k).pend) t h)
 
     -- a number that is released is cancelled, or forgotten and then no commit that still holds an item
-    released_open : (n : ℕ) (k : K) → holder (w.spot k).pend ≡ Some n → (w.ledger.fate n ≡ Cancelled) ⊎ (w.ledger.gone n ≡ true) → (w.ledger.fate n ≢ Committed) × (w.ledger.fate n ≢ Undecided)
+    pub released_open : (n : ℕ) (k : K) → holder (w.spot k).pend ≡ Some n → (w.ledger.fate n ≡ Cancelled) ⊎ (w.ledger.gone n ≡ true) → (w.ledger.fate n ≢ Committed) × (w.ledger.fate n ≢ Undecided)
     released_open n k holds (inl cancelled) = (λ h. cc, λ h. cc)
     released_open n k holds (inr gone) =
         let done = good.ended n gone in

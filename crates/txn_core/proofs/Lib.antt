@@ -12,3 +12,4 @@ mod Bridge
 mod LegalRuns
 mod Causes
 mod Prefix
+mod Versions

@@ -1,5 +1,5 @@
 -- What the laws say of a history, beside the words of the order.
-use Rattle.std.specs.Prelude.{◌≡◌, ◌≢◌, ℕ, List, Option, Some}
+use Rattle.std.specs.Prelude.{◌≡◌, ◌≢◌, ℕ, List, Option, Some, is_some, if◌then◌else◌}
 use Rattle.txn_core.specs.declared.stamp.Stamp.{Stamp}
 use Rattle.txn_core.specs.declared.message.Message.{Message}
 use Rattle.txn_core.specs.declared.entry.Entry.{Entry}
@@ -7,7 +7,7 @@ use Rattle.txn_core.specs.Stamps.{IsBy}
 use Rattle.txn_core.specs.Protocol.{New, Protocol}
 use Rattle.txn_core.specs.Service.{Service}
 use Rattle.txn_core.specs.Effects.{Effect}
-use Rattle.txn_core.specs.World.{Pending, Spot, holder, last, here, world}
+use Rattle.txn_core.specs.World.{Pending, Spot, World, holder, last, here, world}
 use Rattle.txn_core.specs.Serial.{serial, catalog_of, tables}
 use Rattle.txn_core.specs.History.{effects}
 use Rattle.txn_core.specs.Legal.{IsInTheWay}
@@ -44,3 +44,7 @@ module _ {K V A F C D Q B : Type 0} (S : Service K V A F C D Q B) where
       let w = world S.core (effects es) in
       (t ≡ last (here S.core w (S.core.key_of action)) (w.spot (S.core.key_of action))) × IsBy stamp t
   IsRealStamp es _ t = ⊥
+
+-- the version of an item: its own, or where it is absent that of its cell's last change which left an item absent
+abbrev pub version_of : {K V A F C D : Type 0} → Protocol K V A F C D → World K V A C → K → ℕ
+version_of P w q = if is_some (w.spot q).row then (w.spot q).version else (here P w q).gone
