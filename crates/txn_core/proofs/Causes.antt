@@ -1,5 +1,5 @@
 -- Refusals name their real cause, and a Get is what readers are shown.
-use Rattle.std.proofs.Common.{◌≡◌, ◌≢◌, ◌⊎◌, inl, inr, ℕ, Bool, true, false, nat_eq, List, Option, None, Some, if◌then◌else◌, is_some, refl, sym, ap, ◌∙◌, subst}
+use Rattle.std.proofs.Common.{◌≡◌, ◌≢◌, ◌⊎◌, inl, inr, ℕ, Bool, true, false, nat_eq, List, [], ◌∷◌, ◌++◌, Option, None, Some, if◌then◌else◌, is_some, refl, sym, ap, ◌∙◌, subst}
 use Rattle.std.specs.List.{list_all}
 use Rattle.std.proofs.lemmas.Bool.{cond_both, eqb-false}
 use Rattle.txn_core.specs.declared.stamp.Stamp.{Stamp}
@@ -12,13 +12,16 @@ use Rattle.txn_core.specs.Stamps.{earlier, IsBy}
 use Rattle.txn_core.specs.Protocol.{Outcome, New, Unmet, Fails}
 use Rattle.txn_core.specs.Service.{Ruling, Carries, Refuses, Service, IsServiceLawful}
 use Rattle.txn_core.specs.World.{Spot, holder, last, here, world}
-use Rattle.txn_core.specs.Serial.{shown}
+use Rattle.txn_core.specs.Serial.{serial, tables, shown}
 use Rattle.txn_core.specs.Answers.{KeptToken, get_answer, write_answer, outcome_answer, prepare_answer, is_holder, apply_answer, release_answer, version_answer, begin_answer, has_record, decide_answer, done_answer, forget_answer, fate_answer, recall_answer}
-use Rattle.txn_core.specs.History.{effects, found_kept, reasons_of}
+use Rattle.txn_core.specs.Effects.{Effect}
+use Rattle.txn_core.specs.Runs.{IsRun}
+use Rattle.txn_core.specs.History.{effect, effects, found_kept, reasons_of}
 use Rattle.txn_core.specs.Legal.{ruling_answer, IsRuled, IsInTheWay, IsAnswer, IsLegal}
-use Rattle.txn_core.specs.Laws.{IsRealHolder, IsRealStamp}
+use Rattle.txn_core.specs.Laws.{version_of, IsRealHolder, IsRealStamp}
 use Rattle.txn_core.proofs.LegalRuns.{legal_run}
 use Rattle.txn_core.proofs.SerialLaws.{rows_are_shown}
+use Rattle.txn_core.proofs.Versions.{one_point}
 
 module _ {V A F B : Type 0} where
   abbrev HeldIn : Answer V A F B → ℕ → Type 0
@@ -148,3 +151,30 @@ module _ {K V A F C D Q B : Type 0} (S : Service K V A F C D Q B) (law : IsServi
   get_is_shown es legal moment key v is =
       let w = world S.core (effects es) in
       get_row (S.core.there w.catalog key) (w.spot key).row v (sym is) ∙ rows_are_shown S.core law.core (effects es) (legal_run S law es legal) key
+
+-- a ReadVersion of an item whose table is there
+pub version_is : {V A F B : Type 0} (b : Bool) (row : Option V) (version gone : ℕ) (h : Option ℕ) (item : Option V) (v : ℕ) (k : Option ℕ) → version_answer {V = V} {A = A} {F = F} {B = B} b row version gone h ≡ Answer.Version item v k → (b ≡ true) × (item ≡ row) × ((if is_some row then version else gone) ≡ v) × (h ≡ k)
+version_is false row version gone h item v k e = absurd (cc)
+version_is true row version gone h item v k e = (refl, cc, cc, cc)
+
+effects-append : {K V A F D Q B : Type 0} (newer es : List (Entry K V A F D Q B)) → effects (newer ++ es) ≡ effects newer ++ effects es
+effects-append [] es = refl
+effects-append (e ∷ newer) es = ap (λ l. effect e ∷ l) (effects-append newer es)
+
+module _ {K V A F C D Q B : Type 0} (S : Service K V A F C D Q B) (law : IsServiceLawful S) where
+  one_point_run : (newer middle es : List (Effect K A D)) (all mid : List (Effect K A D)) (q : K) → all ≡ newer ++ mid → mid ≡ middle ++ es → IsRun S.core all → S.core.there (world S.core es).catalog q ≡ true → S.core.there (world S.core all).catalog q ≡ true → version_of S.core (world S.core es) q ≡ version_of S.core (world S.core all) q → holder ((world S.core all).spot q).pend ≡ None → (((world S.core es).spot q).row ≡ tables S.core (serial mid) q) × (((world S.core all).spot q).row ≡ tables S.core (serial mid) q)
+  one_point_run newer middle es all mid q all_is mid_is run a b v free =
+      subst (λ m. (((world S.core es).spot q).row ≡ tables S.core (serial m) q) × (((world S.core all).spot q).row ≡ tables S.core (serial m) q)) (sym mid_is)
+      (subst (λ l. IsRun S.core l → S.core.there (world S.core l).catalog q ≡ true → version_of S.core (world S.core es) q ≡ version_of S.core (world S.core l) q → holder ((world S.core l).spot q).pend ≡ None → (((world S.core es).spot q).row ≡ tables S.core (serial (middle ++ es)) q) × (((world S.core l).spot q).row ≡ tables S.core (serial (middle ++ es)) q)) (sym (all_is ∙ ap (λ m. newer ++ m) mid_is))
+        (λ r t w f. one_point S.core law.core newer middle es q r a t w f) run b v free)
+
+  pub read_at_one_point : (newer middle es : List (Entry K V A F D Q B)) → IsLegal S (newer ++ (middle ++ es)) → (t u : ℕ) (q : K) (first second : Option V) (version : ℕ) (h : Option ℕ) → IsAnswer S es t (Message.ReadVersion q) (Answer.Version first version h) → IsAnswer S (newer ++ (middle ++ es)) u (Message.ReadVersion q) (Answer.Version second version None) → (first ≡ tables S.core (serial (effects (middle ++ es))) q) × (second ≡ tables S.core (serial (effects (middle ++ es))) q)
+  read_at_one_point newer middle es legal t u q first second version h one two =
+      let w = world S.core (effects es) in
+      let x = world S.core (effects (newer ++ (middle ++ es))) in
+      let a = version_is (S.core.there w.catalog q) (w.spot q).row (w.spot q).version (here S.core w q).gone (holder (w.spot q).pend) first version h (sym one) in
+      let b = version_is (S.core.there x.catalog q) (x.spot q).row (x.spot q).version (here S.core x q).gone (holder (x.spot q).pend) second version None (sym two) in
+      let r =
+        one_point_run (effects newer) (effects middle) (effects es) (effects (newer ++ (middle ++ es))) (effects (middle ++ es)) q
+        (effects-append newer (middle ++ es)) (effects-append middle es) (legal_run S law (newer ++ (middle ++ es)) legal) a.0 b.0 (a.2 ∙ sym b.2) b.3 in
+      (a.1 ∙ r.0, b.1 ∙ r.1)

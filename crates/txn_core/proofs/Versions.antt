@@ -183,3 +183,112 @@ module _ {K V A F C D : Type 0} (P : Protocol K V A F C D) where
           inl (record { row = row; version = ap (λ x. if is_some x then (w.spot q).version else (here P w q).gone) row; stays = λ p h fate. (h, fate) })
       still_or_new (Begun stamp actions) may before now = inl (record { row = refl; version = refl; stays = λ p h fate. (h, fate) })
       still_or_new _ may before now = inl (record { row = refl; version = refl; stays = λ p h fate. (h, fate) })
+
+    -- between two points of a history: a version never falls, and where it is the same the item stood still
+    pub record Steady (w u : World K V A C) (q : K) : Type 0 where
+      pub counts : (here P w q).count ≤ (here P u q).count
+      pub rises : version_of P w q ≤ version_of P u q
+      pub row : version_of P u q ≡ version_of P w q → (u.spot q).row ≡ (w.spot q).row
+      pub stays : version_of P u q ≡ version_of P w q → (p : Pending V) → (w.spot q).pend ≡ Some p → w.ledger.fate p.number ≡ Committed → ((u.spot q).pend ≡ Some p) × (u.ledger.fate p.number ≡ Committed)
+
+    count_on_key : (w : World K V A C) (k : K) (f : Spot V → Spot V) (c : Cell) (q : K) → (here P w k).count ≤ c.count → (here P w q).count ≤ (here P (on_key P w k f c) q).count
+    count_on_key w k f c q up =
+        at_split w.cell (P.cell_of k) c (P.cell_of q) (λ d. (here P w q).count ≤ d.count)
+        (λ m. let same : (here P w k).count ≡ (here P w q).count = ap (λ i. (w.cell i).count) m in omega arith) (λ m. omega arith)
+
+    count_step : (w : World K V A C) (e : Effect K A D) (q : K) → (here P w q).count ≤ (here P (step P w e) q).count
+    count_step w (Wrote a moment) q =
+        let k = P.key_of a in
+        let v = after (P.act w.catalog a (w.spot k).row) (w.spot k).row in
+        let n = count_after (here P w k) (w.spot k) v (single moment) in
+        count_on_key w k (spot_wrote P w.catalog (here P w k) a moment) (cell_after (here P w k) (w.spot k) v (single moment)) q (omega arith)
+    count_step w (Applied n k) q =
+        let v = image_or (w.spot k).row (w.spot k).pend in
+        let own = stamp_or (w.spot k).stamp (w.spot k).pend in
+        let c = count_after (here P w k) (w.spot k) v own in
+        count_on_key w k (spot_applied (here P w k) n) (cell_after (here P w k) (w.spot k) v own) q (omega arith)
+    count_step w (Prepared n stamp a) q = count_on_key w (P.key_of a) (spot_prepared P w.catalog n stamp a) (here P w (P.key_of a)) q (omega arith)
+    count_step w (Released n k) q = count_on_key w k (λ s. spot_released s) (here P w k) q (omega arith)
+    count_step w (Commits n) q = omega arith
+    count_step w (Changed d moment) q = omega arith
+    count_step w _ q = omega arith
+
+    steady_step : (w u : World K V A C) (q : K) (e : Effect K A D) → Counted w → Counted u → Good P u → May P u e → P.there u.catalog q ≡ true → P.there (step P u e).catalog q ≡ true → Steady w u q → Steady w (step P u e) q
+    steady_step w u q e cw cu gu may before now s = go (still_or_new u gu q e may before now)
+      where
+        go : Still u (step P u e) q ⊎ ((here P u q).count < version_of P (step P u e) q) → Steady w (step P u e) q
+        go (inl still) =
+            let same = still.version in
+            record {
+              counts = (let a = s.counts in let b = count_step u e q in omega arith);
+              rises = (let r = s.rises in omega arith);
+              row = λ h. still.row ∙ s.row (sym same ∙ h);
+              stays = λ h p held' fate. let k = s.stays (sym same ∙ h) p held' fate in still.stays p k.0 k.1;
+            }
+        go (inr new) =
+            let v = version_counted w cw q in
+            let c = s.counts in
+            record {
+              counts = (let a = s.counts in let b = count_step u e q in omega arith);
+              rises = omega arith;
+              row = λ h. absurd (omega arith);
+              stays = λ h p held' fate. absurd (omega arith);
+            }
+
+    -- a table that is there was there all along, or its number was not drawn yet
+    drawn_step : (w : World K V A C) (e : Effect K A D) → P.drawn w.catalog ≤ P.drawn (step P w e).catalog
+    drawn_step w (Changed d moment) = law.grows d moment w.catalog
+    drawn_step w (Wrote a moment) = omega arith
+    drawn_step w (Commits n) = omega arith
+    drawn_step w _ = omega arith
+
+    was_there : (w : World K V A C) (e : Effect K A D) (q : K) → P.table q ≤ P.drawn w.catalog → P.there (step P w e).catalog q ≡ true → P.there w.catalog q ≡ true
+    was_there w (Changed d moment) q known h = go (law.comes d moment w.catalog q h)
+      where
+        go : (P.there w.catalog q ≡ true) ⊎ (P.drawn w.catalog < P.table q) → P.there w.catalog q ≡ true
+        go (inl is) = is
+        go (inr new) = absurd (omega arith)
+    was_there w (Wrote a moment) q known h = h
+    was_there w (Commits n) q known h = h
+    was_there w _ q known h = h
+
+    drawn_more : (newer es : List (Effect K A D)) → P.drawn (world P es).catalog ≤ P.drawn (world P (newer ++ es)).catalog
+    drawn_more [] es = omega arith
+    drawn_more (e ∷ newer) es = let a = drawn_more newer es in let b = drawn_step (world P (newer ++ es)) e in omega arith
+
+    -- there at the end and known at the start: there at every point between
+    there_between : (newer es : List (Effect K A D)) (q : K) → P.table q ≤ P.drawn (world P es).catalog → P.there (world P (newer ++ es)).catalog q ≡ true → P.there (world P es).catalog q ≡ true
+    there_between [] es q known h = h
+    there_between (e ∷ newer) es q known h =
+        there_between newer es q known (was_there (world P (newer ++ es)) e q (let a = drawn_more newer es in omega arith) h)
+
+    steady : (newer es : List (Effect K A D)) (q : K) → IsRun P (newer ++ es) → P.table q ≤ P.drawn (world P es).catalog → P.there (world P (newer ++ es)).catalog q ≡ true → Steady (world P es) (world P (newer ++ es)) q
+    steady [] es q run known now = record { counts = omega arith; rises = omega arith; row = λ h. refl; stays = λ h p is fate. (is, fate) }
+    steady (e ∷ newer) es q run known now =
+        let u = world P (newer ++ es) in
+        let before = was_there u e q (let a = drawn_more newer es in omega arith) now in
+        steady_step (world P es) u q e (counted es) (counted (newer ++ es)) (good P law (newer ++ es) run.0) run.1 before now (steady newer es q run.0 known before)
+
+    run_of : (newer es : List (Effect K A D)) → IsRun P (newer ++ es) → IsRun P es
+    run_of [] es run = run
+    run_of (e ∷ newer) es run = run_of newer es run.0
+
+    -- an item that a reader found twice with one version, the second time unheld, is the item of the tables between
+    pub one_point : (newer middle es : List (Effect K A D)) (q : K) → IsRun P (newer ++ (middle ++ es)) → P.there (world P es).catalog q ≡ true → P.there (world P (newer ++ (middle ++ es))).catalog q ≡ true → version_of P (world P es) q ≡ version_of P (world P (newer ++ (middle ++ es))) q → holder ((world P (newer ++ (middle ++ es))).spot q).pend ≡ None → (((world P es).spot q).row ≡ tables P (serial (middle ++ es)) q) × (((world P (newer ++ (middle ++ es))).spot q).row ≡ tables P (serial (middle ++ es)) q)
+    one_point newer middle es q run first second same free =
+        let mid = middle ++ es in
+        let run_mid = run_of newer mid run in
+        let known = law.known (world P es).catalog q first in
+        let known_mid : P.table q ≤ P.drawn (world P mid).catalog = (let a = drawn_more middle es in omega arith) in
+        let there_mid = there_between newer mid q known_mid second in
+        let one = steady middle es q run_mid known there_mid in
+        let two = steady newer mid q run known_mid second in
+        let v1 : version_of P (world P mid) q ≡ version_of P (world P es) q = (let a = one.rises in let b = two.rises in omega arith) in
+        let v2 : version_of P (world P (newer ++ mid)) q ≡ version_of P (world P mid) q = (let a = one.rises in let b = two.rises in omega arith) in
+        let plain : ((world P mid).spot q).row ≡ ((world P mid).spot q).tab =
+          unveiled mid run_mid (λ p is fate. let k = two.stays v2 p is fate in none_some (holder ((world P (newer ++ mid)).spot q).pend) p.number free (holder_is ((world P (newer ++ mid)).spot q).pend p k.0)) ((world P mid).spot q).pend refl in
+        (sym (one.row v1) ∙ plain ∙ tab_read P mid run_mid q, two.row v2 ∙ plain ∙ tab_read P mid run_mid q)
+      where
+        unveiled : (mid : List (Effect K A D)) → IsRun P mid → ((p : Pending V) → ((world P mid).spot q).pend ≡ Some p → (world P mid).ledger.fate p.number ≡ Committed → ⊥) → (o : Option (Pending V)) → ((world P mid).spot q).pend ≡ o → ((world P mid).spot q).row ≡ ((world P mid).spot q).tab
+        unveiled mid run none None is = ((good P law mid run).spots q).free is
+        unveiled mid run none (Some p) is = ((good P law mid run).spots q).open_ p is (λ f. none p is f)

@@ -4,10 +4,10 @@
 //! is the list of its entries, the newest first; legal histories are defined in `specs/Legal.antt`, what entries change
 //! in `specs/History.antt` and `specs/World.antt`, and the one order, with the tables that it makes, in
 //! `specs/Serial.antt`, with no word of cells.
-ghost use Rattle.std.specs.Prelude.{◌≡◌, ◌≤◌, ℕ, List, ◌∷◌, ◌++◌, Option, Some};
+ghost use Rattle.std.specs.Prelude.{◌≡◌, ◌≤◌, ℕ, List, ◌∷◌, ◌++◌, Option, None, Some};
 ghost use Rattle.txn_core.specs.Effects.{Commits};
 ghost use Rattle.txn_core.specs.World.{on_item};
-ghost use Rattle.txn_core.specs.Serial.{begun_actions, decisions, serial, standings, once_whole, waiting, shown, point, IsStampOrder};
+ghost use Rattle.txn_core.specs.Serial.{begun_actions, decisions, serial, standings, once_whole, tables, waiting, shown, point, IsStampOrder};
 ghost use Rattle.txn_core.specs.History.{effect, effects, IsTimely};
 ghost use Rattle.txn_core.specs.Legal.{IsAnswer, Allowed, sent_to, IsLegal};
 ghost use Rattle.txn_core.specs.Laws.{row_of, HoldsTheTables, ActsAsAccepted, IsRealHolder, IsRealStamp};
@@ -46,6 +46,14 @@ pub fn timestamp_order<R: Rules>()
 pub fn reads_go_forward<R: Rules>()
     ensures shown { (n : ℕ) (es : List (Entry R.Key R.Value R.Action R.Fault R.Command R.Question R.Told)) → IsLegal (R.protocol n) es → (moment : ℕ) (key : R.Key) (v : Option R.Value) → IsAnswer (R.protocol n) es moment (Message.Get key) (Answer.Row v) → v ≡ shown (R.protocol n).core (effects es) key }
     ensures forward { (n : ℕ) (newer es : List (Entry R.Key R.Value R.Action R.Fault R.Command R.Question R.Told)) → IsLegal (R.protocol n) (newer ++ es) → (q : R.Key) → point (R.protocol n).core (effects es) q ≤ point (R.protocol n).core (effects (newer ++ es)) q }
+{
+}
+
+/// [One-point reads]. An item that two reads of its version found with one version, the second time unheld, is for both
+/// of them the item of the tables at every point between. So two rounds of such reads are the tables at one point: the
+/// end of the first round.
+pub fn one_point_reads<R: Rules>()
+    ensures { (n : ℕ) (newer middle es : List (Entry R.Key R.Value R.Action R.Fault R.Command R.Question R.Told)) → IsLegal (R.protocol n) (newer ++ (middle ++ es)) → (t u : ℕ) (key : R.Key) (first second : Option R.Value) (version : ℕ) (holds : Option ℕ) → IsAnswer (R.protocol n) es t (Message.ReadVersion key) (Answer.Version first version holds) → IsAnswer (R.protocol n) (newer ++ (middle ++ es)) u (Message.ReadVersion key) (Answer.Version second version None) → (first ≡ tables (R.protocol n).core (serial (effects (middle ++ es))) key) × (second ≡ tables (R.protocol n).core (serial (effects (middle ++ es))) key) }
 {
 }
 
