@@ -13,3 +13,4 @@ mod LegalRuns
 mod Causes
 mod Prefix
 mod Versions
+mod TokenLife

@@ -9,4 +9,5 @@ pub mod Serial
 pub mod Answers
 pub mod History
 pub mod Legal
+pub mod Tokens
 pub mod Laws

@@ -4,11 +4,12 @@
 //! is the list of its entries, the newest first; legal histories are defined in `specs/Legal.antt`, what entries change
 //! in `specs/History.antt` and `specs/World.antt`, and the one order, with the tables that it makes, in
 //! `specs/Serial.antt`, with no word of cells.
-ghost use Rattle.std.specs.Prelude.{◌≡◌, ◌≤◌, ℕ, List, ◌∷◌, ◌++◌, Option, None, Some};
+ghost use Rattle.std.specs.Prelude.{◌≡◌, ◌≤◌, ℕ, true, false, List, ◌∷◌, ◌++◌, Option, None, Some};
 ghost use Rattle.txn_core.specs.Effects.{Commits};
 ghost use Rattle.txn_core.specs.World.{on_item};
 ghost use Rattle.txn_core.specs.Serial.{begun_actions, decisions, serial, standings, once_whole, tables, waiting, shown, point, IsStampOrder};
-ghost use Rattle.txn_core.specs.History.{effect, effects, IsTimely};
+ghost use Rattle.txn_core.specs.History.{effect, effects, Had, IsTimely, is_over};
+ghost use Rattle.txn_core.specs.Tokens.{draws, first_done, LivesOn, Names};
 ghost use Rattle.txn_core.specs.Legal.{IsAnswer, Allowed, sent_to, IsLegal};
 ghost use Rattle.txn_core.specs.Laws.{row_of, HoldsTheTables, ActsAsAccepted, IsRealHolder, IsRealStamp};
 ghost use Rattle.txn_core.specs.declared.message.Message.{Message};
@@ -46,6 +47,16 @@ pub fn timestamp_order<R: Rules>()
 pub fn reads_go_forward<R: Rules>()
     ensures shown { (n : ℕ) (es : List (Entry R.Key R.Value R.Action R.Fault R.Command R.Question R.Told)) → IsLegal (R.protocol n) es → (moment : ℕ) (key : R.Key) (v : Option R.Value) → IsAnswer (R.protocol n) es moment (Message.Get key) (Answer.Row v) → v ≡ shown (R.protocol n).core (effects es) key }
     ensures forward { (n : ℕ) (newer es : List (Entry R.Key R.Value R.Action R.Fault R.Command R.Question R.Told)) → IsLegal (R.protocol n) (newer ++ es) → (q : R.Key) → point (R.protocol n).core (effects es) q ≤ point (R.protocol n).core (effects (newer ++ es)) q }
+{
+}
+
+/// [Token once]. A token lives from the Begin `start` that drew a number for it, while no entry since then ended its
+/// life. In it no other number is drawn for the token, so of all its transactions this one alone can stand in the one
+/// order, where no number stands twice ([`one_fate`]); and every later Begin with the token that doesn't end its life
+/// names that number, or finds a table gone.
+pub fn token_once<R: Rules>()
+    ensures once { (n : ℕ) (since older : List (Entry R.Key R.Value R.Action R.Fault R.Command R.Question R.Told)) (start : Entry R.Key R.Value R.Action R.Fault R.Command R.Question R.Told) (token : List ℕ) (number : ℕ) → IsLegal (R.protocol n) (since ++ (start ∷ older)) → draws token number start.message start.answer ≡ true → LivesOn number since → (other : ℕ) → Had (draws token other) since → ⊥ }
+    ensures later { (n : ℕ) (since older : List (Entry R.Key R.Value R.Action R.Fault R.Command R.Question R.Told)) (start : Entry R.Key R.Value R.Action R.Fault R.Command R.Question R.Told) (token : List ℕ) (number : ℕ) → IsLegal (R.protocol n) (since ++ (start ∷ older)) → draws token number start.message start.answer ≡ true → LivesOn number since → (moment : ℕ) (actions : List R.Action) (a : Answer R.Value R.Action R.Fault R.Told) → is_over (first_done since number) moment ≡ false → IsAnswer (R.protocol n) (since ++ (start ∷ older)) moment (Message.Begin (Some token) actions) a → Names number a }
 {
 }
 

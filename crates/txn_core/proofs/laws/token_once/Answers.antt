@@ -1,0 +1,11 @@
+use Rattle.txn_core.proofs.TokenLife.{drawn_once, later_begins}
+use Rattle.txn_core.proofs.laws.token_once.Goals as goal
+
+pub returns : goal.returns
+returns g c =
+    let S = g.R.Rules.protocol in
+    record {
+      once = λ n since older start token number legal drawn on other h. drawn_once (S n) since older start token number legal drawn on other h;
+      later = λ n since older start token number legal drawn on moment actions a live answer.
+          later_begins (S n) since older start token number legal drawn on moment actions a live answer;
+    }
