@@ -14,3 +14,4 @@ mod Causes
 mod Prefix
 mod Versions
 mod TokenLife
+mod Rows

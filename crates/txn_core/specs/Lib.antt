@@ -11,3 +11,5 @@ pub mod History
 pub mod Legal
 pub mod Tokens
 pub mod Laws
+pub mod Simple
+pub mod SimpleLaws

@@ -21,3 +21,6 @@ pub use reason::Reason;
 pub use rules::Rules;
 pub use stamp::Stamp;
 pub use verdict::Verdict;
+
+#[cfg(test)]
+mod tests;

@@ -1,0 +1,36 @@
+-- One table of numbers under numbers, on which the definitions are tried: the item of a key is in the partition of its rest.
+use Rattle.std.specs.Prelude.{ℕ, ◌%◌, Bool, true, false, nat_eq, nat_le, List, Option, None, Some, is_some, if◌then◌else◌}
+use Rattle.txn_core.specs.Protocol.{Outcome, New, Unmet, Protocol}
+use Rattle.txn_core.specs.Service.{Ruling, Carries, Service}
+
+-- an action is a key and a number: 0 deletes the item, 1 checks that it is there, any other number is put
+abbrev pub act : (ℕ × ℕ) → Option ℕ → Outcome ℕ ℕ
+act a old = if nat_eq a.1 0 then New None else (if nat_eq a.1 1 then (if is_some old then New old else Unmet) else New (Some a.1))
+
+-- the one table is there from the first command on
+abbrev pub protocol : ℕ → Protocol ℕ ℕ (ℕ × ℕ) ℕ ℕ ℕ
+protocol partitions =
+    record {
+      same = nat_eq;
+      cell_of = λ k. k % partitions;
+      key_of = λ a. a.0;
+      act = λ c a old. act a old;
+      empty = 0;
+      there = λ c k. nat_le 1 c;
+      table = λ k. 1;
+      drawn = λ c. c;
+      change = λ d moment c. if nat_le 1 c then c else 1;
+      adds = λ d c k. None;
+    }
+
+abbrev pub service : ℕ → Service ℕ ℕ (ℕ × ℕ) ℕ ℕ ℕ ℕ ℕ
+service partitions =
+    record {
+      core = protocol partitions;
+      control = partitions;
+      same_actions = λ xs ys. true;
+      tell = λ c q. c;
+      refuses = λ d c. if nat_le 1 c then Some c else None;
+      concerns = λ d c k. false;
+      rules = λ d moment c. Carries 1;
+    }
