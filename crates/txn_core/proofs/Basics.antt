@@ -1,6 +1,5 @@
 -- Small facts on options, outcomes and changed functions.
-use Rattle.std.proofs.Common.{◌≡◌, ℕ, Bool, true, false, nat_eq, List, [], ◌∷◌, Option, None, Some, is_some, refl, sym, ap, ◌∙◌, subst}
-use Rattle.std.specs.List.{find, list_any}
+use Rattle.std.proofs.Common.{◌≡◌, ℕ, Bool, true, false, nat_eq, Option, None, Some, is_some, refl, ap}
 use Rattle.std.proofs.lemmas.Bool.{cond_both, eqb-true, eqb-false}
 use Rattle.txn_core.specs.Protocol.{Outcome, New, Unmet, Fails, after, IsNew}
 use Rattle.txn_core.specs.World.{Pending, at, holder}

@@ -1,31 +1,23 @@
 -- What each answered message changes may happen.
-use Rattle.std.proofs.Common.{◌≡◌, ◌≢◌, ◌⊎◌, inl, inr, ℕ, suc, ◌<◌, ◌≤◌, Bool, true, false, not, ◌&&◌, ◌||◌, nat_eq, List, [], ◌∷◌, Option, None, Some, is_some, if◌then◌else◌, refl, sym, ap, ◌∙◌, subst, arith}
-use Rattle.std.specs.List.{find, list_any, list_all}
+use Rattle.std.proofs.Common.{◌≡◌, ◌⊎◌, inl, inr, ℕ, suc, ◌<◌, Bool, true, false, nat_eq, List, [], ◌∷◌, Option, None, Some, is_some, if◌then◌else◌, refl, sym, ap, ◌∙◌, subst, arith}
+use Rattle.std.specs.List.{find}
 use Rattle.std.specs.Prelude.{All}
-use Rattle.std.proofs.lemmas.Bool.{eqb-true, cond_both, and_parts, or_cases}
+use Rattle.std.proofs.lemmas.Bool.{eqb-true, cond_both}
 use Rattle.txn_core.specs.declared.stamp.Stamp.{Stamp}
 use Rattle.txn_core.specs.declared.fate.Fate.{Fate}
 use Rattle.txn_core.specs.declared.fate.Fate.TheVariants.{Undecided, Committed, Cancelled, Gone}
-use Rattle.txn_core.specs.declared.reason.Reason.{Reason}
-use Rattle.txn_core.specs.declared.message.Message.{Message}
 use Rattle.txn_core.specs.declared.answer.Answer.{Answer}
-use Rattle.txn_core.specs.declared.entry.Entry.{Entry}
 use Rattle.txn_core.specs.Stamps.{earlier}
-use Rattle.txn_core.specs.Protocol.{Outcome, New, Unmet, Fails, IsNew, Protocol, IsLawful}
+use Rattle.txn_core.specs.Protocol.{Outcome, New, Unmet, Fails, IsNew}
 use Rattle.txn_core.specs.Service.{Ruling, Carries, Refuses, Service, IsServiceLawful}
-use Rattle.txn_core.specs.Effects.{Effect, Wrote, Begun, Prepared, Commits, Cancels, Applied, Released, Finished, Forgot, Changed, Quiet}
-use Rattle.txn_core.specs.World.{Pending, Spot, Ledger, World, at, holder, last, on_item, action_on, touches, here, step, world, spot_prepared, spot_applied}
-use Rattle.txn_core.specs.Runs.{May, IsRun, IsReady, MayWrite, MayPrepare, MayCommit, MayFinish, MayChange}
-use Rattle.txn_core.specs.Serial.{begun_stamp, begun_actions}
-use Rattle.txn_core.specs.Answers.{KeptToken, write_answer, outcome_answer, prepare_answer, is_holder, apply_answer, release_answer, begin_answer, has_record, decide_answer, done_answer, forget_answer}
-use Rattle.txn_core.specs.History.{is_written, is_accepted, is_applied, is_released, is_finished, is_forgotten, is_changed, is_begun, tells_commit, tells_cancel, where_so, begin_effect, decide_effect, effect_of, effect, effects, Had, begins, commits, cancels, finishes, forgets, found_kept}
-use Rattle.txn_core.specs.Legal.{IsClear, ruling_answer, IsRuled, IsAnswer, prepares, accepts, applies, releases, HasGround, Allowed, Follows, IsLegal}
-use Rattle.txn_core.proofs.Basics.{none_some, some_is, true_false, at_split, held, some_of}
-use Rattle.txn_core.proofs.Invariant.{GoodSpot, Good}
-use Rattle.txn_core.proofs.Ends.{find_passes}
-use Rattle.txn_core.proofs.Kept.{good, action_alike}
-use Rattle.txn_core.proofs.Readings.{actions_read, stamp_read}
-use Rattle.txn_core.proofs.Grows.{Grows, grows}
+use Rattle.txn_core.specs.Effects.{Effect, Wrote, Prepared, Applied, Released, Finished, Forgot, Changed}
+use Rattle.txn_core.specs.World.{Pending, World, holder, last, action_on, touches, here}
+use Rattle.txn_core.specs.Runs.{May, IsReady, MayFinish, MayChange}
+use Rattle.txn_core.specs.Answers.{KeptToken, write_answer, outcome_answer, prepare_answer, is_holder, apply_answer, release_answer, begin_answer, decide_answer, done_answer, forget_answer}
+use Rattle.txn_core.specs.History.{is_written, is_accepted, is_applied, is_released, is_finished, is_forgotten, is_changed, where_so, begin_effect, decide_effect}
+use Rattle.txn_core.specs.Legal.{IsClear, ruling_answer, IsRuled}
+use Rattle.txn_core.proofs.Basics.{none_some, some_is, held}
+use Rattle.txn_core.proofs.Invariant.{Good}
 
 -- what holds of all holds of what is found
 pub all_found : {X : Type 0} (Q : X → Type 0) (test : X → Bool) (xs : List X) (x : X) → All Q xs → find test xs ≡ Some x → Q x
@@ -61,8 +53,8 @@ module _ {K V A F C D Q B : Type 0} (S : Service K V A F C D Q B) (law : IsServi
     may_prepare n stamp a begun its_stamp its_action true (Some m) o is_there is_held is_out =
         cond_both (nat_eq m n) Answer.Accepted (Answer.Held m) (λ x. May S.core w (where_so (is_accepted {V = V} {A = A} {F = F} {B = B} x) (Prepared n stamp a)))
         (λ e.
-          let p = held (w.spot (S.core.key_of a)).pend m is_held in
-          record { there = is_there; begun = begun; its_stamp = its_stamp; its_action = its_action; ready = subst (λ x. IsReady S.core w n stamp a x) (sym p.1) (p.2 ∙ eqb-true m n e) })
+        let p = held (w.spot (S.core.key_of a)).pend m is_held in
+        record { there = is_there; begun = begun; its_stamp = its_stamp; its_action = its_action; ready = subst (λ x. IsReady S.core w n stamp a x) (sym p.1) (p.2 ∙ eqb-true m n e) })
         (λ e. tt)
     may_prepare n stamp a begun its_stamp its_action true None o is_there is_held is_out =
         cond_both (earlier (last (here S.core w (S.core.key_of a)) (w.spot (S.core.key_of a))) stamp)
@@ -74,7 +66,10 @@ module _ {K V A F C D Q B : Type 0} (S : Service K V A F C D Q B) (law : IsServi
         by_outcome : earlier (last (here S.core w (S.core.key_of a)) (w.spot (S.core.key_of a))) stamp ≡ true → (x : Outcome V F) → S.core.act w.catalog a (w.spot (S.core.key_of a)).row ≡ x → May S.core w (where_so (is_accepted {V = V} {A = A} {F = F} {B = B} (outcome_answer (w.spot (S.core.key_of a)).row x)) (Prepared n stamp a))
         by_outcome e (New v) out =
             record {
-              there = is_there; begun = begun; its_stamp = its_stamp; its_action = its_action;
+              there = is_there;
+              begun = begun;
+              its_stamp = its_stamp;
+              its_action = its_action;
               ready = subst (λ x. IsReady S.core w n stamp a x) (sym (unheld (w.spot (S.core.key_of a)).pend is_held)) (e, subst (λ x. IsNew x) (sym out) tt);
             }
         by_outcome e Unmet out = tt

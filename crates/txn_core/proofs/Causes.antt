@@ -1,5 +1,5 @@
 -- Refusals name their real cause, and a Get is what readers are shown.
-use Rattle.std.proofs.Common.{◌≡◌, ◌≢◌, ◌⊎◌, inl, inr, ℕ, Bool, true, false, nat_eq, List, [], ◌∷◌, ◌++◌, Option, None, Some, if◌then◌else◌, is_some, refl, sym, ap, ◌∙◌, subst}
+use Rattle.std.proofs.Common.{◌≡◌, ◌≢◌, inl, inr, ℕ, Bool, true, false, nat_eq, List, [], ◌∷◌, ◌++◌, Option, None, Some, if◌then◌else◌, is_some, refl, sym, ap, ◌∙◌, subst}
 use Rattle.std.specs.List.{list_all}
 use Rattle.std.proofs.lemmas.Bool.{cond_both, eqb-false}
 use Rattle.txn_core.specs.declared.stamp.Stamp.{Stamp}
@@ -11,9 +11,9 @@ use Rattle.txn_core.specs.declared.entry.Entry.{Entry}
 use Rattle.txn_core.specs.Stamps.{earlier, IsBy}
 use Rattle.txn_core.specs.Protocol.{Outcome, New, Unmet, Fails}
 use Rattle.txn_core.specs.Service.{Ruling, Carries, Refuses, Service, IsServiceLawful}
-use Rattle.txn_core.specs.World.{Spot, holder, last, here, world}
+use Rattle.txn_core.specs.World.{holder, last, here, world}
 use Rattle.txn_core.specs.Serial.{serial, tables, shown}
-use Rattle.txn_core.specs.Answers.{KeptToken, get_answer, write_answer, outcome_answer, prepare_answer, is_holder, apply_answer, release_answer, version_answer, begin_answer, has_record, decide_answer, done_answer, forget_answer, fate_answer, recall_answer}
+use Rattle.txn_core.specs.Answers.{KeptToken, get_answer, write_answer, outcome_answer, prepare_answer, is_holder, version_answer, begin_answer, has_record, decide_answer, recall_answer}
 use Rattle.txn_core.specs.Effects.{Effect}
 use Rattle.txn_core.specs.Runs.{IsRun}
 use Rattle.txn_core.specs.History.{effect, effects, found_kept, reasons_of}
@@ -90,7 +90,6 @@ module _ {V A F B : Type 0} (P : Answer V A F B → Type 0) where
   decide_other true Gone commit d = d Gone false
 
 module _ {K V A F C D Q B : Type 0} (S : Service K V A F C D Q B) (law : IsServiceLawful S) where
-
   pub real_holder : (es : List (Entry K V A F D Q B)) (moment : ℕ) (m : Message K V A F D Q) (n : ℕ) → IsAnswer S es moment m (Answer.Held n) → IsRealHolder S es m n
   real_holder es moment (Message.Write action) n is =
       let w = world S.core (effects es) in
@@ -166,7 +165,7 @@ module _ {K V A F C D Q B : Type 0} (S : Service K V A F C D Q B) (law : IsServi
   one_point_run newer middle es all mid q all_is mid_is run a b v free =
       subst (λ m. (((world S.core es).spot q).row ≡ tables S.core (serial m) q) × (((world S.core all).spot q).row ≡ tables S.core (serial m) q)) (sym mid_is)
       (subst (λ l. IsRun S.core l → S.core.there (world S.core l).catalog q ≡ true → version_of S.core (world S.core es) q ≡ version_of S.core (world S.core l) q → holder ((world S.core l).spot q).pend ≡ None → (((world S.core es).spot q).row ≡ tables S.core (serial (middle ++ es)) q) × (((world S.core l).spot q).row ≡ tables S.core (serial (middle ++ es)) q)) (sym (all_is ∙ ap (λ m. newer ++ m) mid_is))
-        (λ r t w f. one_point S.core law.core newer middle es q r a t w f) run b v free)
+      (λ r t w f. one_point S.core law.core newer middle es q r a t w f) run b v free)
 
   pub read_at_one_point : (newer middle es : List (Entry K V A F D Q B)) → IsLegal S (newer ++ (middle ++ es)) → (t u : ℕ) (q : K) (first second : Option V) (version : ℕ) (h : Option ℕ) → IsAnswer S es t (Message.ReadVersion q) (Answer.Version first version h) → IsAnswer S (newer ++ (middle ++ es)) u (Message.ReadVersion q) (Answer.Version second version None) → (first ≡ tables S.core (serial (effects (middle ++ es))) q) × (second ≡ tables S.core (serial (effects (middle ++ es))) q)
   read_at_one_point newer middle es legal t u q first second version h one two =
@@ -175,6 +174,6 @@ module _ {K V A F C D Q B : Type 0} (S : Service K V A F C D Q B) (law : IsServi
       let a = version_is (S.core.there w.catalog q) (w.spot q).row (w.spot q).version (here S.core w q).gone (holder (w.spot q).pend) first version h (sym one) in
       let b = version_is (S.core.there x.catalog q) (x.spot q).row (x.spot q).version (here S.core x q).gone (holder (x.spot q).pend) second version None (sym two) in
       let r =
-        one_point_run (effects newer) (effects middle) (effects es) (effects (newer ++ (middle ++ es))) (effects (middle ++ es)) q
-        (effects-append newer (middle ++ es)) (effects-append middle es) (legal_run S law (newer ++ (middle ++ es)) legal) a.0 b.0 (a.2 ∙ sym b.2) b.3 in
+      one_point_run (effects newer) (effects middle) (effects es) (effects (newer ++ (middle ++ es))) (effects (middle ++ es)) q
+      (effects-append newer (middle ++ es)) (effects-append middle es) (legal_run S law (newer ++ (middle ++ es)) legal) a.0 b.0 (a.2 ∙ sym b.2) b.3 in
       (a.1 ∙ r.0, b.1 ∙ r.1)

@@ -1,13 +1,12 @@
 -- What never goes back: numbers are drawn, decided, accepted, applied, done and forgotten for good.
-use Rattle.std.proofs.Common.{◌≡◌, ◌≢◌, ℕ, suc, ◌<◌, ◌≤◌, Bool, true, false, nat_eq, List, Option, None, Some, if◌then◌else◌, refl, sym, ap, ◌∙◌, subst, arith}
+use Rattle.std.proofs.Common.{◌≡◌, ℕ, ◌<◌, ◌≤◌, Bool, true, refl, ap, ◌∙◌, subst, arith}
 use Rattle.std.proofs.lemmas.Bool.{cond_both}
-use Rattle.txn_core.specs.declared.stamp.Stamp.{Stamp}
 use Rattle.txn_core.specs.declared.fate.Fate.{Fate}
 use Rattle.txn_core.specs.declared.fate.Fate.TheVariants.{Undecided, Committed, Cancelled}
 use Rattle.txn_core.specs.Protocol.{after, Protocol}
 use Rattle.txn_core.specs.Stamps.{single}
 use Rattle.txn_core.specs.Effects.{Effect, Wrote, Begun, Prepared, Commits, Cancels, Applied, Released, Finished, Forgot, Changed, Quiet}
-use Rattle.txn_core.specs.World.{Spot, Cell, Ledger, World, at, on_key, here, step, spot_wrote, spot_prepared, spot_applied, spot_released, cell_after, image_or, stamp_or}
+use Rattle.txn_core.specs.World.{Spot, Cell, World, at, on_key, here, step, spot_wrote, spot_prepared, spot_applied, spot_released, cell_after, image_or, stamp_or}
 use Rattle.txn_core.specs.Runs.{May}
 use Rattle.txn_core.proofs.Basics.{at_split}
 
@@ -30,7 +29,13 @@ module _ {K V A F C D : Type 0} (P : Protocol K V A F C D) (w : World K V A C) w
   grows_on_key : (k : K) (f : Spot V → Spot V) (c : Cell) → ((s : Spot V) (n : ℕ) → s.accepted n ≡ true → (f s).accepted n ≡ true) → ((s : Spot V) (n : ℕ) → s.applied n ≡ true → (f s).applied n ≡ true) → Grows w (on_key P w k f c)
   grows_on_key k f c acc app =
       record {
-        next = omega arith; stamp = λ n h. refl; actions = λ n h. refl; committed = λ n h. h; cancelled = λ n h. h; done = λ n h. h; gone = λ n h. h;
+        next = omega arith;
+        stamp = λ n h. refl;
+        actions = λ n h. refl;
+        committed = λ n h. h;
+        cancelled = λ n h. h;
+        done = λ n h. h;
+        gone = λ n h. h;
         accepted = λ q n h. cond_both (P.same k q) (f (w.spot q)) (w.spot q) (λ s. s.accepted n ≡ true) (λ e. acc (w.spot q) n h) (λ e. h);
         applied = λ q n h. cond_both (P.same k q) (f (w.spot q)) (w.spot q) (λ s. s.applied n ≡ true) (λ e. app (w.spot q) n h) (λ e. h);
       }
@@ -39,11 +44,14 @@ module _ {K V A F C D : Type 0} (P : Protocol K V A F C D) (w : World K V A C) w
   grows_decided n fate u first next stamp actions done gone is acc app =
       record {
         next = omega arith;
-        stamp = λ m h. ap (λ f. f m) stamp; actions = λ m h. ap (λ f. f m) actions;
+        stamp = λ m h. ap (λ f. f m) stamp;
+        actions = λ m h. ap (λ f. f m) actions;
         committed = λ m h. ap (λ f. f m) is ∙ at_split w.ledger.fate n fate m (λ x. x ≡ Committed) (λ e. let k = subst (λ x. w.ledger.fate x ≡ Undecided) e first in absurd (cc)) (λ e. h);
         cancelled = λ m h. ap (λ f. f m) is ∙ at_split w.ledger.fate n fate m (λ x. x ≡ Cancelled) (λ e. let k = subst (λ x. w.ledger.fate x ≡ Undecided) e first in absurd (cc)) (λ e. h);
-        done = λ m h. ap (λ f. f m) done ∙ h; gone = λ m h. ap (λ f. f m) gone ∙ h;
-        accepted = λ q m h. ap (λ f. f m) (acc q) ∙ h; applied = λ q m h. ap (λ f. f m) (app q) ∙ h;
+        done = λ m h. ap (λ f. f m) done ∙ h;
+        gone = λ m h. ap (λ f. f m) gone ∙ h;
+        accepted = λ q m h. ap (λ f. f m) (acc q) ∙ h;
+        applied = λ q m h. ap (λ f. f m) (app q) ∙ h;
       }
 
   pub grows : (e : Effect K A D) → May P w e → Grows w (step P w e)
@@ -61,27 +69,60 @@ module _ {K V A F C D : Type 0} (P : Protocol K V A F C D) (w : World K V A C) w
         next = omega arith;
         stamp = λ m h. at_split w.ledger.stamp w.ledger.next stamp m (λ x. x ≡ w.ledger.stamp m) (λ e. absurd (omega arith)) (λ e. refl);
         actions = λ m h. at_split w.ledger.actions w.ledger.next actions m (λ x. x ≡ w.ledger.actions m) (λ e. absurd (omega arith)) (λ e. refl);
-        committed = λ n h. h; cancelled = λ n h. h; done = λ n h. h; gone = λ n h. h; accepted = λ q n h. h; applied = λ q n h. h;
+        committed = λ n h. h;
+        cancelled = λ n h. h;
+        done = λ n h. h;
+        gone = λ n h. h;
+        accepted = λ q n h. h;
+        applied = λ q n h. h;
       }
   grows (Commits n) may = grows_decided n Committed (step P w (Commits n)) may.first refl refl refl refl refl refl (λ q. refl) (λ q. refl)
   grows (Cancels n) may = grows_decided n Cancelled (step P w (Cancels n)) may.1 refl refl refl refl refl refl (λ q. refl) (λ q. refl)
   grows (Finished n) may =
       record {
-        next = omega arith; stamp = λ m h. refl; actions = λ m h. refl; committed = λ m h. h; cancelled = λ m h. h;
-        done = λ m h. at_true w.ledger.done n m h; gone = λ m h. h; accepted = λ q m h. h; applied = λ q m h. h;
+        next = omega arith;
+        stamp = λ m h. refl;
+        actions = λ m h. refl;
+        committed = λ m h. h;
+        cancelled = λ m h. h;
+        done = λ m h. at_true w.ledger.done n m h;
+        gone = λ m h. h;
+        accepted = λ q m h. h;
+        applied = λ q m h. h;
       }
   grows (Forgot n) may =
       record {
-        next = omega arith; stamp = λ m h. refl; actions = λ m h. refl; committed = λ m h. h; cancelled = λ m h. h;
-        done = λ m h. h; gone = λ m h. at_true w.ledger.gone n m h; accepted = λ q m h. h; applied = λ q m h. h;
+        next = omega arith;
+        stamp = λ m h. refl;
+        actions = λ m h. refl;
+        committed = λ m h. h;
+        cancelled = λ m h. h;
+        done = λ m h. h;
+        gone = λ m h. at_true w.ledger.gone n m h;
+        accepted = λ q m h. h;
+        applied = λ q m h. h;
       }
   grows (Changed d moment) may =
       record {
-        next = omega arith; stamp = λ m h. refl; actions = λ m h. refl; committed = λ m h. h; cancelled = λ m h. h;
-        done = λ m h. h; gone = λ m h. h; accepted = λ q m h. h; applied = λ q m h. h;
+        next = omega arith;
+        stamp = λ m h. refl;
+        actions = λ m h. refl;
+        committed = λ m h. h;
+        cancelled = λ m h. h;
+        done = λ m h. h;
+        gone = λ m h. h;
+        accepted = λ q m h. h;
+        applied = λ q m h. h;
       }
   grows Quiet may =
       record {
-        next = omega arith; stamp = λ m h. refl; actions = λ m h. refl; committed = λ m h. h; cancelled = λ m h. h;
-        done = λ m h. h; gone = λ m h. h; accepted = λ q m h. h; applied = λ q m h. h;
+        next = omega arith;
+        stamp = λ m h. refl;
+        actions = λ m h. refl;
+        committed = λ m h. h;
+        cancelled = λ m h. h;
+        done = λ m h. h;
+        gone = λ m h. h;
+        accepted = λ q m h. h;
+        applied = λ q m h. h;
       }

@@ -1,5 +1,5 @@
 -- What holds of every item, and of the ledger, after every run.
-use Rattle.std.proofs.Common.{◌≡◌, ◌≢◌, ℕ, ◌<◌, ◌≤◌, true, false, Option, None, Some}
+use Rattle.std.proofs.Common.{◌≡◌, ◌≢◌, ℕ, ◌<◌, ◌≤◌, true, false, None, Some}
 use Rattle.txn_core.specs.declared.fate.Fate.TheVariants.{Undecided, Committed}
 use Rattle.txn_core.specs.Stamps.{earlier, IsBy}
 use Rattle.txn_core.specs.Protocol.{New, Protocol}

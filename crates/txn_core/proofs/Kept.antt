@@ -1,15 +1,15 @@
 -- After every run, each item and the ledger are as they should be.
-use Rattle.std.proofs.Common.{◌≡◌, ◌≢◌, ◌⊎◌, inl, inr, cond, ℕ, suc, ◌<◌, ◌≤◌, Bool, true, false, nat_eq, List, [], ◌∷◌, Option, None, Some, is_some, if◌then◌else◌, refl, sym, ap, ◌∙◌, subst, arith}
+use Rattle.std.proofs.Common.{◌≡◌, ◌≢◌, ◌⊎◌, inl, inr, cond, ℕ, ◌<◌, Bool, true, false, List, [], ◌∷◌, Option, None, Some, is_some, refl, sym, ap, ◌∙◌, subst, arith}
 use Rattle.std.specs.List.{find}
-use Rattle.std.proofs.lemmas.Bool.{eq-eqb, cond-true, cond_both}
+use Rattle.std.proofs.lemmas.Bool.{cond_both}
 use Rattle.txn_core.specs.declared.stamp.Stamp.{Stamp}
 use Rattle.txn_core.specs.declared.fate.Fate.TheVariants.{Undecided, Committed, Cancelled}
 use Rattle.txn_core.specs.Stamps.{earlier, IsBy, single}
-use Rattle.txn_core.specs.Protocol.{New, after, IsNew, Protocol, IsLawful}
+use Rattle.txn_core.specs.Protocol.{after, IsNew, Protocol, IsLawful}
 use Rattle.txn_core.specs.Effects.{Effect, Wrote, Begun, Prepared, Commits, Cancels, Applied, Released, Finished, Forgot, Changed, Quiet}
-use Rattle.txn_core.specs.World.{Pending, Spot, Cell, Ledger, World, holder, last, on_item, action_on, touches, at, kept_or, hold, image_or, stamp_or, cell_after, spot_wrote, spot_prepared, spot_applied, spot_released, spot_commits, spot_changed, here, on_key, step, start, world}
+use Rattle.txn_core.specs.World.{Pending, Spot, Cell, Ledger, World, holder, last, action_on, touches, at, hold, image_or, stamp_or, cell_after, spot_wrote, spot_prepared, spot_applied, spot_released, spot_commits, spot_changed, here, on_key, step, start, world}
 use Rattle.txn_core.specs.Runs.{May, IsRun, MayWrite, MayPrepare, MayCommit, MayFinish, MayChange, IsReady}
-use Rattle.txn_core.proofs.Basics.{none_some, some_is, true_false, at_split, held, holder_is, is_some_of, some_of, none_of}
+use Rattle.txn_core.proofs.Basics.{none_some, true_false, at_split, held}
 use Rattle.txn_core.proofs.Invariant.{GoodSpot, Good}
 use Rattle.txn_core.proofs.Local.{floor_rises, kept_floor, kept_wrote, kept_hold, kept_again, kept_applied, kept_released}
 use Rattle.txn_core.proofs.Ends.{kept_begun, kept_commit_away, kept_commit_here, kept_cancel, kept_finished, kept_forgot, kept_changed}
@@ -30,7 +30,9 @@ module _ {K V A F C D : Type 0} (P : Protocol K V A F C D) (law : IsLawful P) wh
         record {
           spots = λ q. cond_both (P.same k q) (f (w.spot q)) (w.spot q) (λ s. GoodSpot P w.ledger w.catalog (at w.cell (P.cell_of k) c (P.cell_of q)) q s) (there q) (beside q);
           alike = λ x y e i. cond (law.moved x y k e i) (f (good.alike x y e i)) (good.alike x y e i);
-          decided = good.decided; ended = good.ended; fresh = good.fresh;
+          decided = good.decided;
+          ended = good.ended;
+          fresh = good.fresh;
         }
       where
         there : (q : K) → P.same k q ≡ true → GoodSpot P w.ledger w.catalog (at w.cell (P.cell_of k) c (P.cell_of q)) q (f (w.spot q))
@@ -39,6 +41,7 @@ module _ {K V A F C D : Type 0} (P : Protocol K V A F C D) (law : IsLawful P) wh
             at_split w.cell (P.cell_of k) c (P.cell_of q) (λ d. GoodSpot P w.ledger w.catalog d q (f (w.spot q)))
             (λ m. touched q e (subst (λ i. GoodSpot P w.ledger w.catalog (w.cell i) q (w.spot q)) (sym one) (good.spots q)))
             (λ m. absurd (m one))
+
         beside : (q : K) → P.same k q ≡ false → GoodSpot P w.ledger w.catalog (at w.cell (P.cell_of k) c (P.cell_of q)) q (w.spot q)
         beside q e =
             at_split w.cell (P.cell_of k) c (P.cell_of q) (λ d. GoodSpot P w.ledger w.catalog d q (w.spot q))
@@ -54,8 +57,8 @@ module _ {K V A F C D : Type 0} (P : Protocol K V A F C D) (law : IsLawful P) wh
         kept_on_key k (spot_wrote P w.catalog (here P w k) a moment)
         (cell_after (here P w k) (w.spot k) (after (P.act w.catalog a (w.spot k).row) (w.spot k).row) (single moment))
         (λ q e g.
-          subst (λ (s : Spot V). GoodSpot P w.ledger w.catalog (cell_after (here P w k) s (after (P.act w.catalog a s.row) s.row) (single moment)) q (spot_wrote P w.catalog (here P w k) a moment (w.spot q))) (sym (good.alike k q e))
-          (kept_wrote P law w.ledger w.catalog (here P w k) q (w.spot q) a moment (there_too k q e may.there) (subst (λ (s : Spot V). s.pend ≡ None) (good.alike k q e) may.unheld) g))
+        subst (λ (s : Spot V). GoodSpot P w.ledger w.catalog (cell_after (here P w k) s (after (P.act w.catalog a s.row) s.row) (single moment)) q (spot_wrote P w.catalog (here P w k) a moment (w.spot q))) (sym (good.alike k q e))
+        (kept_wrote P law w.ledger w.catalog (here P w k) q (w.spot q) a moment (there_too k q e may.there) (subst (λ (s : Spot V). s.pend ≡ None) (good.alike k q e) may.unheld) g))
         (λ t h. floor_rises (here P w k) (w.spot k) (after (P.act w.catalog a (w.spot k).row) (w.spot k).row) (single moment) t h)
 
     prepared : (n : ℕ) (stamp : Stamp) (a : A) → MayPrepare P w n stamp a → Good P (step P w (Prepared n stamp a))
@@ -76,7 +79,7 @@ module _ {K V A F C D : Type 0} (P : Protocol K V A F C D) (law : IsLawful P) wh
             let its : p.number ≡ n = subst (λ o. IsReady P w n stamp a o) (ap (λ (s : Spot V). s.pend) one ∙ is_held) may.ready in
             let s : Spot V = w.spot q in
             let same : hold s.pend (record { number = n; stamp = stamp; image = after (P.act w.catalog a s.row) s.row }) ≡ s.pend =
-              ap (λ o. hold o (record { number = n; stamp = stamp; image = after (P.act w.catalog a s.row) s.row })) is_held ∙ sym is_held in
+            ap (λ o. hold o (record { number = n; stamp = stamp; image = after (P.act w.catalog a s.row) s.row })) is_held ∙ sym is_held in
             subst (λ o. GoodSpot P w.ledger w.catalog (here P w (P.key_of a)) q (record s { pend = o; accepted = at s.accepted n true })) (sym same)
             (kept_again P law w.ledger w.catalog (here P w (P.key_of a)) q s n stamp a p is_held its g)
 
@@ -85,9 +88,9 @@ module _ {K V A F C D : Type 0} (P : Protocol K V A F C D) (law : IsLawful P) wh
         kept_on_key k (spot_applied (here P w k) n)
         (cell_after (here P w k) (w.spot k) (image_or (w.spot k).row (w.spot k).pend) (stamp_or (w.spot k).stamp (w.spot k).pend))
         (λ q e g.
-          let h = held (w.spot q).pend n (subst (λ (s : Spot V). holder s.pend ≡ Some n) (good.alike k q e) holds) in
-          subst (λ (s : Spot V). GoodSpot P w.ledger w.catalog (cell_after (here P w k) s (image_or s.row s.pend) (stamp_or s.stamp s.pend)) q (spot_applied (here P w k) n (w.spot q))) (sym (good.alike k q e))
-          (kept_applied P law w.ledger w.catalog (here P w k) q (w.spot q) n h.0 h.1 h.2 committed g))
+        let h = held (w.spot q).pend n (subst (λ (s : Spot V). holder s.pend ≡ Some n) (good.alike k q e) holds) in
+        subst (λ (s : Spot V). GoodSpot P w.ledger w.catalog (cell_after (here P w k) s (image_or s.row s.pend) (stamp_or s.stamp s.pend)) q (spot_applied (here P w k) n (w.spot q))) (sym (good.alike k q e))
+        (kept_applied P law w.ledger w.catalog (here P w k) q (w.spot q) n h.0 h.1 h.2 committed g))
         (λ t h. floor_rises (here P w k) (w.spot k) (image_or (w.spot k).row (w.spot k).pend) (stamp_or (w.spot k).stamp (w.spot k).pend) t h)
 
     -- a number that is released is cancelled, or forgotten and then no commit that still holds an item
@@ -96,27 +99,30 @@ module _ {K V A F C D : Type 0} (P : Protocol K V A F C D) (law : IsLawful P) wh
     released_open n k holds (inr gone) =
         let done = good.ended n gone in
         let h = held (w.spot k).pend n holds in
-        let g = good.spots k in
-        (λ committed.
-          true_false ((w.spot k).applied n)
-          (g.finished n done committed (subst (λ x. touches P w.ledger x k ≡ true) h.2 (g.named h.0 h.1)))
-          (subst (λ x. (w.spot k).applied x ≡ false) h.2 (g.once h.0 h.1)),
-        good.decided n done)
+        let g = good.spots k in (
+          λ committed.
+              true_false ((w.spot k).applied n)
+              (g.finished n done committed (subst (λ x. touches P w.ledger x k ≡ true) h.2 (g.named h.0 h.1)))
+              (subst (λ x. (w.spot k).applied x ≡ false) h.2 (g.once h.0 h.1)),
+          good.decided n done,
+        )
 
     released : (n : ℕ) (k : K) → holder (w.spot k).pend ≡ Some n → (w.ledger.fate n ≡ Cancelled) ⊎ (w.ledger.gone n ≡ true) → Good P (step P w (Released n k))
     released n k holds why =
         let ends = released_open n k holds why in
         kept_on_key k (λ s. spot_released s) (here P w k)
         (λ q e g.
-          let h = held (w.spot q).pend n (subst (λ (s : Spot V). holder s.pend ≡ Some n) (good.alike k q e) holds) in
-          kept_released P law w.ledger w.catalog (here P w k) q (w.spot q) n h.0 h.1 h.2 ends.0 ends.1 g)
+        let h = held (w.spot q).pend n (subst (λ (s : Spot V). holder s.pend ≡ Some n) (good.alike k q e) holds) in
+        kept_released P law w.ledger w.catalog (here P w k) q (w.spot q) n h.0 h.1 h.2 ends.0 ends.1 g)
         (λ t h. h)
 
     begun : (stamp : Stamp) (actions : List A) → Good P (step P w (Begun stamp actions))
     begun stamp actions =
         record {
           spots = λ q. kept_begun P w.ledger w.catalog (w.cell (P.cell_of q)) q (w.spot q) stamp actions good.fresh (good.spots q);
-          alike = good.alike; decided = good.decided; ended = good.ended;
+          alike = good.alike;
+          decided = good.decided;
+          ended = good.ended;
           fresh = λ n h. good.fresh n (omega arith);
         }
 
@@ -162,7 +168,8 @@ module _ {K V A F C D : Type 0} (P : Protocol K V A F C D) (law : IsLawful P) wh
     forgets n done =
         record {
           spots = λ q. kept_forgot P w.ledger w.catalog (w.cell (P.cell_of q)) q (w.spot q) n (good.spots q);
-          alike = good.alike; decided = good.decided;
+          alike = good.alike;
+          decided = good.decided;
           ended = λ m h. at_split w.ledger.gone n true m (λ b. b ≡ true → w.ledger.done m ≡ true) (λ e k. subst (λ x. w.ledger.done x ≡ true) e done) (λ e k. good.ended m k) h;
           fresh = good.fresh;
         }
@@ -172,7 +179,9 @@ module _ {K V A F C D : Type 0} (P : Protocol K V A F C D) (law : IsLawful P) wh
         record {
           spots = λ q. kept_changed P w.ledger w.catalog (w.cell (P.cell_of q)) q (w.spot q) law d moment (may.stays q) (may.acts_alike q) (good.spots q);
           alike = λ x y e i. spot_changed (law.one_place w.catalog x y e i) (law.one_place (P.change d moment w.catalog) x y e i) (law.one_gift d w.catalog x y e i) (good.alike x y e i);
-          decided = good.decided; ended = good.ended; fresh = good.fresh;
+          decided = good.decided;
+          ended = good.ended;
+          fresh = good.fresh;
         }
 
     -- whatever may happen keeps all of it
@@ -193,10 +202,23 @@ module _ {K V A F C D : Type 0} (P : Protocol K V A F C D) (law : IsLawful P) wh
   started =
       record {
         spots = λ q. record {
-          drawn = λ p e. gone p e; stamped = λ p e. gone p e; named = λ p e. gone p e; image = λ p a e h. gone p e; alive = λ p e. gone p e;
-          once = λ p e. gone p e; above = λ p m e h. gone p e; open_ = λ p e h. gone p e; veiled = λ p e h. gone p e; free = λ e. refl;
-          waits = λ m f t h. absurd (cc); settled = λ m h. absurd (cc); ready = λ m f h. absurd (cc); finished = λ m d f t. absurd (cc);
-          late = λ m t h. absurd (cc); unborn = λ h. (refl, λ m. refl); absent = λ h. refl;
+          drawn = λ p e. gone p e;
+          stamped = λ p e. gone p e;
+          named = λ p e. gone p e;
+          image = λ p a e h. gone p e;
+          alive = λ p e. gone p e;
+          once = λ p e. gone p e;
+          above = λ p m e h. gone p e;
+          open_ = λ p e h. gone p e;
+          veiled = λ p e h. gone p e;
+          free = λ e. refl;
+          waits = λ m f t h. absurd (cc);
+          settled = λ m h. absurd (cc);
+          ready = λ m f h. absurd (cc);
+          finished = λ m d f t. absurd (cc);
+          late = λ m t h. absurd (cc);
+          unborn = λ h. (refl, λ m. refl);
+          absent = λ h. refl;
         };
         alike = λ x y e. refl;
         decided = λ n d. absurd (cc);

@@ -1,8 +1,8 @@
 -- A legal history is a run of the protocol: what the words of a history say of the state.
-use Rattle.std.proofs.Common.{◌≡◌, ◌≢◌, ◌⊎◌, inl, inr, ℕ, suc, ◌<◌, ◌≤◌, Bool, true, false, not, ◌&&◌, ◌||◌, nat_eq, List, [], ◌∷◌, Option, None, Some, is_some, if◌then◌else◌, refl, sym, ap, ◌∙◌, subst, arith}
-use Rattle.std.specs.List.{find, list_any, list_all}
+use Rattle.std.proofs.Common.{◌≡◌, ◌⊎◌, inl, inr, ℕ, ◌<◌, ◌≤◌, Bool, true, false, ◌&&◌, nat_eq, List, [], ◌∷◌, Option, None, Some, is_some, if◌then◌else◌, refl, sym, ap, ◌∙◌, subst, arith}
+use Rattle.std.specs.List.{list_any, list_all}
 use Rattle.std.specs.Prelude.{All}
-use Rattle.std.proofs.lemmas.Bool.{eqb-true, cond_both, and_parts, and_from, or_cases, cases_lt, eq-eqb}
+use Rattle.std.proofs.lemmas.Bool.{eqb-true, cond_both, and_parts, or_cases, cases_lt, eq-eqb}
 use Rattle.txn_core.specs.declared.stamp.Stamp.{Stamp}
 use Rattle.txn_core.specs.declared.fate.Fate.{Fate}
 use Rattle.txn_core.specs.declared.fate.Fate.TheVariants.{Undecided, Committed, Cancelled, Gone}
@@ -10,22 +10,21 @@ use Rattle.txn_core.specs.declared.reason.Reason.{Reason}
 use Rattle.txn_core.specs.declared.message.Message.{Message}
 use Rattle.txn_core.specs.declared.answer.Answer.{Answer}
 use Rattle.txn_core.specs.declared.entry.Entry.{Entry}
-use Rattle.txn_core.specs.Protocol.{Outcome, Protocol, IsLawful}
 use Rattle.txn_core.specs.Service.{Service, IsServiceLawful}
-use Rattle.txn_core.specs.Effects.{Effect, Wrote, Begun, Prepared, Commits, Cancels, Applied, Released, Finished, Forgot, Changed, Quiet}
-use Rattle.txn_core.specs.World.{Pending, Spot, Ledger, World, at, holder, last, on_item, action_on, touches, here, step, world, spot_prepared, spot_applied}
+use Rattle.txn_core.specs.Effects.{Prepared, Applied, Finished, Forgot}
+use Rattle.txn_core.specs.World.{Spot, Ledger, World, holder, on_item, touches, here, step, world, spot_prepared, spot_applied}
 use Rattle.txn_core.specs.Runs.{May, IsRun, MayFinish}
-use Rattle.txn_core.specs.Serial.{begun_stamp, begun_actions}
-use Rattle.txn_core.specs.Answers.{KeptToken, is_holder, apply_answer, begin_answer, has_record, decide_answer}
+use Rattle.txn_core.specs.Serial.{begun_actions}
+use Rattle.txn_core.specs.Answers.{KeptToken, is_holder, begin_answer, has_record, decide_answer}
 use Rattle.txn_core.specs.History.{is_accepted, is_applied, is_finished, is_forgotten, is_begun, tells_commit, tells_cancel, where_so, begin_effect, decide_effect, effect_of, effect, effects, Had, begins, commits, cancels, finishes, forgets, found_kept}
-use Rattle.txn_core.specs.Legal.{IsAnswer, prepares, accepts, applies, releases, HasGround, Allowed, Follows, IsLegal}
-use Rattle.txn_core.proofs.Basics.{none_some, some_is, true_false, at_split, held, holder_is, some_of}
-use Rattle.txn_core.proofs.Invariant.{GoodSpot, Good}
+use Rattle.txn_core.specs.Legal.{IsAnswer, accepts, applies, releases, HasGround, Allowed, Follows, IsLegal}
+use Rattle.txn_core.proofs.Basics.{true_false, at_split, some_of}
+use Rattle.txn_core.proofs.Invariant.{Good}
 use Rattle.txn_core.proofs.Ends.{find_passes}
 use Rattle.txn_core.proofs.Kept.{good, action_alike}
 use Rattle.txn_core.proofs.Readings.{actions_read, stamp_read}
 use Rattle.txn_core.proofs.Grows.{Grows, grows}
-use Rattle.txn_core.proofs.Bridge.{all_found, is_holder-true, where_true, may_write, may_prepare, may_apply, may_release, may_begin, may_decide, may_done, may_forget, may_command}
+use Rattle.txn_core.proofs.Bridge.{all_found, where_true, may_write, may_prepare, may_apply, may_release, may_begin, may_decide, may_done, may_forget, may_command}
 
 module _ {K V A F C D Q B : Type 0} (S : Service K V A F C D Q B) (law : IsServiceLawful S) where
   -- what the words of a history say of the state
@@ -82,6 +81,7 @@ module _ {K V A F C D Q B : Type 0} (S : Service K V A F C D Q B) (law : IsServi
       where
         itself : (m : ℕ) → nat_eq m m ≡ true
         itself m = eq-eqb m m refl
+
         go : (b : Bool) → (w.spot k).applied n ≡ b → (w.spot k).applied n ≡ true
         go true e = e
         go false e =
@@ -109,11 +109,11 @@ module _ {K V A F C D Q B : Type 0} (S : Service K V A F C D Q B) (law : IsServi
         record {
           known = λ u. cc;
           all_applied = λ _ q t.
-            let a = action_in n q t in
-            let here' = (facts.applied n (S.core.key_of a.0) (all_found (λ x. Had (applies S n (S.core.key_of x)) es) (λ x. S.core.same (S.core.key_of x) q) (begun_actions (effects es) n) a.0 h.1 a.1)).1 in
-            let l = (world S.core (effects es)).ledger in
-            let t' : touches S.core l n (S.core.key_of a.0) ≡ true = ap (λ o. is_some o) (action_alike S.core law.core l n (S.core.key_of a.0) q a.2) ∙ t in
-            subst (λ (s : Spot V). s.applied n ≡ true) ((good S.core law.core (effects es) run).alike (S.core.key_of a.0) q a.2) (here' t');
+              let a = action_in n q t in
+              let here' = (facts.applied n (S.core.key_of a.0) (all_found (λ x. Had (applies S n (S.core.key_of x)) es) (λ x. S.core.same (S.core.key_of x) q) (begun_actions (effects es) n) a.0 h.1 a.1)).1 in
+              let l = (world S.core (effects es)).ledger in
+              let t' : touches S.core l n (S.core.key_of a.0) ≡ true = ap (λ o. is_some o) (action_alike S.core law.core l n (S.core.key_of a.0) q a.2) ∙ t in
+              subst (λ (s : Spot V). s.applied n ≡ true) ((good S.core law.core (effects es) run).alike (S.core.key_of a.0) q a.2) (here' t');
         }
     may_finish n (inr h) =
         let f = facts.cancelled n h.0 in
@@ -133,8 +133,8 @@ module _ {K V A F C D Q B : Type 0} (S : Service K V A F C D Q B) (law : IsServi
         let w = world S.core (effects es) in
         subst (λ x. May S.core w (effect_of {Q = Q} moment (Message.Prepare n stamp action) x)) (sym is)
         (may_prepare S law w n stamp action (facts.begun n allowed.0) (allowed.1 ∙ sym (stamp_read S.core (effects es) run n))
-          (ap (λ x. on_item S.core x (S.core.key_of action)) (actions_read S.core (effects es) run n) ∙ allowed.2)
-          (S.core.there w.catalog (S.core.key_of action)) (holder (w.spot (S.core.key_of action)).pend) (S.core.act w.catalog action (w.spot (S.core.key_of action)).row) refl refl refl)
+        (ap (λ x. on_item S.core x (S.core.key_of action)) (actions_read S.core (effects es) run n) ∙ allowed.2)
+        (S.core.there w.catalog (S.core.key_of action)) (holder (w.spot (S.core.key_of action)).pend) (S.core.act w.catalog action (w.spot (S.core.key_of action)).row) refl refl refl)
     may_follow pass moment (Message.Apply n key) a is allowed =
         let w = world S.core (effects es) in
         subst (λ x. May S.core w (effect_of {Q = Q} moment (Message.Apply n key) x)) (sym is) (may_apply S law w n key (facts.committed n allowed))
@@ -220,9 +220,11 @@ module _ {K V A F C D Q B : Type 0} (S : Service K V A F C D Q B) (law : IsServi
         let p = and_parts (nat_eq i n) (S.core.same key k) h in
         let f = facts.committed i allowed in
         subst (λ j. ((step S.core w (where_so (is_applied a) (Applied i key))).ledger.fate j ≡ Committed) × (touches S.core (step S.core w (where_so (is_applied a) (Applied i key))).ledger j k ≡ true → ((step S.core w (where_so (is_applied a) (Applied i key))).spot k).applied j ≡ true)) (eqb-true i n p.0)
-        (subst (λ (l : Ledger A). (l.fate i ≡ Committed) × (touches S.core l i k ≡ true → ((step S.core w (where_so (is_applied a) (Applied i key))).spot k).applied i ≡ true)) (sym (same_ledger (is_applied a) i key))
-          (f, λ t. subst (λ x. ((step S.core w (where_so (is_applied x) (Applied i key))).spot k).applied i ≡ true) (sym is)
-            (apply_applies w (good S.core law.core (effects es) run) i key k f p.1 t (is_holder (holder (w.spot key).pend) i) refl)))
+        (subst (λ (l : Ledger A). (l.fate i ≡ Committed) × (touches S.core l i k ≡ true → ((step S.core w (where_so (is_applied a) (Applied i key))).spot k).applied i ≡ true)) (sym (same_ledger (is_applied a) i key)) (
+          f,
+          λ t. subst (λ x. ((step S.core w (where_so (is_applied x) (Applied i key))).spot k).applied i ≡ true) (sym is)
+              (apply_applies w (good S.core law.core (effects es) run) i key k f p.1 t (is_holder (holder (w.spot key).pend) i) refl),
+        ))
       where
         same_ledger : (b : Bool) (i : ℕ) (key : K) → (step S.core (world S.core (effects es)) (where_so b (Applied i key))).ledger ≡ (world S.core (effects es)).ledger
         same_ledger true i key = refl
@@ -238,25 +240,32 @@ module _ {K V A F C D Q B : Type 0} (S : Service K V A F C D Q B) (law : IsServi
         record {
           begun = λ n h. elim (or_cases (begins n e.message e.answer) (list_any (λ x. begins n x.message x.answer) es) h) [
             | inl k ↦ tells_begun e.moment e.message e.answer next.answer n k
-            | inr k ↦ (let b = facts.begun n k in let m = more.next in omega arith) ];
+            | inr k ↦ (let b = facts.begun n k in let m = more.next in omega arith)
+          ];
           accepted = λ n q h. elim (or_cases (accepts S n q e.message e.answer) (list_any (λ x. accepts S n q x.message x.answer) es) h) [
             | inl k ↦ tells_accepted e.moment e.message e.answer n q k
-            | inr k ↦ more.accepted q n (facts.accepted n q k) ];
+            | inr k ↦ more.accepted q n (facts.accepted n q k)
+          ];
           committed = λ n h. elim (or_cases (commits n e.message e.answer) (list_any (λ x. commits n x.message x.answer) es) h) [
             | inl k ↦ tells_committed e.moment e.message e.answer next.answer n k
-            | inr k ↦ more.committed n (facts.committed n k) ];
+            | inr k ↦ more.committed n (facts.committed n k)
+          ];
           cancelled = λ n h. elim (or_cases (cancels n e.message e.answer) (list_any (λ x. cancels n x.message x.answer) es) h) [
             | inl k ↦ tells_cancelled e.moment e.message e.answer next.answer n k
-            | inr k ↦ more.cancelled n (facts.cancelled n k) ];
+            | inr k ↦ more.cancelled n (facts.cancelled n k)
+          ];
           applied = λ n q h. elim (or_cases (applies S n q e.message e.answer) (list_any (λ x. applies S n q x.message x.answer) es) h) [
             | inl k ↦ tells_applied e.pass e.moment e.message e.answer next.answer next.allowed n q k
-            | inr k ↦ still_applied more n q (facts.applied n q k) ];
+            | inr k ↦ still_applied more n q (facts.applied n q k)
+          ];
           done = λ n h. elim (or_cases (finishes n e.message e.answer) (list_any (λ x. finishes n x.message x.answer) es) h) [
             | inl k ↦ tells_done e.moment e.message e.answer n k
-            | inr k ↦ more.done n (facts.done n k) ];
+            | inr k ↦ more.done n (facts.done n k)
+          ];
           gone = λ n h. elim (or_cases (forgets n e.message e.answer) (list_any (λ x. forgets n x.message x.answer) es) h) [
             | inl k ↦ tells_gone e.moment e.message e.answer n k
-            | inr k ↦ more.gone n (facts.gone n k) ];
+            | inr k ↦ more.gone n (facts.gone n k)
+          ];
         }
       where
         drawn : (n : ℕ) → (world S.core (effects es)).ledger.fate n ≡ Committed → n < (world S.core (effects es)).ledger.next
@@ -265,16 +274,23 @@ module _ {K V A F C D Q B : Type 0} (S : Service K V A F C D Q B) (law : IsServi
             below : (n : ℕ) → (world S.core (effects es)).ledger.fate n ≡ Committed → (n < (world S.core (effects es)).ledger.next) ⊎ ((world S.core (effects es)).ledger.next ≤ n) → n < (world S.core (effects es)).ledger.next
             below n f (inl lt) = lt
             below n f (inr ge) = let u = (good S.core law.core (effects es) run).fresh n ge in absurd (cc)
+
         still_applied : {u : World K V A C} → Grows (world S.core (effects es)) u → (n : ℕ) (q : K) → ((world S.core (effects es)).ledger.fate n ≡ Committed) × (touches S.core (world S.core (effects es)).ledger n q ≡ true → ((world S.core (effects es)).spot q).applied n ≡ true) → (u.ledger.fate n ≡ Committed) × (touches S.core u.ledger n q ≡ true → (u.spot q).applied n ≡ true)
-        still_applied more n q h =
-            (more.committed n h.0,
-            λ t. more.applied q n (h.1 (ap (λ x. is_some (on_item S.core x q)) (sym (more.actions n (drawn n h.0))) ∙ t)))
+        still_applied more n q h = (
+          more.committed n h.0,
+          λ t. more.applied q n (h.1 (ap (λ x. is_some (on_item S.core x q)) (sym (more.actions n (drawn n h.0))) ∙ t)),
+        )
 
   no_facts : Facts []
   no_facts =
       record {
-        begun = λ n h. absurd (cc); accepted = λ n k h. absurd (cc); committed = λ n h. absurd (cc); cancelled = λ n h. absurd (cc);
-        applied = λ n k h. absurd (cc); done = λ n h. absurd (cc); gone = λ n h. absurd (cc);
+        begun = λ n h. absurd (cc);
+        accepted = λ n k h. absurd (cc);
+        committed = λ n h. absurd (cc);
+        cancelled = λ n h. absurd (cc);
+        applied = λ n k h. absurd (cc);
+        done = λ n h. absurd (cc);
+        gone = λ n h. absurd (cc);
       }
 
   pub legal_facts : (es : List (Entry K V A F D Q B)) → IsLegal S es → IsRun S.core (effects es) × Facts es

@@ -1,11 +1,11 @@
 -- What each effect on an item keeps of that item, and of the others of its cell.
-use Rattle.std.proofs.Common.{◌≡◌, ◌≢◌, ℕ, ◌<◌, ◌≤◌, Bool, true, false, Option, None, Some, is_some, if◌then◌else◌, refl, sym, ap, ◌∙◌, subst, arith}
+use Rattle.std.proofs.Common.{◌≡◌, ◌≢◌, ℕ, ◌<◌, Bool, true, false, Option, None, Some, is_some, if◌then◌else◌, refl, sym, ap, ◌∙◌, subst, arith}
 use Rattle.txn_core.specs.declared.stamp.Stamp.{Stamp}
 use Rattle.txn_core.specs.declared.fate.Fate.TheVariants.{Undecided, Committed}
 use Rattle.txn_core.specs.Stamps.{earlier, later, IsBy, single}
 use Rattle.txn_core.specs.Protocol.{New, after, IsNew, Protocol, IsLawful}
 use Rattle.txn_core.specs.World.{Pending, Spot, Cell, Ledger, holder, last, action_on, touches, at, hold, image_or, stamp_or, cell_after, spot_wrote, spot_prepared, spot_applied, spot_released}
-use Rattle.txn_core.proofs.Basics.{none_some, some_is, true_false, at_split, held, holder_is, is_some_of, new_is}
+use Rattle.txn_core.proofs.Basics.{none_some, some_is, true_false, at_split, holder_is, is_some_of, new_is}
 use Rattle.txn_core.proofs.StampLaws.{by_itself, by_earlier, by_left, by_right, by_before}
 use Rattle.txn_core.proofs.Invariant.{GoodSpot}
 
@@ -31,21 +31,42 @@ module _ {K V A F C D : Type 0} (P : Protocol K V A F C D) (law : IsLawful P) (l
   pub kept_floor : (d : Cell) → ((t : Stamp) → IsBy t c.floor → IsBy t d.floor) → GoodSpot P l cat c q s → GoodSpot P l cat d q s
   kept_floor d up g =
       record {
-        drawn = g.drawn; stamped = g.stamped; named = g.named; image = g.image; alive = g.alive; once = g.once; above = g.above;
-        open_ = g.open_; veiled = g.veiled; free = g.free; waits = g.waits; settled = g.settled; ready = g.ready; finished = g.finished;
+        drawn = g.drawn;
+        stamped = g.stamped;
+        named = g.named;
+        image = g.image;
+        alive = g.alive;
+        once = g.once;
+        above = g.above;
+        open_ = g.open_;
+        veiled = g.veiled;
+        free = g.free;
+        waits = g.waits;
+        settled = g.settled;
+        ready = g.ready;
+        finished = g.finished;
         late = λ n t h. last_rises c d s (l.stamp n) (up (l.stamp n)) (g.late n t h);
-        unborn = g.unborn; absent = g.absent;
+        unborn = g.unborn;
+        absent = g.absent;
       }
 
   pub kept_wrote : (a : A) (moment : ℕ) → P.there cat q ≡ true → s.pend ≡ None → GoodSpot P l cat c q s → GoodSpot P l cat (cell_after c s (after (P.act cat a s.row) s.row) (single moment)) q (spot_wrote P cat c a moment s)
   kept_wrote a moment is_there unheld g =
       record {
-        drawn = g.drawn; stamped = g.stamped; named = g.named; alive = g.alive; once = g.once; above = g.above;
+        drawn = g.drawn;
+        stamped = g.stamped;
+        named = g.named;
+        alive = g.alive;
+        once = g.once;
+        above = g.above;
         image = λ p b e h. none_some s.pend p unheld e;
         open_ = λ p e h. none_some s.pend p unheld e;
         veiled = λ p e h. none_some s.pend p unheld e;
         free = λ e. ap (λ v. after (P.act cat a v) v) (g.free e);
-        waits = g.waits; settled = g.settled; ready = g.ready; finished = g.finished;
+        waits = g.waits;
+        settled = g.settled;
+        ready = g.ready;
+        finished = g.finished;
         late = λ n t h.
             let b = g.late n t h in
             last_after c s (after (P.act cat a s.row) s.row) (single moment) (later (last c s) (single moment)) (l.stamp n)
@@ -79,19 +100,24 @@ module _ {K V A F C D : Type 0} (P : Protocol K V A F C D) (law : IsLawful P) (l
             at_split s.accepted n true m (λ b. b ≡ true → holder (hold s.pend pending) ≡ Some m)
             (λ e k. holder_is (hold s.pend pending) pending is_held ∙ ap Some e)
             (λ e k. nobody m (g.ready m f k)) h;
-        finished = g.finished; late = g.late;
+        finished = g.finished;
+        late = g.late;
         unborn = λ h. let k = law.known cat q is_there in absurd (omega arith);
         absent = g.absent;
       }
     where
       pending : Pending V
       pending = record { number = n; stamp = stamp; image = after (P.act cat a s.row) s.row }
+
       is_held : hold s.pend (record { number = n; stamp = stamp; image = after (P.act cat a s.row) s.row }) ≡ Some (record { number = n; stamp = stamp; image = after (P.act cat a s.row) s.row })
       is_held = ap (λ o. hold o (record { number = n; stamp = stamp; image = after (P.act cat a s.row) s.row })) unheld
+
       is_pending : (p : Pending V) → hold s.pend (record { number = n; stamp = stamp; image = after (P.act cat a s.row) s.row }) ≡ Some p → record { number = n; stamp = stamp; image = after (P.act cat a s.row) s.row } ≡ p
       is_pending p e = some_is (record { number = n; stamp = stamp; image = after (P.act cat a s.row) s.row }) p (sym is_held ∙ e)
+
       nobody : {Q : Type 0} (m : ℕ) → holder s.pend ≡ Some m → Q
       nobody m e = none_some (holder s.pend) m (ap (λ o. holder o) unheld) e
+
       never : (b : Bool) → s.applied n ≡ b → s.applied n ≡ false
       never false e = e
       never true e =
@@ -102,21 +128,41 @@ module _ {K V A F C D : Type 0} (P : Protocol K V A F C D) (law : IsLawful P) (l
   pub kept_again : (n : ℕ) (stamp : Stamp) (a : A) (p : Pending V) → s.pend ≡ Some p → p.number ≡ n → GoodSpot P l cat c q s → GoodSpot P l cat c q (record s { accepted = at s.accepted n true })
   kept_again n stamp a p is_held its g =
       record {
-        drawn = g.drawn; stamped = g.stamped; named = g.named; image = g.image; alive = g.alive; once = g.once; above = g.above;
-        open_ = g.open_; veiled = g.veiled; free = g.free; waits = g.waits; settled = g.settled;
+        drawn = g.drawn;
+        stamped = g.stamped;
+        named = g.named;
+        image = g.image;
+        alive = g.alive;
+        once = g.once;
+        above = g.above;
+        open_ = g.open_;
+        veiled = g.veiled;
+        free = g.free;
+        waits = g.waits;
+        settled = g.settled;
         ready = λ m f h.
             at_split s.accepted n true m (λ b. b ≡ true → holder s.pend ≡ Some m)
             (λ e k. holder_is s.pend p is_held ∙ ap Some (its ∙ e))
             (λ e k. g.ready m f k) h;
-        finished = g.finished; late = g.late; unborn = g.unborn; absent = g.absent;
+        finished = g.finished;
+        late = g.late;
+        unborn = g.unborn;
+        absent = g.absent;
       }
 
   -- the transaction that holds the item is applied on it
   pub kept_applied : (n : ℕ) (p : Pending V) → s.pend ≡ Some p → p.number ≡ n → l.fate n ≡ Committed → GoodSpot P l cat c q s → GoodSpot P l cat (cell_after c s (image_or s.row s.pend) (stamp_or s.stamp s.pend)) q (spot_applied c n s)
   kept_applied n p is_held its committed g =
       record {
-        drawn = λ o e. gone o e; stamped = λ o e. gone o e; named = λ o e. gone o e; image = λ o b e h. gone o e; alive = λ o e. gone o e;
-        once = λ o e. gone o e; above = λ o m e h. gone o e; open_ = λ o e h. gone o e; veiled = λ o e h. gone o e;
+        drawn = λ o e. gone o e;
+        stamped = λ o e. gone o e;
+        named = λ o e. gone o e;
+        image = λ o b e h. gone o e;
+        alive = λ o e. gone o e;
+        once = λ o e. gone o e;
+        above = λ o m e h. gone o e;
+        open_ = λ o e h. gone o e;
+        veiled = λ o e h. gone o e;
         free = λ e. ap (λ o. image_or s.row o) is_held ∙ sym (g.veiled p is_held its_fate).0;
         waits = λ m f t h.
             at_split s.applied n true m (λ b. b ≡ false → holder {V = V} None ≡ Some m)
@@ -127,9 +173,9 @@ module _ {K V A F C D : Type 0} (P : Protocol K V A F C D) (law : IsLawful P) (l
         finished = λ m d f t. at_split s.applied n true m (λ b. b ≡ true) (λ e. refl) (λ e. g.finished m d f t);
         late = λ m t h.
             let before : IsBy (l.stamp m) (stamp_or s.stamp s.pend) =
-              at_split s.applied n true m (λ b. b ≡ true → IsBy (l.stamp m) (stamp_or s.stamp s.pend))
-              (λ e k. subst (λ x. IsBy (l.stamp m) x) (sym own) (subst (λ x. IsBy (l.stamp m) x) (sym (g.stamped p is_held ∙ ap l.stamp (its ∙ e))) (by_itself (l.stamp m))))
-              (λ e k. subst (λ x. IsBy (l.stamp m) x) (sym own) (by_earlier (l.stamp m) p.stamp (g.above p m is_held k))) h in
+            at_split s.applied n true m (λ b. b ≡ true → IsBy (l.stamp m) (stamp_or s.stamp s.pend))
+            (λ e k. subst (λ x. IsBy (l.stamp m) x) (sym own) (subst (λ x. IsBy (l.stamp m) x) (sym (g.stamped p is_held ∙ ap l.stamp (its ∙ e))) (by_itself (l.stamp m))))
+            (λ e k. subst (λ x. IsBy (l.stamp m) x) (sym own) (by_earlier (l.stamp m) p.stamp (g.above p m is_held k))) h in
             last_after c s (image_or s.row s.pend) (stamp_or s.stamp s.pend) (stamp_or s.stamp s.pend) (l.stamp m) before
             (by_right (l.stamp m) (later c.floor (last c s)) (stamp_or s.stamp s.pend) before);
         unborn = λ h. none_some s.pend p (g.unborn h).0 is_held;
@@ -138,10 +184,13 @@ module _ {K V A F C D : Type 0} (P : Protocol K V A F C D) (law : IsLawful P) (l
     where
       gone : {Q : Type 0} (o : Pending V) → None ≡ Some o → Q
       gone o e = none_some None o refl e
+
       its_fate : l.fate p.number ≡ Committed
       its_fate = subst (λ x. l.fate x ≡ Committed) (sym its) committed
+
       own : stamp_or s.stamp s.pend ≡ p.stamp
       own = ap (λ o. stamp_or s.stamp o) is_held
+
       holds : (m : ℕ) → holder s.pend ≡ Some m → n ≡ m
       holds m e = sym its ∙ some_is p.number m (sym (holder_is s.pend p is_held) ∙ e)
 
@@ -149,18 +198,27 @@ module _ {K V A F C D : Type 0} (P : Protocol K V A F C D) (law : IsLawful P) (l
   pub kept_released : (n : ℕ) (p : Pending V) → s.pend ≡ Some p → p.number ≡ n → l.fate n ≢ Committed → l.fate n ≢ Undecided → GoodSpot P l cat c q s → GoodSpot P l cat c q (spot_released s)
   kept_released n p is_held its uncommitted known g =
       record {
-        drawn = λ o e. gone o e; stamped = λ o e. gone o e; named = λ o e. gone o e; image = λ o b e h. gone o e; alive = λ o e. gone o e;
-        once = λ o e. gone o e; above = λ o m e h. gone o e; open_ = λ o e h. gone o e; veiled = λ o e h. gone o e;
+        drawn = λ o e. gone o e;
+        stamped = λ o e. gone o e;
+        named = λ o e. gone o e;
+        image = λ o b e h. gone o e;
+        alive = λ o e. gone o e;
+        once = λ o e. gone o e;
+        above = λ o m e h. gone o e;
+        open_ = λ o e h. gone o e;
+        veiled = λ o e h. gone o e;
         free = λ e. g.open_ p is_held (λ h. uncommitted (subst (λ x. l.fate x ≡ Committed) its h));
         waits = λ m f t h. let e = holds m (g.waits m f t h) in absurd (uncommitted (subst (λ x. l.fate x ≡ Committed) (sym e) f));
         settled = g.settled;
         ready = λ m f h. let e = holds m (g.ready m f h) in absurd (known (subst (λ x. l.fate x ≡ Undecided) (sym e) f));
-        finished = g.finished; late = g.late;
+        finished = g.finished;
+        late = g.late;
         unborn = λ h. (refl, (g.unborn h).1);
         absent = g.absent;
       }
     where
       gone : {Q : Type 0} (o : Pending V) → None ≡ Some o → Q
       gone o e = none_some None o refl e
+
       holds : (m : ℕ) → holder s.pend ≡ Some m → n ≡ m
       holds m e = sym its ∙ some_is p.number m (sym (holder_is s.pend p is_held) ∙ e)

@@ -1,15 +1,14 @@
 -- The point of the history at which an item is shown never goes back.
-use Rattle.std.proofs.Common.{◌≡◌, ◌⊎◌, inl, inr, ℕ, suc, ◌+◌, ◌<◌, ◌≤◌, Bool, true, false, not, ◌&&◌, ◌||◌, nat_eq, List, [], ◌∷◌, ◌++◌, length, Option, None, Some, is_some, if◌then◌else◌, refl, sym, ap, ◌∙◌, subst, arith}
+use Rattle.std.proofs.Common.{◌≡◌, ◌⊎◌, inl, inr, ℕ, ◌≤◌, true, false, not, ◌&&◌, ◌||◌, nat_eq, List, [], ◌∷◌, ◌++◌, length, Option, None, Some, is_some, refl, sym, ap, ◌∙◌, arith}
 use Rattle.std.proofs.lemmas.Bool.{eqb-true, cond_both, or_parts, and_parts, not-true}
-use Rattle.txn_core.specs.declared.fate.Fate.TheVariants.{Committed}
 use Rattle.txn_core.specs.Protocol.{Protocol, IsLawful}
 use Rattle.txn_core.specs.Effects.{Effect, Wrote, Begun, Prepared, Commits, Cancels, Applied, Released, Finished, Forgot, Changed, Quiet}
-use Rattle.txn_core.specs.World.{Pending, on_item, touches, holder, world}
+use Rattle.txn_core.specs.World.{on_item, holder, world}
 use Rattle.txn_core.specs.Runs.{IsRun}
 use Rattle.txn_core.specs.Serial.{begun_actions, committed_numbers, is_committed, is_applied, waits_on, waiting, place, point_by, point}
 use Rattle.txn_core.specs.declared.entry.Entry.{Entry}
 use Rattle.txn_core.specs.History.{effect, effects}
-use Rattle.txn_core.proofs.Basics.{some_is, true_false}
+use Rattle.txn_core.proofs.Basics.{true_false}
 use Rattle.txn_core.proofs.Ends.{find_passes}
 use Rattle.txn_core.proofs.Kept.{good}
 use Rattle.txn_core.proofs.Readings.{actions_read, applied_read}
@@ -69,12 +68,15 @@ module _ {K V A F C D : Type 0} (P : Protocol K V A F C D) (law : IsLawful P) wh
       (λ e. inl refl)
       (λ e. inr (record { committed = sym (ap (λ b. b || is_committed es n) e) ∙ w.committed; acts = w.acts; unapplied = w.unapplied }, refl))
   waited (Begun stamp actions) es run q n w =
-      inr (record {
-        committed = w.committed;
-        acts = cond_both (nat_eq stamp.number n) actions (begun_actions es n) (λ x. is_some (on_item P x q) ≡ true → is_some (on_item P (begun_actions es n) q) ≡ true)
-          (λ e h. absurd (committed_before P law es run.0 n w.committed (sym run.1 ∙ eqb-true stamp.number n e))) (λ e h. h) w.acts;
-        unapplied = w.unapplied;
-      }, refl)
+      inr (
+        record {
+          committed = w.committed;
+          acts = cond_both (nat_eq stamp.number n) actions (begun_actions es n) (λ x. is_some (on_item P x q) ≡ true → is_some (on_item P (begun_actions es n) q) ≡ true)
+              (λ e h. absurd (committed_before P law es run.0 n w.committed (sym run.1 ∙ eqb-true stamp.number n e))) (λ e h. h) w.acts;
+          unapplied = w.unapplied;
+        },
+        refl,
+      )
   waited (Applied m k) es run q n w =
       inr (record { committed = w.committed; acts = w.acts; unapplied = (or_parts (P.same k q && nat_eq m n) (is_applied P es q n) w.unapplied).1 }, refl)
   waited (Wrote a moment) es run q n w = inr (record { committed = w.committed; acts = w.acts; unapplied = w.unapplied }, refl)
@@ -89,6 +91,7 @@ module _ {K V A F C D : Type 0} (P : Protocol K V A F C D) (law : IsLawful P) wh
       back n (inr h) =
           let same : point P es q ≡ place es n = ap (λ o. point_by es o) (found es run.0 q n h.0) in
           let k = h.1 in omega arith
+
       go : (o : Option ℕ) → waiting P (e ∷ es) q ≡ o → point P es q ≤ point_by (e ∷ es) o
       go None h = let k = point_within es (waiting P es q) in omega arith
       go (Some n) h = back n (waited e es run q n (waits_now (e ∷ es) q n h))

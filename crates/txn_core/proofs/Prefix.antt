@@ -1,22 +1,20 @@
 -- What a beginning of a history allows, the whole of it allows.
-use Rattle.std.proofs.Common.{◌≡◌, ◌≢◌, ◌⊎◌, inl, inr, ℕ, suc, ◌+◌, ◌<◌, ◌≤◌, Bool, true, false, ◌||◌, List, [], ◌∷◌, ◌++◌, length, Option, None, Some, refl, sym, ap, ◌∙◌, subst, arith}
+use Rattle.std.proofs.Common.{◌≡◌, ◌⊎◌, inl, inr, ℕ, suc, Bool, true, false, List, [], ◌∷◌, ◌++◌, sym, ap, ◌∙◌, subst, arith}
 use Rattle.std.specs.Prelude.{All, Any, slice_index_or}
 use Rattle.std.specs.List.{list_any}
 use Rattle.std.proofs.lemmas.Bool.{or_right}
-use Rattle.txn_core.specs.declared.stamp.Stamp.{Stamp}
 use Rattle.txn_core.specs.declared.reason.Reason.{Reason}
 use Rattle.txn_core.specs.declared.message.Message.{Message}
 use Rattle.txn_core.specs.declared.answer.Answer.{Answer}
 use Rattle.txn_core.specs.declared.entry.Entry.{Entry}
 use Rattle.txn_core.specs.Service.{Service, IsServiceLawful}
 use Rattle.txn_core.specs.World.{on_item, world}
-use Rattle.txn_core.specs.Runs.{IsRun}
 use Rattle.txn_core.specs.Serial.{begun_stamp, begun_actions}
 use Rattle.txn_core.specs.History.{effect, effects, Had, begins, commits, cancels, finishes, forgets, finds_no_table, is_own_begin}
-use Rattle.txn_core.specs.Legal.{IsAnswer, accepts, applies, releases, WasTold, AreTold, HasCause, HasGround, Allowed, Follows, IsLegal}
+use Rattle.txn_core.specs.Legal.{accepts, applies, releases, AreTold, HasCause, HasGround, Allowed, IsLegal}
 use Rattle.txn_core.proofs.Readings.{actions_read, stamp_read}
-use Rattle.txn_core.proofs.Grows.{Grows, grows}
-use Rattle.txn_core.proofs.LegalRuns.{Facts, legal_facts, legal_run}
+use Rattle.txn_core.proofs.Grows.{grows}
+use Rattle.txn_core.proofs.LegalRuns.{legal_facts, legal_run}
 
 -- what was had is had later
 had_more : {K V A F D Q B : Type 0} (test : Message K V A F D Q → Answer V A F B → Bool) (e : Entry K V A F D Q B) (es : List (Entry K V A F D Q B)) → Had test es → Had test (e ∷ es)
@@ -57,9 +55,11 @@ module _ {K V A F C D Q B : Type 0} (S : Service K V A F C D Q B) (law : IsServi
       subst (λ xs. HasCause S (e ∷ es) n xs reasons) (same_actions n begun) (cause_more n (begun_actions (effects es) n) reasons h)
 
   pub allowed_more : (pass : ℕ) (m : Message K V A F D Q) → Allowed S es pass m → Allowed S (e ∷ es) pass m
-  allowed_more pass (Message.Prepare n stamp action) h =
-      (had_more (begins n) e es h.0, h.1 ∙ same_stamp n h.0,
-      ap (λ xs. on_item S.core xs (S.core.key_of action)) (sym (same_actions n h.0)) ∙ h.2)
+  allowed_more pass (Message.Prepare n stamp action) h = (
+    had_more (begins n) e es h.0,
+    h.1 ∙ same_stamp n h.0,
+    ap (λ xs. on_item S.core xs (S.core.key_of action)) (sym (same_actions n h.0)) ∙ h.2,
+  )
   allowed_more pass (Message.Decide n commit reasons) h = (had_more (begins n) e es h.0, ground_more n commit reasons h.0 h.1)
   allowed_more pass (Message.Apply n key) h = had_more (commits n) e es h
   allowed_more pass (Message.Release n key) (inl h) = inl (had_more (cancels n) e es h)
@@ -68,13 +68,17 @@ module _ {K V A F C D Q B : Type 0} (S : Service K V A F C D Q B) (law : IsServi
     where
       finish : ((Had (commits n) es × All (λ x. Had (applies S n (S.core.key_of x)) es) (begun_actions (effects es) n)) ⊎ (Had (cancels n) es × All (λ x. Had (releases S n (S.core.key_of x)) es) (begun_actions (effects es) n))) → ((Had (commits n) (e ∷ es) × All (λ x. Had (applies S n (S.core.key_of x)) (e ∷ es)) (begun_actions (effects (e ∷ es)) n)) ⊎ (Had (cancels n) (e ∷ es) × All (λ x. Had (releases S n (S.core.key_of x)) (e ∷ es)) (begun_actions (effects (e ∷ es)) n)))
       finish (inl (c, each)) =
-          inl (had_more (commits n) e es c,
-          subst (λ xs. All (λ x. Had (applies S n (S.core.key_of x)) (e ∷ es)) xs) (same_actions n h.0)
-          (λ k d lt. had_more (applies S n (S.core.key_of (slice_index_or (begun_actions (effects es) n) k d))) e es (each k d lt)))
+          inl (
+            had_more (commits n) e es c,
+            subst (λ xs. All (λ x. Had (applies S n (S.core.key_of x)) (e ∷ es)) xs) (same_actions n h.0)
+                (λ k d lt. had_more (applies S n (S.core.key_of (slice_index_or (begun_actions (effects es) n) k d))) e es (each k d lt)),
+          )
       finish (inr (c, each)) =
-          inr (had_more (cancels n) e es c,
-          subst (λ xs. All (λ x. Had (releases S n (S.core.key_of x)) (e ∷ es)) xs) (same_actions n h.0)
-          (λ k d lt. had_more (releases S n (S.core.key_of (slice_index_or (begun_actions (effects es) n) k d))) e es (each k d lt)))
+          inr (
+            had_more (cancels n) e es c,
+            subst (λ xs. All (λ x. Had (releases S n (S.core.key_of x)) (e ∷ es)) xs) (same_actions n h.0)
+                (λ k d lt. had_more (releases S n (S.core.key_of (slice_index_or (begun_actions (effects es) n) k d))) e es (each k d lt)),
+          )
   allowed_more pass (Message.Forget n) h = (had_more (finishes n) e es h.0, or_right (is_own_begin pass n e) (list_any (is_own_begin pass n) es) h.1)
   allowed_more pass (Message.Begin token actions) h = h
   allowed_more pass (Message.Get key) h = h

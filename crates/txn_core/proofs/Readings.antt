@@ -1,16 +1,13 @@
 -- What the state holds, read off the list of effects.
-use Rattle.std.proofs.Common.{◌≡◌, ◌≢◌, ℕ, suc, ◌+◌, ◌<◌, ◌≤◌, Bool, true, false, ◌&&◌, ◌||◌, cond, nat_eq, List, [], ◌∷◌, Option, None, Some, is_some, if◌then◌else◌, refl, sym, ap, ◌∙◌, subst, arith}
+use Rattle.std.proofs.Common.{◌≡◌, ℕ, ◌+◌, Bool, true, false, ◌&&◌, ◌||◌, nat_eq, List, [], ◌∷◌, if◌then◌else◌, refl, sym, ap, ◌∙◌}
 use Rattle.std.proofs.lemmas.Bool.{eqb-true, cond_both}
-use Rattle.txn_core.specs.declared.stamp.Stamp.{Stamp}
 use Rattle.txn_core.specs.declared.fate.Fate.{Fate}
 use Rattle.txn_core.specs.declared.fate.Fate.TheVariants.{Undecided, Committed, Cancelled, Gone}
-use Rattle.txn_core.specs.Stamps.{single}
 use Rattle.txn_core.specs.Protocol.{after, Protocol}
-use Rattle.txn_core.specs.Effects.{Effect, Wrote, Begun, Prepared, Commits, Cancels, Applied, Released, Finished, Forgot, Changed, Quiet}
-use Rattle.txn_core.specs.World.{Spot, World, on_item, after_action, at, kept_or, spot_wrote, spot_prepared, spot_applied, spot_released, here, world}
+use Rattle.txn_core.specs.Effects.{Effect, Wrote, Begun, Prepared, Commits, Cancels, Applied, Released, Changed}
+use Rattle.txn_core.specs.World.{Spot, on_item, after_action, at, kept_or, spot_wrote, spot_applied, here, world}
 use Rattle.txn_core.specs.Runs.{IsRun}
 use Rattle.txn_core.specs.Serial.{begun_stamp, begun_actions, is_committed, decisions, serial, catalog_of, tables, is_applied, before}
-use Rattle.txn_core.proofs.Basics.{true_false}
 
 -- a field that is the same in both cases
 in_both : {X Y : Type 0} (f : X → Y) (b : Bool) (x y : X) (z : Y) → f x ≡ z → f y ≡ z → f (if b then x else y) ≡ z
@@ -74,12 +71,12 @@ module _ {K V A F C D : Type 0} (P : Protocol K V A F C D) where
   decisions_read (Commits m ∷ es) run n =
       cond_both (nat_eq m n) (decisions es n + 1) (decisions es n) (λ x. x ≡ decided_count (at (world P es).ledger.fate m Committed n))
       (λ e. let before : decisions es n ≡ 0 = decisions_read es run.0 n ∙ ap (λ k. decided_count ((world P es).ledger.fate k)) (sym (eqb-true m n e)) ∙ ap decided_count run.1.first in
-        ap (λ k. k + 1) before ∙ sym (ap (λ b. decided_count (if b then Committed else (world P es).ledger.fate n)) e))
+      ap (λ k. k + 1) before ∙ sym (ap (λ b. decided_count (if b then Committed else (world P es).ledger.fate n)) e))
       (λ e. decisions_read es run.0 n ∙ sym (ap (λ b. decided_count (if b then Committed else (world P es).ledger.fate n)) e))
   decisions_read (Cancels m ∷ es) run n =
       cond_both (nat_eq m n) (decisions es n + 1) (decisions es n) (λ x. x ≡ decided_count (at (world P es).ledger.fate m Cancelled n))
       (λ e. let before : decisions es n ≡ 0 = decisions_read es run.0 n ∙ ap (λ k. decided_count ((world P es).ledger.fate k)) (sym (eqb-true m n e)) ∙ ap decided_count run.1.1 in
-        ap (λ k. k + 1) before ∙ sym (ap (λ b. decided_count (if b then Cancelled else (world P es).ledger.fate n)) e))
+      ap (λ k. k + 1) before ∙ sym (ap (λ b. decided_count (if b then Cancelled else (world P es).ledger.fate n)) e))
       (λ e. decisions_read es run.0 n ∙ sym (ap (λ b. decided_count (if b then Cancelled else (world P es).ledger.fate n)) e))
   decisions_read (_ ∷ es) run n = decisions_read es run.0 n
 

@@ -1,5 +1,5 @@
 -- The definitions on worked histories, for 16 partitions after one Create, with a transaction on the items 1 and 2.
-use Rattle.std.proofs.Common.{◌≡◌, ◌≢◌, ℕ, zero, suc, ◌<◌, ◌≤◌, Bool, true, false, nat_eq, arith, List, [], ◌∷◌, Option, None, Some, inl, inr, refl, sym, lit<, lit≤}
+use Rattle.std.proofs.Common.{◌≡◌, ◌≢◌, ℕ, zero, suc, ◌<◌, true, false, nat_eq, arith, [], ◌∷◌, None, Some, inl, inr, refl, sym, lit<, lit≤}
 use Rattle.std.specs.Prelude.{All, Any, AllPairs, slice_index_or}
 use Rattle.std.specs.List.{list_any}
 use Rattle.txn_core.specs.declared.stamp.Stamp.{Stamp}
@@ -8,7 +8,7 @@ use Rattle.txn_core.specs.declared.reason.Reason.{Reason}
 use Rattle.txn_core.specs.declared.message.Message.{Message}
 use Rattle.txn_core.specs.declared.answer.Answer.{Answer}
 use Rattle.txn_core.specs.declared.entry.Entry.{Entry}
-use Rattle.txn_core.specs.Serial.{Whole, serial, tables, shown}
+use Rattle.txn_core.specs.Serial.{Whole, serial, shown}
 use Rattle.txn_core.specs.History.{effects}
 use Rattle.txn_core.specs.Legal.{accepts, IsLegal}
 use Rattle.txn_core.specs.Simple.{service}
@@ -72,14 +72,15 @@ create_legal : IsLegal (service 16) (create ∷ [])
 create_legal = (tt, record { answer = inr (refl, λ q e. absurd (cc)); allowed = tt; cell = refl; timely = tt })
 
 begun_legal : IsLegal (service 16) (begin ∷ create ∷ [])
-begun_legal =
-    (create_legal,
-    record {
-      answer = refl;
-      allowed = (lit≤ tt, lit≤ tt, apart);
-      cell = refl;
-      timely = ((λ e. lit≤ tt), tt);
-    })
+begun_legal = (
+  create_legal,
+  record {
+    answer = refl;
+    allowed = (lit≤ tt, lit≤ tt, apart);
+    cell = refl;
+    timely = ((λ e. lit≤ tt), tt);
+  },
+)
   where
     apart : AllPairs {X = ℕ × ℕ} (λ x y. nat_eq x.0 y.0 ≡ false) ((1, 8) ∷ (2, 9) ∷ [])
     apart i j d lt le = go i j lt le
@@ -91,9 +92,10 @@ begun_legal =
         go (suc i) j lt le = absurd (omega arith)
 
 prepared_legal : IsLegal (service 16) (prepare_2 ∷ prepare_1 ∷ begin ∷ create ∷ [])
-prepared_legal =
-    ((begun_legal, record { answer = refl; allowed = (refl, refl, refl); cell = refl; timely = ((λ e. lit≤ tt), ((λ e. lit≤ tt), tt)) }),
-    record { answer = refl; allowed = (refl, refl, refl); cell = refl; timely = ((λ e. lit≤ tt), ((λ e. lit≤ tt), ((λ e. lit≤ tt), tt))) })
+prepared_legal = (
+  (begun_legal, record { answer = refl; allowed = (refl, refl, refl); cell = refl; timely = ((λ e. lit≤ tt), ((λ e. lit≤ tt), tt)) }),
+  record { answer = refl; allowed = (refl, refl, refl); cell = refl; timely = ((λ e. lit≤ tt), ((λ e. lit≤ tt), ((λ e. lit≤ tt), tt))) },
+)
 
 -- both of two hold
 both : (Q : (ℕ × ℕ) → Type 0) (x y : ℕ × ℕ) → Q x → Q y → All Q (x ∷ y ∷ [])
@@ -103,14 +105,15 @@ both Q x y a b (suc (suc k)) d lt = absurd (omega arith)
 
 -- the whole way of a transaction, from its Begin to its Done
 committed_legal : IsLegal (service 16) (commit ∷ prepare_2 ∷ prepare_1 ∷ begin ∷ create ∷ [])
-committed_legal =
-    (prepared_legal,
-    record {
-      answer = refl;
-      allowed = (refl, both (λ x. list_any (λ e. accepts (service 16) 1 x.0 e.message e.answer) (prepare_2 ∷ prepare_1 ∷ begin ∷ create ∷ []) ≡ true) (1, 8) (2, 9) refl refl);
-      cell = refl;
-      timely = ((λ e. lit≤ tt), ((λ e. lit≤ tt), ((λ e. lit≤ tt), ((λ e. lit≤ tt), tt))));
-    })
+committed_legal = (
+  prepared_legal,
+  record {
+    answer = refl;
+    allowed = (refl, both (λ x. list_any (λ e. accepts (service 16) 1 x.0 e.message e.answer) (prepare_2 ∷ prepare_1 ∷ begin ∷ create ∷ []) ≡ true) (1, 8) (2, 9) refl refl);
+    cell = refl;
+    timely = ((λ e. lit≤ tt), ((λ e. lit≤ tt), ((λ e. lit≤ tt), ((λ e. lit≤ tt), tt))));
+  },
+)
 
 -- the commit makes both items at once, and readers are shown them one by one as they are applied
 committed_order : serial (effects (commit ∷ prepare_2 ∷ prepare_1 ∷ begin ∷ create ∷ [])) ≡ Whole 1 stamp ((1, 8) ∷ (2, 9) ∷ []) ∷ serial (effects (create ∷ []))
@@ -139,16 +142,21 @@ one_alone : AllPairs {X = ℕ × ℕ} (λ x y. nat_eq x.0 y.0 ≡ false) ((2, 4)
 one_alone i j d lt le = absurd (omega arith)
 
 race_legal : IsLegal (service 16) (cancel_2 ∷ held_2 ∷ begin_2 ∷ prepare_2 ∷ prepare_1 ∷ begin ∷ create ∷ [])
-race_legal =
-    (((prepared_legal,
-    record { answer = refl; allowed = (lit≤ tt, lit≤ tt, one_alone); cell = refl; timely = ((λ e. absurd (cc)), ((λ e. absurd (cc)), ((λ e. absurd (cc)), ((λ e. absurd (cc)), tt)))) }),
-    record { answer = refl; allowed = (refl, refl, refl); cell = refl; timely = ((λ e. lit≤ tt), ((λ e. absurd (cc)), ((λ e. absurd (cc)), ((λ e. absurd (cc)), ((λ e. absurd (cc)), tt))))) }),
-    record {
-      answer = refl;
-      allowed = (refl, inl (((0, held_2, lit< tt, refl, (refl, refl)), tt), (0, Reason.Held 1, lit< tt, refl, (λ e. cc))));
-      cell = refl;
-      timely = ((λ e. lit≤ tt), ((λ e. lit≤ tt), ((λ e. absurd (cc)), ((λ e. absurd (cc)), ((λ e. absurd (cc)), ((λ e. absurd (cc)), tt))))));
-    })
+race_legal = (
+  (
+    (
+      prepared_legal,
+      record { answer = refl; allowed = (lit≤ tt, lit≤ tt, one_alone); cell = refl; timely = ((λ e. absurd (cc)), ((λ e. absurd (cc)), ((λ e. absurd (cc)), ((λ e. absurd (cc)), tt)))) },
+    ),
+    record { answer = refl; allowed = (refl, refl, refl); cell = refl; timely = ((λ e. lit≤ tt), ((λ e. absurd (cc)), ((λ e. absurd (cc)), ((λ e. absurd (cc)), ((λ e. absurd (cc)), tt))))) },
+  ),
+  record {
+    answer = refl;
+    allowed = (refl, inl (((0, held_2, lit< tt, refl, (refl, refl)), tt), (0, Reason.Held 1, lit< tt, refl, (λ e. cc))));
+    cell = refl;
+    timely = ((λ e. lit≤ tt), ((λ e. lit≤ tt), ((λ e. absurd (cc)), ((λ e. absurd (cc)), ((λ e. absurd (cc)), ((λ e. absurd (cc)), tt))))));
+  },
+)
 
 -- a cancel that gives no reason
 abbrev begin_check : Row

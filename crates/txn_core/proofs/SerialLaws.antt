@@ -1,19 +1,18 @@
 -- Why there is one order: what readers are shown, one fate, and transactions in the order of their stamps.
-use Rattle.std.proofs.Common.{◌≡◌, ◌≢◌, ◌⊎◌, inl, inr, ℕ, suc, ◌+◌, ◌<◌, ◌≤◌, Bool, true, false, not, ◌&&◌, ◌||◌, cond, nat_eq, List, [], ◌∷◌, length, Option, None, Some, is_some, if◌then◌else◌, refl, sym, ap, ◌∙◌, subst, arith}
+use Rattle.std.proofs.Common.{◌≡◌, ◌⊎◌, inl, inr, ℕ, ◌≤◌, Bool, true, false, not, ◌||◌, nat_eq, List, [], ◌∷◌, Option, None, Some, is_some, if◌then◌else◌, refl, sym, ap, ◌∙◌, subst, arith}
 use Rattle.std.specs.List.{find, list_any}
-use Rattle.std.proofs.lemmas.Bool.{eqb-true, eqb-false, eq-eqb, cond_both, and_parts, and_from, not-true, cases_Bool}
+use Rattle.std.proofs.lemmas.Bool.{eqb-true, eq-eqb, cond_both, and_parts, and_from, not-true}
 use Rattle.txn_core.specs.declared.stamp.Stamp.{Stamp}
 use Rattle.txn_core.specs.declared.fate.Fate.{Fate}
 use Rattle.txn_core.specs.declared.fate.Fate.TheVariants.{Undecided, Committed, Cancelled}
 use Rattle.txn_core.specs.Stamps.{earlier}
-use Rattle.txn_core.specs.Protocol.{New, after, Protocol, IsLawful}
-use Rattle.txn_core.specs.Effects.{Effect, Wrote, Begun, Prepared, Commits, Cancels, Applied, Released, Finished, Forgot, Changed, Quiet}
-use Rattle.txn_core.specs.World.{Pending, Spot, Ledger, World, holder, on_item, action_on, touches, at, ledger_begun, ledger_decided, world}
+use Rattle.txn_core.specs.Protocol.{Protocol, IsLawful}
+use Rattle.txn_core.specs.Effects.{Effect, Wrote, Begun, Commits, Cancels, Finished, Forgot, Changed}
+use Rattle.txn_core.specs.World.{Pending, Ledger, World, on_item, action_on, touches, ledger_begun, ledger_decided, world}
 use Rattle.txn_core.specs.Runs.{IsRun, MayCommit}
-use Rattle.txn_core.specs.Serial.{Change, Single, Whole, Altered, begun_stamp, begun_actions, committed_numbers, is_committed, decisions, serial, standings, once_whole, catalog_of, tables, is_applied, waits_on, waiting, before, shown_by, shown, Share, IsAfter, IsStampOrder}
+use Rattle.txn_core.specs.Serial.{Change, Single, Whole, Altered, begun_stamp, begun_actions, committed_numbers, is_committed, decisions, serial, standings, once_whole, is_applied, waits_on, waiting, before, shown_by, shown, Share, IsAfter, IsStampOrder}
 use Rattle.txn_core.specs.Laws.{HoldsTheTables, ActsAsAccepted}
-use Rattle.txn_core.proofs.Basics.{none_some, some_is, true_false, at_split, held, holder_is, some_of}
-use Rattle.txn_core.proofs.Invariant.{GoodSpot, Good}
+use Rattle.txn_core.proofs.Basics.{some_is, true_false, at_split, held, holder_is}
 use Rattle.txn_core.proofs.Ends.{find_passes}
 use Rattle.txn_core.proofs.Kept.{good}
 use Rattle.txn_core.proofs.Readings.{is_commit, is_commit-true, decided_count, catalog_read, actions_read, stamp_read, fate_read, decisions_read, applied_read, tab_read, base_read}
@@ -41,6 +40,7 @@ find_none test (m ∷ ns) n e h =
     both : (b : Bool) → (b ≡ false) ⊎ (b ≡ true)
     both true = inr refl
     both false = inl refl
+
     here : test m ≡ false → (b : Bool) → nat_eq m n ≡ b → (list_any (λ k. nat_eq k n) ns ≡ true → test n ≡ false) → test n ≡ false
     here is true e rest = subst (λ k. test k ≡ false) (eqb-true m n e) is
     here is false e rest = rest (sym (ap (λ b. b || list_any (λ k. nat_eq k n) ns) e) ∙ h)
@@ -80,9 +80,10 @@ module _ {K V A F C D : Type 0} (P : Protocol K V A F C D) (law : IsLawful P) wh
       let w = waiting_is es run q n e in
       let g = (good P law es run).spots q in
       let h = held ((world P es).spot q).pend n (g.waits n w.committed w.touched w.unapplied) in
-      let v = g.veiled h.0 h.1 (subst (λ x. (world P es).ledger.fate x ≡ Committed) (sym h.2) w.committed) in
-      (record { pending = h.0; is_held = h.1; its = h.2; image = sym v.0 ∙ tab_read P es run q },
-      v.1 ∙ ap (λ x. ((world P es).spot q).base x) h.2 ∙ base_read P es run q n)
+      let v = g.veiled h.0 h.1 (subst (λ x. (world P es).ledger.fate x ≡ Committed) (sym h.2) w.committed) in (
+        record { pending = h.0; is_held = h.1; its = h.2; image = sym v.0 ∙ tab_read P es run q },
+        v.1 ∙ ap (λ x. ((world P es).spot q).base x) h.2 ∙ base_read P es run q n,
+      )
 
   pub rows_are_shown : (es : List (Effect K A D)) → IsRun P es → (q : K) → ((world P es).spot q).row ≡ shown P es q
   rows_are_shown es run q = go (waiting P es q) refl
@@ -92,8 +93,9 @@ module _ {K V A F C D : Type 0} (P : Protocol K V A F C D) (law : IsLawful P) wh
       unveiled e (Some p) is_held =
           ((good P law es run).spots q).open_ p is_held
           (λ f. true_false (waits_on P es q p.number)
-            (waits_of es run q p.number f (((good P law es run).spots q).named p is_held) (((good P law es run).spots q).once p is_held))
-            (find_none (waits_on P es q) (committed_numbers es) p.number e (committed_of es run p.number f)))
+          (waits_of es run q p.number f (((good P law es run).spots q).named p is_held) (((good P law es run).spots q).once p is_held))
+          (find_none (waits_on P es q) (committed_numbers es) p.number e (committed_of es run p.number f)))
+
       go : (o : Option ℕ) → waiting P es q ≡ o → ((world P es).spot q).row ≡ shown_by P es q o
       go None e = unveiled e ((world P es).spot q).pend refl ∙ tab_read P es run q
       go (Some n) e = (holds_the_tables es run q n e).1
@@ -118,19 +120,19 @@ module _ {K V A F C D : Type 0} (P : Protocol K V A F C D) (law : IsLawful P) wh
       cond_both (nat_eq m n) ((begun_stamp es m, begun_actions es m) ∷ standings (serial es) n) (standings (serial es) n)
       (λ x. x ≡ (if nat_eq m n || is_committed es n then (begun_stamp es n, begun_actions es n) ∷ [] else []))
       (λ e.
-        let same = eqb-true m n e in
-        let none : is_committed es n ≡ false = sym (fate_read P es run.0 n) ∙ ap (λ k. is_commit ((world P es).ledger.fate k)) (sym same) ∙ ap is_commit run.1.first in
-        (λ i. (begun_stamp es (same i), begun_actions es (same i)) ∷ stands_once es run.0 n i)
-        ∙ ap (λ b. (begun_stamp es n, begun_actions es n) ∷ (if b then (begun_stamp es n, begun_actions es n) ∷ [] else [])) none
-        ∙ sym (ap (λ b. if b || is_committed es n then (begun_stamp es n, begun_actions es n) ∷ [] else []) e))
+      let same = eqb-true m n e in
+      let none : is_committed es n ≡ false = sym (fate_read P es run.0 n) ∙ ap (λ k. is_commit ((world P es).ledger.fate k)) (sym same) ∙ ap is_commit run.1.first in
+      (λ i. (begun_stamp es (same i), begun_actions es (same i)) ∷ stands_once es run.0 n i)
+      ∙ ap (λ b. (begun_stamp es n, begun_actions es n) ∷ (if b then (begun_stamp es n, begun_actions es n) ∷ [] else [])) none
+      ∙ sym (ap (λ b. if b || is_committed es n then (begun_stamp es n, begun_actions es n) ∷ [] else []) e))
       (λ e. stands_once es run.0 n ∙ sym (ap (λ b. if b || is_committed es n then (begun_stamp es n, begun_actions es n) ∷ [] else []) e))
   stands_once (Begun stamp actions ∷ es) run n =
       stands_once es run.0 n
       ∙ cond_both (nat_eq stamp.number n) stamp (begun_stamp es n) (λ x. once_whole es n ≡ (if is_committed es n then (x, if nat_eq stamp.number n then actions else begun_actions es n) ∷ [] else []))
       (λ e.
-        let none = not_yet (is_committed es n) refl (eqb-true stamp.number n e) in
-        ap (λ b. if b then (begun_stamp es n, begun_actions es n) ∷ [] else []) none
-        ∙ sym (ap (λ b. if b then (stamp, if nat_eq stamp.number n then actions else begun_actions es n) ∷ [] else []) none))
+      let none = not_yet (is_committed es n) refl (eqb-true stamp.number n e) in
+      ap (λ b. if b then (begun_stamp es n, begun_actions es n) ∷ [] else []) none
+      ∙ sym (ap (λ b. if b then (stamp, if nat_eq stamp.number n then actions else begun_actions es n) ∷ [] else []) none))
       (λ e. sym (ap (λ b. if is_committed es n then (begun_stamp es n, if b then actions else begun_actions es n) ∷ [] else []) e))
     where
       not_yet : (b : Bool) → is_committed es n ≡ b → stamp.number ≡ n → is_committed es n ≡ false
@@ -149,10 +151,12 @@ module _ {K V A F C D : Type 0} (P : Protocol K V A F C D) (law : IsLawful P) wh
       let h = held ((world P es).spot q).pend n (g.ready n may.first (may.all_accepted q (ap (λ o. is_some o) its_action))) in
       let plain = g.open_ h.0 h.1 (λ f. let u = subst (λ x. (world P es).ledger.fate x ≡ Undecided) (sym h.2) may.first in cc) in
       record {
-        pending = h.0; is_held = h.1; its = h.2;
+        pending = h.0;
+        is_held = h.1;
+        its = h.2;
         outcome =
-          (λ i. P.act (sym (catalog_read P es) i) a ((sym (tab_read P es run.0 q) ∙ sym plain) i))
-          ∙ g.image h.0 a h.1 (subst (λ x. action_on P (world P es).ledger x q ≡ Some a) (sym h.2) its_action);
+            (λ i. P.act (sym (catalog_read P es) i) a ((sym (tab_read P es run.0 q) ∙ sym plain) i))
+            ∙ g.image h.0 a h.1 (subst (λ x. action_on P (world P es).ledger x q ≡ Some a) (sym h.2) its_action);
       }
 
   -- each transaction in the list is committed, with this stamp and these actions
@@ -171,9 +175,10 @@ module _ {K V A F C D : Type 0} (P : Protocol K V A F C D) (law : IsLawful P) wh
   all_whole : (es : List (Effect K A D)) → IsRun P es → AllWhole (world P es).ledger (serial es)
   all_whole [] run = tt
   all_whole (Commits n ∷ es) run =
-      let l = (world P es).ledger in
-      ((at_split l.fate n Committed n (λ x. x ≡ Committed) (λ e. refl) (λ e. absurd (e refl)), stamp_read P es run.0 n, actions_read P es run.0 n),
-      all_more l (ledger_decided l n Committed) (λ m f. (at_split l.fate n Committed m (λ x. x ≡ Committed) (λ e. refl) (λ e. f), refl, refl)) (serial es) (all_whole es run.0))
+      let l = (world P es).ledger in (
+        (at_split l.fate n Committed n (λ x. x ≡ Committed) (λ e. refl) (λ e. absurd (e refl)), stamp_read P es run.0 n, actions_read P es run.0 n),
+        all_more l (ledger_decided l n Committed) (λ m f. (at_split l.fate n Committed m (λ x. x ≡ Committed) (λ e. refl) (λ e. f), refl, refl)) (serial es) (all_whole es run.0),
+      )
   all_whole (Begun stamp actions ∷ es) run =
       let l = (world P es).ledger in
       let old : (m : ℕ) → l.fate m ≡ Committed → l.next ≡ m → ⊥ = λ m f e. committed_before es run.0 m (committed_of es run.0 m f) e in

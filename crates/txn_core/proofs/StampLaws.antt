@@ -1,5 +1,5 @@
 -- The order of stamps.
-use Rattle.std.proofs.Common.{◌≡◌, ℕ, true, false, arith}
+use Rattle.std.proofs.Common.{◌≡◌, true, arith}
 use Rattle.std.proofs.lemmas.Bool.Decides.{nat_tests}
 use Rattle.txn_core.specs.declared.stamp.Stamp.{Stamp}
 use Rattle.txn_core.specs.Stamps.{earlier, later, IsBy}

@@ -1,11 +1,10 @@
 -- While a token lives, it is kept with its number, and no Begin draws another one for it.
-use Rattle.std.proofs.Common.{◌≡◌, ◌≢◌, ◌⊎◌, inl, inr, ℕ, Bool, true, false, not, ◌&&◌, ◌||◌, nat_eq, List, [], ◌∷◌, ◌++◌, Option, None, Some, is_some, if◌then◌else◌, refl, sym, ap, ◌∙◌, subst}
+use Rattle.std.proofs.Common.{◌≡◌, inl, inr, ℕ, Bool, true, false, ◌&&◌, ◌||◌, nat_eq, List, [], ◌∷◌, ◌++◌, Option, None, Some, is_some, if◌then◌else◌, refl, sym, ap, ◌∙◌, subst}
 use Rattle.std.specs.List.{list_any, list_all}
 use Rattle.std.specs.Str.{bytes_eq}
 use Rattle.std.proofs.lemmas.Bool.{cond_both, and_parts, or_parts, or_cases, eqb-true, eq-eqb}
 use Rattle.std.proofs.lemmas.Slice.Eq.{bytes_eq-Decides}
 use Rattle.txn_core.specs.declared.stamp.Stamp.{Stamp}
-use Rattle.txn_core.specs.declared.reason.Reason.{Reason}
 use Rattle.txn_core.specs.declared.message.Message.{Message}
 use Rattle.txn_core.specs.declared.answer.Answer.{Answer}
 use Rattle.txn_core.specs.declared.entry.Entry.{Entry}
@@ -13,8 +12,8 @@ use Rattle.txn_core.specs.Service.{Service}
 use Rattle.txn_core.specs.World.{world}
 use Rattle.txn_core.specs.Answers.{KeptToken, begin_answer}
 use Rattle.txn_core.specs.History.{is_begun, is_first, tells_cancel, is_finished, finishes, effects, Had, is_over, purged, completed, freed, begun_with, kept_after, kept, found_kept}
-use Rattle.txn_core.specs.Legal.{IsAnswer, Follows, IsLegal}
-use Rattle.txn_core.specs.Tokens.{done_by, draws, cancels_first, is_begin, first_done, ends_life, LivesOn, Names}
+use Rattle.txn_core.specs.Legal.{IsAnswer, IsLegal}
+use Rattle.txn_core.specs.Tokens.{done_by, draws, cancels_first, is_begin, first_done, LivesOn, Names}
 use Rattle.txn_core.proofs.Basics.{true_false}
 
 module _ {V A F B : Type 0} where
@@ -73,7 +72,7 @@ module _ {K V A F C D Q B : Type 0} (S : Service K V A F C D Q B) (t : List ℕ)
   finds es d is moment live asked a u same answer =
       let w = world S.core (effects es) in
       let here' : found_kept es moment (Some u) ≡ Some (token_of n actions d) =
-        ap (λ x. purged moment (kept es x)) ((bytes_eq-Decides u t).0 same) ∙ ap (λ k. purged moment k) is ∙ purged_live (token_of n actions d) moment live in
+      ap (λ x. purged moment (kept es x)) ((bytes_eq-Decides u t).0 same) ∙ ap (λ k. purged moment k) is ∙ purged_live (token_of n actions d) moment live in
       subst (λ x. Names n x) (sym (answer ∙ ap (λ k. begin_answer S.same_actions (list_all (λ x. S.core.there w.catalog (S.core.key_of x)) asked) k asked (record { moment = moment; number = w.ledger.next })) here'))
       (kept_names S.same_actions (list_all (λ x. S.core.there w.catalog (S.core.key_of x)) asked) (token_of n actions d) asked (record { moment = moment; number = w.ledger.next }))
 
@@ -84,7 +83,7 @@ module _ {K V A F C D Q B : Type 0} (S : Service K V A F C D Q B) (t : List ℕ)
       ap (λ k. begun_with token t asked a (purged moment k)) is
       ∙ ap (λ k. begun_with token t asked a k) (purged_live (token_of n actions (first_done since n)) moment live)
       ∙ begun_leaves token t asked a (Some (token_of n actions (first_done since n)))
-        (λ u e same j. names_no_new n j a (finds es (first_done since n) is moment live asked a u same (subst (λ x. IsAnswer S es moment (Message.Begin x asked) a) e answer)))
+      (λ u e same j. names_no_new n j a (finds es (first_done since n) is moment live asked a u same (subst (λ x. IsAnswer S es moment (Message.Begin x asked) a) e answer)))
       ∙ unfinished' (first_done since n)
     where
       unfinished' : (d : Option ℕ) → Some (token_of n actions d) ≡ Some (token_of n actions (done_by false moment d))
@@ -112,12 +111,13 @@ module _ {K V A F C D Q B : Type 0} (S : Service K V A F C D Q B) (t : List ℕ)
       same : (d : Option ℕ) → Some (token_of n actions d) ≡ Some (token_of n actions (done_by false moment d))
       same None = refl
       same (Some d) = refl
+
       go : (b : Bool) → (is_first a && tells_cancel a) ≡ b → (if b then freed m (kept es t) else kept es t) ≡ Some (token_of n actions (first_done since n))
       go true e =
           let off = (or_parts (nat_eq m n && (is_first a && tells_cancel a)) false on).0 in
           ap (λ k. freed m k) is
           ∙ cond_both (nat_eq n m) None (Some (token_of n actions (first_done since n))) (λ x. x ≡ Some (token_of n actions (first_done since n)))
-            (λ s. true_false (nat_eq m n && (is_first a && tells_cancel a)) ((λ i. (sym (eq_comm n m) ∙ s) i && e i)) off) (λ s. refl)
+          (λ s. true_false (nat_eq m n && (is_first a && tells_cancel a)) ((λ i. (sym (eq_comm n m) ∙ s) i && e i)) off) (λ s. refl)
       go false e = is
   kept_step es since moment (Message.Get key) a is answer on = is ∙ unchanged (first_done since n)
     where
@@ -168,6 +168,7 @@ started {K} {V} {A} {F} {D} {Q} {B} t n start older h = go start.message start.a
         ap (λ b. if b then Some (token_of m asked None) else old) same ∙ ap (λ j. Some (token_of j asked None)) (eqb-true m n is)
     drawn u asked Answer.Stale old same is = absurd (cc)
     drawn u asked _ old same is = absurd (cc)
+
     go : (m : Message K V A F D Q) (a : Answer V A F B) → draws t n m a ≡ true → (actions : List A) × (kept_after start.moment m a t (kept older t) ≡ Some (token_of n actions None))
     go (Message.Begin (Some u) asked) a k =
         let p = and_parts (bytes_eq u t) (is_begun n a) k in

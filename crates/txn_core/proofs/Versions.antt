@@ -1,20 +1,17 @@
 -- A version that is the same twice: the item stood still between, and what waited on it waits.
-use Rattle.std.proofs.Common.{◌≡◌, ◌≢◌, ◌⊎◌, inl, inr, ℕ, suc, ◌+◌, ◌<◌, ◌≤◌, Bool, true, false, nat_eq, List, [], ◌∷◌, ◌++◌, Option, None, Some, is_some, if◌then◌else◌, cond, refl, sym, ap, ◌∙◌, subst, arith}
-use Rattle.std.proofs.lemmas.Bool.{cond_both, cond-true, cond-false, cases_Bool, eqb-true, eq-eqb}
+use Rattle.std.proofs.Common.{◌≡◌, ◌⊎◌, inl, inr, ℕ, ◌+◌, ◌<◌, ◌≤◌, true, false, List, [], ◌∷◌, ◌++◌, Option, None, Some, is_some, if◌then◌else◌, refl, sym, ap, ◌∙◌, subst, arith}
+use Rattle.std.proofs.lemmas.Bool.{cond_both, cond-true, cond-false, cases_Bool}
 use Rattle.txn_core.specs.declared.stamp.Stamp.{Stamp}
-use Rattle.txn_core.specs.declared.fate.Fate.{Fate}
 use Rattle.txn_core.specs.declared.fate.Fate.TheVariants.{Undecided, Committed, Cancelled}
-use Rattle.txn_core.specs.declared.answer.Answer.{Answer}
-use Rattle.txn_core.specs.declared.entry.Entry.{Entry}
 use Rattle.txn_core.specs.Stamps.{single}
 use Rattle.txn_core.specs.Protocol.{after, Protocol, IsLawful}
-use Rattle.txn_core.specs.Effects.{Effect, Wrote, Begun, Prepared, Commits, Cancels, Applied, Released, Finished, Forgot, Changed, Quiet}
-use Rattle.txn_core.specs.World.{Pending, Spot, Cell, Ledger, World, holder, at, kept_or, hold, image_or, stamp_or, cell_after, spot_wrote, spot_prepared, spot_applied, spot_released, spot_changed, here, on_key, step, start, world}
+use Rattle.txn_core.specs.Effects.{Effect, Wrote, Begun, Prepared, Commits, Cancels, Applied, Released, Changed}
+use Rattle.txn_core.specs.World.{Pending, Spot, Cell, World, holder, at, kept_or, hold, image_or, stamp_or, cell_after, spot_wrote, spot_prepared, spot_applied, spot_released, here, on_key, step, world}
 use Rattle.txn_core.specs.Runs.{May, IsRun}
 use Rattle.txn_core.specs.Serial.{serial, tables}
 use Rattle.txn_core.specs.Laws.{version_of}
-use Rattle.txn_core.proofs.Basics.{none_some, some_is, true_false, at_split, held, holder_is}
-use Rattle.txn_core.proofs.Invariant.{GoodSpot, Good}
+use Rattle.txn_core.proofs.Basics.{none_some, some_is, at_split, holder_is}
+use Rattle.txn_core.proofs.Invariant.{Good}
 use Rattle.txn_core.proofs.Kept.{good, released_open}
 use Rattle.txn_core.proofs.Readings.{tab_read}
 
@@ -45,9 +42,9 @@ module _ {K V A F C D : Type 0} (P : Protocol K V A F C D) where
     counted_on_key w k f c h touched up gone =
         record {
           versions = λ q. cond_both (P.same k q) (f (w.spot q)) (w.spot q) (λ s. s.version ≤ (at w.cell (P.cell_of k) c (P.cell_of q)).count)
-            (λ e. at_split w.cell (P.cell_of k) c (P.cell_of q) (λ d. (f (w.spot q)).version ≤ d.count)
+              (λ e. at_split w.cell (P.cell_of k) c (P.cell_of q) (λ d. (f (w.spot q)).version ≤ d.count)
               (λ m. touched (w.spot q) (subst (λ i. (w.spot q).version ≤ (w.cell i).count) (sym m) (h.versions q))) (λ m. absurd (m (law.one_cell k q e))))
-            (λ e. at_split w.cell (P.cell_of k) c (P.cell_of q) (λ d. (w.spot q).version ≤ d.count)
+              (λ e. at_split w.cell (P.cell_of k) c (P.cell_of q) (λ d. (w.spot q).version ≤ d.count)
               (λ m. let v : (w.spot q).version ≤ (here P w k).count = subst (λ i. (w.spot q).version ≤ (w.cell i).count) (sym m) (h.versions q) in omega arith) (λ m. h.versions q));
           gone = λ i. at_split w.cell (P.cell_of k) c i (λ d. d.gone ≤ d.count) (λ _. gone) (λ _. h.gone i);
         }
@@ -95,9 +92,9 @@ module _ {K V A F C D : Type 0} (P : Protocol K V A F C D) where
           let cells : here P w q ≡ here P w k = ap w.cell (sym (law.one_cell k q e)) in
           let spot_is : (if P.same k q then f (w.spot q) else w.spot q) ≡ f (w.spot q) = cond-true (P.same k q) (f (w.spot q)) (w.spot q) e in
           let first : version_of P (on_key P w k f c) q ≡ (if is_some (f (w.spot q)).row then (f (w.spot q)).version else c.gone) =
-            λ i. if is_some (spot_is i).row then (spot_is i).version else (new_here k c e i).gone in
+          λ i. if is_some (spot_is i).row then (spot_is i).version else (new_here k c e i).gone in
           let second : (if is_some (f (w.spot q)).row then (f (w.spot q)).version else c.gone) ≡ (if is_some (v (w.spot k)) then (here P w k).count + 1 else c.gone) =
-            λ i. if is_some ((row ∙ ap v (sym one)) i) then version i else c.gone in
+          λ i. if is_some ((row ∙ ap v (sym one)) i) then version i else c.gone in
           let all = first ∙ second ∙ version_after (here P w k) (w.spot k) (v (w.spot k)) own in
           let counts = ap (λ (d : Cell). d.count) cells in
           omega arith
@@ -108,7 +105,7 @@ module _ {K V A F C D : Type 0} (P : Protocol K V A F C D) where
           let c = cell_after (here P w k) (w.spot k) v own in
           let spot_is : (if P.same k q then f (w.spot q) else w.spot q) ≡ w.spot q = cond-false (P.same k q) (f (w.spot q)) (w.spot q) e in
           let first : version_of P (on_key P w k f c) q ≡ (if is_some (w.spot q).row then (w.spot q).version else (at w.cell (P.cell_of k) c (P.cell_of q)).gone) =
-            λ i. if is_some (spot_is i).row then (spot_is i).version else (at w.cell (P.cell_of k) c (P.cell_of q)).gone in
+          λ i. if is_some (spot_is i).row then (spot_is i).version else (at w.cell (P.cell_of k) c (P.cell_of q)).gone in
           by_cell c spot_is first v refl
         where
           still : (c : Cell) → (if P.same k q then f (w.spot q) else w.spot q) ≡ w.spot q → version_of P (on_key P w k f c) q ≡ version_of P w q → Still w (on_key P w k f c) q
@@ -118,11 +115,12 @@ module _ {K V A F C D : Type 0} (P : Protocol K V A F C D) where
                 version = same;
                 stays = λ p h fate. (ap (λ (s : Spot V). s.pend) spot_is ∙ h, fate);
               }
+
           by_cell : (c : Cell) → (if P.same k q then f (w.spot q) else w.spot q) ≡ w.spot q → version_of P (on_key P w k f c) q ≡ (if is_some (w.spot q).row then (w.spot q).version else (at w.cell (P.cell_of k) c (P.cell_of q)).gone) → (x : Option V) → c ≡ cell_after (here P w k) (w.spot k) x own → Still w (on_key P w k f c) q ⊎ ((here P w q).count < version_of P (on_key P w k f c) q)
           by_cell c spot_is first (Some x) is =
               inl (still c spot_is
               (first ∙ ap (λ n. if is_some (w.spot q).row then (w.spot q).version else n)
-                (at_split w.cell (P.cell_of k) c (P.cell_of q) (λ d. d.gone ≡ (here P w q).gone) (λ m. ap (λ (d : Cell). d.gone) is ∙ ap (λ i. (w.cell i).gone) m) (λ m. refl))))
+              (at_split w.cell (P.cell_of k) c (P.cell_of q) (λ d. d.gone ≡ (here P w q).gone) (λ m. ap (λ (d : Cell). d.gone) is ∙ ap (λ i. (w.cell i).gone) m) (λ m. refl))))
           by_cell c spot_is first None is =
               elim (cases_Bool (is_some (w.spot q).row)) [
                 | inl some ↦ inl (still c spot_is (first ∙ ap (λ b. if b then (w.spot q).version else (at w.cell (P.cell_of k) c (P.cell_of q)).gone) some ∙ sym (ap (λ b. if b then (w.spot q).version else (here P w q).gone) some)))
@@ -131,9 +129,9 @@ module _ {K V A F C D : Type 0} (P : Protocol K V A F C D) where
                     let was : version_of P w q ≡ (here P w q).gone = ap (λ b. if b then (w.spot q).version else (here P w q).gone) none in
                     at_split w.cell (P.cell_of k) c (P.cell_of q) (λ d. version_of P (on_key P w k f c) q ≡ d.gone → Still w (on_key P w k f c) q ⊎ ((here P w q).count < version_of P (on_key P w k f c) q))
                     (λ m h.
-                      let new : version_of P (on_key P w k f c) q ≡ (here P w k).count + 1 = h ∙ ap (λ (d : Cell). d.gone) is in
-                      let counts : (here P w k).count ≡ (here P w q).count = ap (λ i. (w.cell i).count) m in
-                      inr (omega arith))
+                    let new : version_of P (on_key P w k f c) q ≡ (here P w k).count + 1 = h ∙ ap (λ (d : Cell). d.gone) is in
+                    let counts : (here P w k).count ≡ (here P w q).count = ap (λ i. (w.cell i).count) m in
+                    inr (omega arith))
                     (λ m h. inl (still c spot_is (h ∙ sym was))) absent)
               ]
 
@@ -143,7 +141,7 @@ module _ {K V A F C D : Type 0} (P : Protocol K V A F C D) where
           record {
             row = cond_both (P.same k q) (f (w.spot q)) (w.spot q) (λ s. s.row ≡ (w.spot q).row) (λ _. row (w.spot q)) (λ _. refl);
             version =
-              (λ i. if is_some (cond_both (P.same k q) (f (w.spot q)) (w.spot q) (λ s. s.row ≡ (w.spot q).row) (λ _. row (w.spot q)) (λ _. refl) i)
+                (λ i. if is_some (cond_both (P.same k q) (f (w.spot q)) (w.spot q) (λ s. s.row ≡ (w.spot q).row) (λ _. row (w.spot q)) (λ _. refl) i)
                 then cond_both (P.same k q) (f (w.spot q)) (w.spot q) (λ s. s.version ≡ (w.spot q).version) (λ _. version (w.spot q)) (λ _. refl) i
                 else at_split w.cell (P.cell_of k) (here P w k) (P.cell_of q) (λ d. d.gone ≡ (here P w q).gone) (λ m. ap (λ i. (w.cell i).gone) m) (λ m. refl) i);
             stays = λ p h fate. (cond_both (P.same k q) (f (w.spot q)) (w.spot q) (λ s. s.pend ≡ Some p) (λ e. keeps e p h fate) (λ _. h), fate);
@@ -168,18 +166,21 @@ module _ {K V A F C D : Type 0} (P : Protocol K V A F C D) where
       still_or_new (Released n k) may before now =
           inl (pending_alone k (λ s. spot_released s) (λ s. refl) (λ s. refl)
           (λ e p h fate.
-            let ends = released_open P law w good_w n k may.0 may.1 in
-            let same : p.number ≡ n = some_is p.number n (sym (holder_is (w.spot q).pend p h) ∙ ap (λ (s : Spot V). holder s.pend) (sym (good_w.alike k q e)) ∙ may.0) in
-            absurd (ends.0 (subst (λ x. w.ledger.fate x ≡ Committed) same fate))))
+          let ends = released_open P law w good_w n k may.0 may.1 in
+          let same : p.number ≡ n = some_is p.number n (sym (holder_is (w.spot q).pend p h) ∙ ap (λ (s : Spot V). holder s.pend) (sym (good_w.alike k q e)) ∙ may.0) in
+          absurd (ends.0 (subst (λ x. w.ledger.fate x ≡ Committed) same fate))))
       still_or_new (Commits n) may before now =
           inl (record { row = refl; version = refl; stays = λ p h fate. (h, at_split w.ledger.fate n Committed p.number (λ x. x ≡ Committed) (λ _. refl) (λ _. fate)) })
       still_or_new (Cancels n) may before now =
-          inl (record { row = refl; version = refl;
-            stays = λ p h fate. (h, at_split w.ledger.fate n Cancelled p.number (λ x. x ≡ Committed) (λ e. let u = subst (λ x. w.ledger.fate x ≡ Undecided) e may.1 in absurd (cc)) (λ _. fate)) })
+          inl (record {
+            row = refl;
+            version = refl;
+            stays = λ p h fate. (h, at_split w.ledger.fate n Cancelled p.number (λ x. x ≡ Committed) (λ e. let u = subst (λ x. w.ledger.fate x ≡ Undecided) e may.1 in absurd (cc)) (λ _. fate));
+          })
       still_or_new (Changed d moment) may before now =
           let row : kept_or (P.there w.catalog q) (P.there (P.change d moment w.catalog) q) (w.spot q).row (P.adds d w.catalog q) ≡ (w.spot q).row =
-            ap (λ b. kept_or b (P.there (P.change d moment w.catalog) q) (w.spot q).row (P.adds d w.catalog q)) before
-            ∙ ap (λ b. kept_or true b (w.spot q).row (P.adds d w.catalog q)) now in
+          ap (λ b. kept_or b (P.there (P.change d moment w.catalog) q) (w.spot q).row (P.adds d w.catalog q)) before
+          ∙ ap (λ b. kept_or true b (w.spot q).row (P.adds d w.catalog q)) now in
           inl (record { row = row; version = ap (λ x. if is_some x then (w.spot q).version else (here P w q).gone) row; stays = λ p h fate. (h, fate) })
       still_or_new (Begun stamp actions) may before now = inl (record { row = refl; version = refl; stays = λ p h fate. (h, fate) })
       still_or_new _ may before now = inl (record { row = refl; version = refl; stays = λ p h fate. (h, fate) })
@@ -286,7 +287,7 @@ module _ {K V A F C D : Type 0} (P : Protocol K V A F C D) where
         let v1 : version_of P (world P mid) q ≡ version_of P (world P es) q = (let a = one.rises in let b = two.rises in omega arith) in
         let v2 : version_of P (world P (newer ++ mid)) q ≡ version_of P (world P mid) q = (let a = one.rises in let b = two.rises in omega arith) in
         let plain : ((world P mid).spot q).row ≡ ((world P mid).spot q).tab =
-          unveiled mid run_mid (λ p is fate. let k = two.stays v2 p is fate in none_some (holder ((world P (newer ++ mid)).spot q).pend) p.number free (holder_is ((world P (newer ++ mid)).spot q).pend p k.0)) ((world P mid).spot q).pend refl in
+        unveiled mid run_mid (λ p is fate. let k = two.stays v2 p is fate in none_some (holder ((world P (newer ++ mid)).spot q).pend) p.number free (holder_is ((world P (newer ++ mid)).spot q).pend p k.0)) ((world P mid).spot q).pend refl in
         (sym (one.row v1) ∙ plain ∙ tab_read P mid run_mid q, two.row v2 ∙ plain ∙ tab_read P mid run_mid q)
       where
         unveiled : (mid : List (Effect K A D)) → IsRun P mid → ((p : Pending V) → ((world P mid).spot q).pend ≡ Some p → (world P mid).ledger.fate p.number ≡ Committed → ⊥) → (o : Option (Pending V)) → ((world P mid).spot q).pend ≡ o → ((world P mid).spot q).row ≡ ((world P mid).spot q).tab

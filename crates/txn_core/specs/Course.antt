@@ -4,7 +4,7 @@ use Rattle.std.specs.List.{list_all}
 use Rattle.txn_core.specs.declared.fate.Fate.{Fate}
 use Rattle.txn_core.specs.declared.fate.Fate.TheVariants.{Undecided, Committed, Cancelled, Gone}
 use Rattle.txn_core.specs.declared.verdict.Verdict.{Verdict}
-use Rattle.txn_core.specs.declared.verdict.Verdict.TheVariants.{Accepted, Held, Late, CondFalse, Invalid, NoTable}
+use Rattle.txn_core.specs.declared.verdict.Verdict.TheVariants.{Accepted}
 use Rattle.txn_core.specs.declared.course.Course.{Course}
 use Rattle.txn_core.specs.declared.course.Move.{Move}
 use Rattle.txn_core.specs.declared.course.Move.TheVariants.{Prepare, Commit, Cancel, Apply, Release, Done, End}

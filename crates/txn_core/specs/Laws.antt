@@ -7,7 +7,7 @@ use Rattle.txn_core.specs.Stamps.{IsBy}
 use Rattle.txn_core.specs.Protocol.{New, Protocol}
 use Rattle.txn_core.specs.Service.{Service}
 use Rattle.txn_core.specs.Effects.{Effect}
-use Rattle.txn_core.specs.World.{Pending, Spot, World, holder, last, here, world}
+use Rattle.txn_core.specs.World.{Pending, World, holder, last, here, world}
 use Rattle.txn_core.specs.Serial.{serial, catalog_of, tables}
 use Rattle.txn_core.specs.History.{effects}
 use Rattle.txn_core.specs.Legal.{IsInTheWay}

@@ -1,14 +1,12 @@
 -- Legal histories: each entry has the answer that its cell gives, and nobody sends what the protocol forbids.
 use Rattle.std.specs.Prelude.{◌≡◌, ◌≢◌, ◌⊎◌, ℕ, ◌<◌, ◌≤◌, Bool, true, false, ◌&&◌, nat_eq, List, [], ◌∷◌, length, All, Any, AllPairs, Option, None, Some}
 use Rattle.std.specs.List.{list_any, list_all}
-use Rattle.txn_core.specs.declared.stamp.Stamp.{Stamp}
 use Rattle.txn_core.specs.declared.reason.Reason.{Reason}
 use Rattle.txn_core.specs.declared.message.Message.{Message}
 use Rattle.txn_core.specs.declared.answer.Answer.{Answer}
 use Rattle.txn_core.specs.declared.entry.Entry.{Entry}
-use Rattle.txn_core.specs.Protocol.{Protocol}
 use Rattle.txn_core.specs.Service.{Ruling, Carries, Refuses, Service}
-use Rattle.txn_core.specs.World.{Pending, Spot, World, holder, last, on_item, here, world}
+use Rattle.txn_core.specs.World.{World, holder, last, on_item, here, world}
 use Rattle.txn_core.specs.Serial.{begun_stamp, begun_actions}
 use Rattle.txn_core.specs.Answers.{get_answer, write_answer, prepare_answer, apply_answer, release_answer, version_answer, begin_answer, has_record, decide_answer, done_answer, forget_answer, fate_answer, recall_answer, unfinished}
 use Rattle.txn_core.specs.History.{is_accepted, reason_of, effects, Had, begins, commits, cancels, finishes, forgets, finds_no_table, is_own_begin, reasons_of, IsTimely, found_kept}

@@ -1,11 +1,11 @@
 -- Which effects may happen, and so which lists of effects are runs of the protocol.
-use Rattle.std.specs.Prelude.{◌≡◌, ◌≢◌, ◌⊎◌, ℕ, ◌<◌, Bool, true, List, [], ◌∷◌, Option, None, Some}
+use Rattle.std.specs.Prelude.{◌≡◌, ◌≢◌, ◌⊎◌, ℕ, ◌<◌, true, List, [], ◌∷◌, Option, None, Some}
 use Rattle.txn_core.specs.declared.stamp.Stamp.{Stamp}
 use Rattle.txn_core.specs.declared.fate.Fate.TheVariants.{Undecided, Committed, Cancelled}
 use Rattle.txn_core.specs.Stamps.{earlier}
 use Rattle.txn_core.specs.Protocol.{IsNew, Protocol}
 use Rattle.txn_core.specs.Effects.{Effect, Wrote, Begun, Prepared, Commits, Cancels, Applied, Released, Finished, Forgot, Changed, Quiet}
-use Rattle.txn_core.specs.World.{Pending, Spot, World, holder, last, action_on, touches, here, world}
+use Rattle.txn_core.specs.World.{Pending, World, holder, last, action_on, touches, here, world}
 
 module _ {K V A F C D : Type 0} (P : Protocol K V A F C D) where
   -- the item is free, was changed before the stamp, and the action can be carried out; or the transaction holds it already

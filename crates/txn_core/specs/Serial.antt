@@ -3,8 +3,8 @@ use Rattle.std.specs.Prelude.{◌≡◌, ℕ, ◌+◌, length, Bool, true, false
 use Rattle.std.specs.List.{find, list_any}
 use Rattle.txn_core.specs.declared.stamp.Stamp.{Stamp}
 use Rattle.txn_core.specs.Stamps.{earlier, single}
-use Rattle.txn_core.specs.Protocol.{Outcome, after, Protocol}
-use Rattle.txn_core.specs.Effects.{Effect, Wrote, Begun, Prepared, Commits, Cancels, Applied, Released, Finished, Forgot, Changed, Quiet}
+use Rattle.txn_core.specs.Protocol.{after, Protocol}
+use Rattle.txn_core.specs.Effects.{Effect, Wrote, Begun, Commits, Cancels, Applied, Changed}
 use Rattle.txn_core.specs.World.{kept_or, on_item, after_action}
 
 -- what stands in the one order: a single write, a transaction whole, a change of the catalog

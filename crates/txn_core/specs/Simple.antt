@@ -1,7 +1,7 @@
 -- One table of numbers under numbers, on which the definitions are tried: the item of a key is in the partition of its rest.
-use Rattle.std.specs.Prelude.{ℕ, ◌%◌, Bool, true, false, nat_eq, nat_le, List, Option, None, Some, is_some, if◌then◌else◌}
+use Rattle.std.specs.Prelude.{ℕ, ◌%◌, true, false, nat_eq, nat_le, Option, None, Some, is_some, if◌then◌else◌}
 use Rattle.txn_core.specs.Protocol.{Outcome, New, Unmet, Protocol}
-use Rattle.txn_core.specs.Service.{Ruling, Carries, Service}
+use Rattle.txn_core.specs.Service.{Carries, Service}
 
 -- an action is a key and a number: 0 deletes the item, 1 checks that it is there, any other number is put
 abbrev pub act : (ℕ × ℕ) → Option ℕ → Outcome ℕ ℕ

@@ -1,7 +1,7 @@
 -- The one table of numbers keeps the laws that are asked of tables.
-use Rattle.std.specs.Prelude.{◌≡◌, ◌⊎◌, ℕ, ◌<◌, ◌≤◌, ◌%◌, Bool, true, false, nat_eq, nat_le, Option, None, refl, if◌then◌else◌}
-use Rattle.std.proofs.Common.{inl, inr, sym, ap, ◌∙◌, arith}
-use Rattle.std.proofs.lemmas.Bool.{cond_both, eqb-true, eq-eqb, leb-true, leb-false, le-leb}
+use Rattle.std.specs.Prelude.{◌≡◌, ◌⊎◌, ℕ, ◌<◌, ◌≤◌, ◌%◌, true, nat_eq, nat_le, refl}
+use Rattle.std.proofs.Common.{inl, inr, sym, ap, arith}
+use Rattle.std.proofs.lemmas.Bool.{cond_both, eqb-true, eq-eqb, leb-true, leb-false}
 use Rattle.txn_core.specs.Protocol.{IsLawful}
 use Rattle.txn_core.specs.Service.{IsServiceLawful}
 use Rattle.txn_core.specs.Simple.{protocol, service}

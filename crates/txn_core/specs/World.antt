@@ -5,7 +5,7 @@ use Rattle.txn_core.specs.declared.stamp.Stamp.{Stamp}
 use Rattle.txn_core.specs.declared.fate.Fate.{Fate}
 use Rattle.txn_core.specs.declared.fate.Fate.TheVariants.{Undecided, Committed, Cancelled}
 use Rattle.txn_core.specs.Stamps.{later, single}
-use Rattle.txn_core.specs.Protocol.{Outcome, after, Protocol}
+use Rattle.txn_core.specs.Protocol.{after, Protocol}
 use Rattle.txn_core.specs.Effects.{Effect, Wrote, Begun, Prepared, Commits, Cancels, Applied, Released, Finished, Forgot, Changed, Quiet}
 
 -- a pending: the transaction that holds an item, its stamp, and the item as it will be

@@ -1,8 +1,7 @@
-use expr_lexer::Seq;
-
 use crate::fate::Fate;
 use crate::reason::Reason;
 use crate::stamp::Stamp;
+use expr_lexer::Seq;
 
 /// What a cell answers. `V` is what an item holds, `A` an action on one item, `F` why an action can't be evaluated, and
 /// `B` what is told of the catalog.

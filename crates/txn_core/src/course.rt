@@ -61,10 +61,11 @@ impl Course {
             Fate::Undecided if self.is_refused => Move::Cancel,
             Fate::Undecided => Move::Commit,
             Fate::Committed if self.done < u64::from(self.actions) => Move::Apply(self.done as u32),
-            Fate::Cancelled if self.done < u64::from(self.actions) => Move::Release(self.done as u32),
+            Fate::Cancelled if self.done < u64::from(self.actions) => Move::Release(
+                self.done as u32,
+            ),
             Fate::Committed | Fate::Cancelled if self.done == u64::from(self.actions) => Move::Done,
-            Fate::Committed | Fate::Cancelled => Move::End,
-            Fate::Gone => Move::End,
+            Fate::Committed | Fate::Cancelled | Fate::Gone => Move::End,
         }
     }
 
@@ -94,7 +95,9 @@ impl Course {
     pub fn took_done(&mut self)
         ensures { (told : Told) → IsToldSo self.old told → IsToldSo self.new (with_done told) }
     {
-        if matches!(self.fate, Fate::Committed | Fate::Cancelled) && self.done <= u64::from(self.actions) {
+        if matches!(self.fate, Fate::Committed | Fate::Cancelled)
+            && self.done <= u64::from(self.actions)
+        {
             self.done += 1;
         }
     }

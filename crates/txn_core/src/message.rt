@@ -1,7 +1,6 @@
-use expr_lexer::{Seq, Text};
-
 use crate::reason::Reason;
 use crate::stamp::Stamp;
+use expr_lexer::{Seq, Text};
 
 /// What is asked of a cell. `K` says which item, `V` what an item holds, `A` is an action on one item, `F` why an action
 /// can't be evaluated, `D` a command that changes the catalog, and `Q` a question about it.

@@ -1,21 +1,27 @@
 ghost use Rattle.txn_core.specs.Simple.{service};
 ghost use Rattle.txn_core.specs.SimpleLaws.{service_lawful};
 
-use std::test::Fail;
-
 use crate::{Course, Fate, Move, Rules, Stamp, Verdict, laws};
+use std::test::Fail;
 
 /// One table of numbers under numbers, with actions that are a key and a number.
 struct Simple;
 
 impl Rules for Simple {
     type Key = u64;
+
     type Value = u64;
+
     type Action = (u64, u64);
+
     type Fault = u64;
+
     type Catalog = u64;
+
     type Command = u64;
+
     type Question = u64;
+
     type Told = u64;
 
     ghost protocol = { service };
@@ -44,9 +50,18 @@ fn laws_hold_of_a_table(rt: HostRuntime) -> Result<(), Fail> {
 
 #[test]
 fn stamps_go_by_moment_then_number(rt: HostRuntime) -> Result<(), Fail> {
-    let early = Stamp { moment: 1, number: 9 };
-    let late = Stamp { moment: 2, number: 3 };
-    let later = Stamp { moment: 2, number: 4 };
+    let early = Stamp {
+        moment: 1,
+        number: 9,
+    };
+    let late = Stamp {
+        moment: 2,
+        number: 3,
+    };
+    let later = Stamp {
+        moment: 2,
+        number: 4,
+    };
     assert!(rt; early < late);
     assert!(rt; late < later);
     Ok(())

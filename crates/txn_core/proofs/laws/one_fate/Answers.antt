@@ -1,5 +1,4 @@
-use Rattle.std.proofs.Common.{◌∷◌, subst, ap}
-use Rattle.txn_core.specs.Effects.{Commits}
+use Rattle.std.proofs.Common.{◌∷◌, subst}
 use Rattle.txn_core.specs.Runs.{IsRun}
 use Rattle.txn_core.specs.History.{effects}
 use Rattle.txn_core.proofs.SerialLaws.{decided_once, stands_once, outcome_at_commit}
