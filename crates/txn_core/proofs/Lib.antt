@@ -1,17 +1,18 @@
-mod Basics
-mod StampLaws
-mod Invariant
-mod Local
-mod Ends
-mod Kept
-mod Readings
-mod SerialLaws
-mod Points
-mod Grows
-mod Bridge
-mod LegalRuns
-mod Causes
-mod Prefix
-mod Versions
-mod TokenLife
+pub mod Basics
+pub mod StampLaws
+pub mod Invariant
+pub mod Local
+pub mod Ends
+pub mod Kept
+pub mod Readings
+pub mod SerialLaws
+pub mod Points
+pub mod Grows
+pub mod Bridge
+pub mod LegalRuns
+pub mod Causes
+pub mod Prefix
+pub mod Versions
+pub mod TokenLife
 mod Rows
+pub mod Drives

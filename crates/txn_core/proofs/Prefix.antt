@@ -17,7 +17,7 @@ use Rattle.txn_core.proofs.Grows.{grows}
 use Rattle.txn_core.proofs.LegalRuns.{legal_facts, legal_run}
 
 -- what was had is had later
-had_more : {K V A F D Q B : Type 0} (test : Message K V A F D Q → Answer V A F B → Bool) (e : Entry K V A F D Q B) (es : List (Entry K V A F D Q B)) → Had test es → Had test (e ∷ es)
+pub had_more : {K V A F D Q B : Type 0} (test : Message K V A F D Q → Answer V A F B → Bool) (e : Entry K V A F D Q B) (es : List (Entry K V A F D Q B)) → Had test es → Had test (e ∷ es)
 had_more test e es h = or_right (test e.message e.answer) (list_any (λ x. test x.message x.answer) es) h
 
 any_more : {X : Type 0} (Q : X → Type 0) (x : X) (xs : List X) → Any Q xs → Any Q (x ∷ xs)
@@ -25,13 +25,13 @@ any_more Q x xs (k, y, lt, is, q) = (suc k, y, omega arith, is, q)
 
 module _ {K V A F C D Q B : Type 0} (S : Service K V A F C D Q B) (law : IsServiceLawful S) (e : Entry K V A F D Q B) (es : List (Entry K V A F D Q B)) (legal : IsLegal S (e ∷ es)) where
   -- the actions and the stamp of a begun number stay
-  same_actions : (n : ℕ) → Had (begins n) es → begun_actions (effects es) n ≡ begun_actions (effects (e ∷ es)) n
+  pub same_actions : (n : ℕ) → Had (begins n) es → begun_actions (effects es) n ≡ begun_actions (effects (e ∷ es)) n
   same_actions n h =
       let run = legal_run S law (e ∷ es) legal in
       let more = grows S.core (world S.core (effects es)) (effect e) run.1 in
       sym (actions_read S.core (effects es) run.0 n) ∙ sym (more.actions n ((legal_facts S law es legal.0).1.begun n h)) ∙ actions_read S.core (effects (e ∷ es)) run n
 
-  same_stamp : (n : ℕ) → Had (begins n) es → begun_stamp (effects es) n ≡ begun_stamp (effects (e ∷ es)) n
+  pub same_stamp : (n : ℕ) → Had (begins n) es → begun_stamp (effects es) n ≡ begun_stamp (effects (e ∷ es)) n
   same_stamp n h =
       let run = legal_run S law (e ∷ es) legal in
       let more = grows S.core (world S.core (effects es)) (effect e) run.1 in

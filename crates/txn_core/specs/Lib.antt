@@ -1,4 +1,3 @@
-pub mod Course
 pub mod Stamps
 pub mod Protocol
 pub mod Service
@@ -10,6 +9,8 @@ pub mod Answers
 pub mod History
 pub mod Legal
 pub mod Tokens
+pub mod Course
+pub mod Driver
 pub mod Laws
 pub mod Simple
 pub mod SimpleLaws

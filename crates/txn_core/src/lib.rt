@@ -6,13 +6,13 @@
 //! commit, no Done before every Apply. The module [`laws`] has what holds of every legal history, whatever the schedule;
 //! each law is the contract of a function without parameters, generic over [`Rules`], so that no table is named here.
 //!
-//! A [`Course`] tells the driver of one transaction what comes next. It is a plain value, and what it was told so far
-//! decides what it says.
+//! A [`Course`] tells the driver of one transaction what comes next. It is a plain value, what it was told so far decides
+//! what it says, and [`laws::course_is_allowed`] says that a driver who follows it sends nothing that is forbidden.
 //!
 //! The definitions stand in `specs/` in reading order: `Protocol` and `Service` (what is asked of tables), `Effects`,
 //! `World` and `Runs` (what entries change, and when that may happen), `Serial` (the one order and its tables),
-//! `Answers`, `History` and `Legal` (legal histories), `Tokens`, and `Laws`. `Simple` is one table of numbers on which
-//! they are tried; `proofs/Rows.antt` has worked histories, legal and not.
+//! `Answers`, `History` and `Legal` (legal histories), `Tokens`, `Course` and `Driver`, and `Laws`. `Simple` is one table
+//! of numbers on which they are tried; `proofs/Rows.antt` has worked histories, legal and not.
 //!
 //! Messages here are those of items, of transactions and of the catalog. Pages, lists of pendings and the feed of
 //! indexes are not among them yet; they change nothing that the laws speak of.

@@ -43,6 +43,7 @@ fn laws_hold_of_a_table(rt: HostRuntime) -> Result<(), Fail> {
     laws::one_point_reads::<Simple>();
     laws::real_causes::<Simple>();
     laws::seen_is_enough::<Simple>();
+    laws::course_is_allowed::<Simple>();
     assert!(rt; Simple::is_same(&3, &3));
     assert!(rt; !Simple::is_same(&3, &4));
     Ok(())
