@@ -1,5 +1,5 @@
 -- Counting an entry keeps the rule: a cell of the entry is held by this seat, so no one else waits at its value or knows it.
-use Rattle.std.proofs.Common.{◌≡◌, ◌≢◌, ℕ, ◌+◌, ◌%◌, ◌^◌, ◌<◌, ◌≤◌, Bool, true, false, List, [], ◌∷◌, ◌++◌, length, set, Option, None, refl, sym, ap, ◌∙◌, subst, arith, length-set, length-append, get_or-set_other, get_or-set_same}
+use Rattle.std.proofs.Common.{◌≡◌, ◌≢◌, ℕ, ◌+◌, ◌*◌, ◌%◌, ◌^◌, ◌<◌, ◌≤◌, Bool, true, false, List, [], ◌∷◌, ◌++◌, length, set, Option, None, refl, sym, ap, ◌∙◌, subst, arith, length-set, length-append, get_or-set_other, get_or-set_same}
 use Rattle.std.specs.Prelude.{slice_index}
 use mathlib.Core.Option.{some, some-ne-none, some-injective, none}
 use mathlib.Core.Option as maybe
@@ -54,10 +54,10 @@ module _ {C E : Type 0} (by : E → ℕ) (cell : E → Option ℕ) (stands : ℕ
     same_word i pos = get_or-set_other s.words 0 i ((slice_index s.words 0 + 1) % 2 ^ 64) 0 (λ z. omega arith)
 
     drawn : (d : ℕ) → drawn_at words' d ≡ drawn_at s.words d
-    drawn d = same_word (1 + d) (omega arith)
+    drawn d = same_word (16 + 16 * d) (omega arith)
 
-    served : (d : ℕ) → served_at n words' d ≡ served_at n s.words d
-    served d = same_word ((1 + n) + d) (omega arith)
+    served : (d : ℕ) → served_at words' d ≡ served_at s.words d
+    served d = same_word (24 + 16 * d) (omega arith)
 
     -- a cell of which this seat has no turn has no new entry
     quiet : (d : ℕ) → d < n → ((u : ℕ) → Has v.held (ticket d u) → ⊥) → at_cell cell d log' ≡ at_cell cell d r.log
@@ -68,7 +68,7 @@ module _ {C E : Type 0} (by : E → ℕ) (cell : E → Option ℕ) (stands : ℕ
         not_of true is = let h = ours d lt is in absurd (none_held h.0 h.1)
 
     -- the turn of a ticket that is served is not another's
-    other_turn : (j c a : ℕ) → j ≢ id → a ≡ served_at n s.words c → r.owner c a ≡ j → (u : ℕ) → Has v.held (ticket c u) → ⊥
+    other_turn : (j c a : ℕ) → j ≢ id → a ≡ served_at s.words c → r.owner c a ≡ j → (u : ℕ) → Has v.held (ticket c u) → ⊥
     other_turn j c a ne turn o u m = let x = (r.seats id v at).held (ticket c u) m in ne (sym o ∙ (ap (r.owner c) (turn ∙ sym x.turn) ∙ x.mine))
 
     stays_home : (c : ℕ) → at_cell cell c log' ≡ at_cell cell c r.log → Home s.homes r.log c → Home s.homes log' c
@@ -117,7 +117,7 @@ module _ {C E : Type 0} (by : E → ℕ) (cell : E → Option ℕ) (stands : ℕ
     cells' : (d : ℕ) → d < n → Cell words' s.homes (set s.views id w) log' r.owner d
     cells' d below = let k = r.cells d below in let p = served d in let q = drawn d in let o = k.ordered in record {
       ordered = omega arith;
-      at_rest = λ f. let rested : served_at n s.words d ≡ drawn_at s.words d = sym p ∙ (f ∙ q) in
+      at_rest = λ f. let rested : served_at s.words d ≡ drawn_at s.words d = sym p ∙ (f ∙ q) in
           stays_home d (quiet d below (λ u m. let x = (r.seats id v at).held (ticket d u) m in let to = x.to in let turn = x.turn in omega arith)) (k.at_rest rested);
       few = let few = k.few in let same = same_total by cell stands legal n passes s id v w at refl in omega arith;
       somewhere = λ u low high. still_open by cell stands legal n passes s.views id v w at (r.owner d u) (ticket d u) (λ o. o) (k.somewhere u (omega arith) (omega arith));

@@ -54,7 +54,7 @@ module _ {C E : Type 0} (by : E → ℕ) (cell : E → Option ℕ) (stands : ℕ
     T = drawn_at s.words c
 
     abbrev words' : List ℕ
-    words' = set s.words (1 + c) (T + 1)
+    words' = set s.words (16 + 16 * c) (T + 1)
 
     abbrev owner' : ℕ → ℕ → ℕ
     owner' = owned r.owner c T id
@@ -62,14 +62,14 @@ module _ {C E : Type 0} (by : E → ℕ) (cell : E → Option ℕ) (stands : ℕ
     abbrev w : View E
     w = waiting v (ticket c T)
 
-    serves : (d : ℕ) → served_at n words' d ≡ served_at n s.words d
-    serves d = get_or-set_other s.words (1 + c) ((1 + n) + d) (T + 1) 0 (λ e. omega arith)
+    serves : (d : ℕ) → served_at words' d ≡ served_at s.words d
+    serves d = get_or-set_other s.words (16 + 16 * c) (24 + 16 * d) (T + 1) 0 (λ e. omega arith)
 
     drawn_here : drawn_at words' c ≡ T + 1
-    drawn_here = let wide = r.wide in get_or-set_same s.words (1 + c) (T + 1) 0 (omega arith)
+    drawn_here = let wide = r.wide in get_or-set_same s.words (16 + 16 * c) (T + 1) 0 (omega arith)
 
     drawn_else : (d : ℕ) → d ≢ c → drawn_at words' d ≡ drawn_at s.words d
-    drawn_else d ne = get_or-set_other s.words (1 + c) (1 + d) (T + 1) 0 (λ e. ne (omega arith))
+    drawn_else d ne = get_or-set_other s.words (16 + 16 * c) (16 + 16 * d) (T + 1) 0 (λ e. ne (omega arith))
 
     drawn_more : (d : ℕ) → (drawn_at s.words d ≤ drawn_at words' d) × (drawn_at words' d ≤ drawn_at s.words d + 1)
     drawn_more d = dite (ℕ_discrete d c)
@@ -152,17 +152,17 @@ module _ {C E : Type 0} (by : E → ℕ) (cell : E → Option ℕ) (stands : ℕ
     }
 
     kept : v.drew ≡ None → v.drawn + 1 ≤ length v.numbers * most_drawn → Rule record { words = words'; homes = s.homes; views = set s.views id w }
-    kept none_yet room = rebuild by cell stands legal n passes s r id v w at words' s.homes r.log owner' (length-set s.words (1 + c) (T + 1)) refl (get_or-set_other s.words (1 + c) 0 (T + 1) 0 (λ e. omega arith) ∙ r.clock) r.is_legal r.strangers refl
+    kept none_yet room = rebuild by cell stands legal n passes s r id v w at words' s.homes r.log owner' (length-set s.words (16 + 16 * c) (T + 1)) refl (get_or-set_other s.words (16 + 16 * c) 0 (T + 1) 0 (λ e. omega arith) ∙ r.clock) r.is_legal r.strangers refl
         (fits_here room) (λ j u _ e. fits j u (r.seats j u e)) (cells' none_yet)
 
   pub draws : (z : ℕ) → z ≡ n → (c : ℕ) → c < n → (id : ℕ) (m : Me (Option C) (View E)) → m.0.drew ≡ None → m.0.drawn + 1 ≤ length m.0.numbers * most_drawn
-      → Allows (Kept by cell stands legal z passes) n id m (1 + c) (λ x. (x + 1) % 2 ^ 64) (Draws (step n (1 + c) 1 0 none) m)
-  draws z same c lt id m none_yet room = subst (λ (y : ℕ). Allows (Kept by cell stands legal y passes) n id m (1 + c) (λ x. (x + 1) % 2 ^ 64) (Draws (step n (1 + c) 1 0 none) m)) (sym same) (λ s r len at small.
+      → Allows (Kept by cell stands legal z passes) n id m (16 + 16 * c) (λ x. (x + 1) % 2 ^ 64) (Draws (step n (16 + 16 * c) 1 0 none) m)
+  draws z same c lt id m none_yet room = subst (λ (y : ℕ). Allows (Kept by cell stands legal y passes) n id m (16 + 16 * c) (λ x. (x + 1) % 2 ^ 64) (Draws (step n (16 + 16 * c) 1 0 none) m)) (sym same) (λ s r len at small.
       let few : drawn_at s.words c ≤ 4573968371548160 = few_drawn by cell stands legal n passes s r c lt in
       let fits : drawn_at s.words c + 1 ≡ (drawn_at s.words c + 1) % 2 ^ 64 = omega arith in (
         waiting m.0 (ticket c (drawn_at s.words c)),
         keeps,
         tt,
-        subst (λ (x : ℕ). Rule record { words = set s.words (1 + c) x; homes = s.homes; views = set s.views id (waiting m.0 (ticket c (drawn_at s.words c))) }) fits (kept s r c lt id m.0 at none_yet room),
+        subst (λ (x : ℕ). Rule record { words = set s.words (16 + 16 * c) x; homes = s.homes; views = set s.views id (waiting m.0 (ticket c (drawn_at s.words c))) }) fits (kept s r c lt id m.0 at none_yet room),
         (omega arith, λ d e. let f : c ≡ d = omega arith in λ i. (waiting m.0 (ticket (f i) (drawn_at s.words c)), m.1)),
       ))

@@ -1,5 +1,5 @@
 -- The rule as a table is made, and what it says as it is closed.
-use Rattle.std.proofs.Common.{◌≡◌, ℕ, zero, suc, ◌+◌, ◌<◌, ◌≤◌, List, [], ◌∷◌, length, Option, Some, None, refl, sym, ap, ◌∙◌, subst, ⊎_elim, arith}
+use Rattle.std.proofs.Common.{◌≡◌, ℕ, zero, suc, ◌+◌, ◌*◌, ◌<◌, ◌≤◌, List, [], ◌∷◌, length, Option, Some, None, refl, sym, ap, ◌∙◌, subst, ⊎_elim, arith}
 use Rattle.std.specs.Prelude.{slice_index}
 use mathlib.Core.Logic.{dite}
 use mathlib.Core.Option.{some, some-ne-none, some-injective, none}
@@ -52,7 +52,7 @@ module _ {C E : Type 0} (by : E → ℕ) (cell : E → Option ℕ) (stands : ℕ
   first_only f v zero e = (refl, some-injective f v e)
   first_only f v (suc j) e = absurd (some-ne-none v (sym e))
 
-  opens : (words : List ℕ) (xs : List (Option C)) → passes ≤ 64 → n ≤ 65 → length words ≡ 1 + (n + n) → length xs ≡ n → ((i : ℕ) → slice_index words i ≡ 0) → legal n [] → EachStands xs [] → Rule (opening words xs (starting passes))
+  opens : (words : List ℕ) (xs : List (Option C)) → passes ≤ 64 → n ≤ 65 → length words ≡ 16 + 16 * n → length xs ≡ n → ((i : ℕ) → slice_index words i ≡ 0) → legal n [] → EachStands xs [] → Rule (opening words xs (starting passes))
   opens words xs few_passes few_cells wide deep blank starts each = record {
     log = [];
     owner = λ _ _. 0;
@@ -76,7 +76,7 @@ module _ {C E : Type 0} (by : E → ℕ) (cell : E → Option ℕ) (stands : ℕ
       drew = λ t f. absurd (Some-ne-None t (sym f));
       held = λ t m. absurd m;
     };
-    cells = λ c lt. let a = blank (1 + c) in let b = blank ((1 + n) + c) in record {
+    cells = λ c lt. let a = blank (16 + 16 * c) in let b = blank (24 + 16 * c) in record {
       ordered = omega arith;
       at_rest = λ _. let h = each c lt in record { value = h.0; there = at_map some xs c (Some h.0) h.1; stands_for = h.2 };
       few = omega arith;
@@ -84,14 +84,14 @@ module _ {C E : Type 0} (by : E → ℕ) (cell : E → Option ℕ) (stands : ℕ
     };
   }
 
-  pub opens_at : (z : ℕ) → z ≡ n → (words : List ℕ) (xs : List (Option C)) → passes ≤ 64 → n ≤ 65 → length words ≡ 1 + (n + n) → length xs ≡ n → ((i : ℕ) → slice_index words i ≡ 0) → legal n [] → EachStands xs []
+  pub opens_at : (z : ℕ) → z ≡ n → (words : List ℕ) (xs : List (Option C)) → passes ≤ 64 → n ≤ 65 → length words ≡ 16 + 16 * n → length xs ≡ n → ((i : ℕ) → slice_index words i ≡ 0) → legal n [] → EachStands xs []
       → Kept by cell stands legal z passes (opening words xs (starting passes))
   opens_at z same words xs few_passes few_cells wide deep blank starts each = subst (λ (y : ℕ). Kept by cell stands legal y passes (opening words xs (starting passes))) (sym same) (opens words xs few_passes few_cells wide deep blank starts each)
 
   -- who has all passes and no ticket finds each value in its slot
   all_home : (s : St) (r : Rule s) (id : ℕ) (v : View E) → get_elem? s.views id ≡ some v → ((p : ℕ) → p < passes → Has v.numbers p) → v.drew ≡ None → v.held ≡ [] → (c : ℕ) → c < n → Home s.homes r.log c
-  all_home s r id v at all drew held c lt = let k = r.cells c lt in let o = k.ordered in dite (dec_lt (served_at n s.words c) (drawn_at s.words c))
-      (λ more. let h = k.somewhere (served_at n s.words c) (omega arith) more in absurd (nowhere (r.owner c (served_at n s.words c)) h.0 h.1 (ticket c (served_at n s.words c)) h.2))
+  all_home s r id v at all drew held c lt = let k = r.cells c lt in let o = k.ordered in dite (dec_lt (served_at s.words c) (drawn_at s.words c))
+      (λ more. let h = k.somewhere (served_at s.words c) (omega arith) more in absurd (nowhere (r.owner c (served_at s.words c)) h.0 h.1 (ticket c (served_at s.words c)) h.2))
       (λ rested. k.at_rest (omega arith))
     where
       none_open : (t : Ticket) → (u : View E) → u.drew ≡ None → u.held ≡ [] → Open u t → ⊥

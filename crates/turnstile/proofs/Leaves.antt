@@ -1,5 +1,5 @@
 -- Serving the next ticket keeps the rule: the value goes back to its slot.
-use Rattle.std.proofs.Common.{◌≡◌, ◌≢◌, ℕ, ◌+◌, ◌<◌, List, ◌∷◌, drop, set, Option, Some, None, refl, sym, ap, ◌∙◌, subst, inl, inr, ⊎_elim, arith, length-set, get_or-set_other, get_or-set_same}
+use Rattle.std.proofs.Common.{◌≡◌, ◌≢◌, ℕ, ◌+◌, ◌*◌, ◌<◌, List, ◌∷◌, drop, set, Option, Some, None, refl, sym, ap, ◌∙◌, subst, inl, inr, ⊎_elim, arith, length-set, get_or-set_other, get_or-set_same}
 use mathlib.Core.Logic.{dite}
 use mathlib.Core.Option.{some, some-ne-none, some-injective, none}
 use mathlib.Core.Option as maybe
@@ -43,7 +43,7 @@ module _ {C E : Type 0} (by : E → ℕ) (cell : E → Option ℕ) (stands : ℕ
   module _ (s : St) (r : Rule s) (id : ℕ) (v : View E) (at : get_elem? s.views id ≡ some v) (t : Ticket) (ts : List Ticket) (held : v.held ≡ t ∷ ts) (idle : v.drew ≡ None)
       (alone : (u : Ticket) → Has ts u → u.cell ≢ t.cell) (value : C) (right : stands n t.cell value (at_cell cell t.cell v.front)) where
     abbrev words' : List ℕ
-    words' = set s.words ((1 + n) + t.cell) (t.number + 1)
+    words' = set s.words (24 + 16 * t.cell) (t.number + 1)
 
     abbrev homes' : Homes
     homes' = set s.homes t.cell (some (Some value))
@@ -61,13 +61,13 @@ module _ {C E : Type 0} (by : E → ℕ) (cell : E → Option ℕ) (stands : ℕ
     a = (r.seats id v at).held t has
 
     drawn : (d : ℕ) → d < n → drawn_at words' d ≡ drawn_at s.words d
-    drawn d lt = get_or-set_other s.words ((1 + n) + t.cell) (1 + d) (t.number + 1) 0 (λ e. omega arith)
+    drawn d lt = get_or-set_other s.words (24 + 16 * t.cell) (16 + 16 * d) (t.number + 1) 0 (λ e. omega arith)
 
-    served_here : served_at n words' t.cell ≡ t.number + 1
-    served_here = let wide = r.wide in let below = a.below in get_or-set_same s.words ((1 + n) + t.cell) (t.number + 1) 0 (omega arith)
+    served_here : served_at words' t.cell ≡ t.number + 1
+    served_here = let wide = r.wide in let below = a.below in get_or-set_same s.words (24 + 16 * t.cell) (t.number + 1) 0 (omega arith)
 
-    served_else : (d : ℕ) → d ≢ t.cell → served_at n words' d ≡ served_at n s.words d
-    served_else d ne = get_or-set_other s.words ((1 + n) + t.cell) ((1 + n) + d) (t.number + 1) 0 (λ e. ne (omega arith))
+    served_else : (d : ℕ) → d ≢ t.cell → served_at words' d ≡ served_at s.words d
+    served_else d ne = get_or-set_other s.words (24 + 16 * t.cell) (24 + 16 * d) (t.number + 1) 0 (λ e. ne (omega arith))
 
     back : Home homes' r.log t.cell
     back = let deep = r.deep in let below = a.below in record {
@@ -98,7 +98,7 @@ module _ {C E : Type 0} (by : E → ℕ) (cell : E → Option ℕ) (stands : ℕ
       drew = λ b f. let x = h.drew b f in let q = drawn b.cell x.below in let from = x.from in let to = x.to in record {
         below = x.below;
         from = dite (ℕ_discrete b.cell t.cell)
-            (λ c. let here = served_here in let p : served_at n words' b.cell ≡ served_at n words' t.cell = ap (served_at n words') c in let q : served_at n s.words b.cell ≡ served_at n s.words t.cell = ap (served_at n s.words) c in
+            (λ c. let here = served_here in let p : served_at words' b.cell ≡ served_at words' t.cell = ap (served_at words') c in let q : served_at s.words b.cell ≡ served_at s.words t.cell = ap (served_at s.words) c in
             let turn = a.turn in let other : b.number ≢ t.number = λ g. ne (ours j b.cell b.number c g x.mine) in omega arith)
             (λ c. let p = served_else b.cell c in omega arith);
         to = omega arith;
@@ -106,7 +106,7 @@ module _ {C E : Type 0} (by : E → ℕ) (cell : E → Option ℕ) (stands : ℕ
         first = λ g. dite (ℕ_discrete b.cell t.cell) (λ c. home_at b.cell c) (λ c. elsewhere b.cell c (x.first (g ∙ served_else b.cell c)));
       };
       held = λ b m. let x = h.held b m in let q = drawn b.cell x.below in let to = x.to in
-          let c : b.cell ≢ t.cell = λ c. ne (ours j b.cell b.number c (x.turn ∙ (ap (served_at n s.words) c ∙ sym a.turn)) x.mine) in record {
+          let c : b.cell ≢ t.cell = λ c. ne (ours j b.cell b.number c (x.turn ∙ (ap (served_at s.words) c ∙ sym a.turn)) x.mine) in record {
             below = x.below;
             turn = x.turn ∙ sym (served_else b.cell c);
             to = omega arith;
@@ -142,7 +142,7 @@ module _ {C E : Type 0} (by : E → ℕ) (cell : E → Option ℕ) (stands : ℕ
     cells' : (d : ℕ) → d < n → Cell words' homes' (set s.views id w) r.log r.owner d
     cells' d below = let k = r.cells d below in let q = drawn d below in let few = k.few in let same = same_total by cell stands legal n passes s id v w at refl in let o = k.ordered in
         dite (ℕ_discrete d t.cell)
-        (λ c. let here = served_here in let p : served_at n words' d ≡ served_at n words' t.cell = ap (served_at n words') c in let p' : served_at n s.words d ≡ served_at n s.words t.cell = ap (served_at n s.words) c in
+        (λ c. let here = served_here in let p : served_at words' d ≡ served_at words' t.cell = ap (served_at words') c in let p' : served_at s.words d ≡ served_at s.words t.cell = ap (served_at s.words) c in
         let q' : drawn_at s.words d ≡ drawn_at s.words t.cell = ap (drawn_at s.words) c in let to = a.to in let turn = a.turn in record {
           ordered = omega arith;
           at_rest = λ e. home_at d c;
@@ -158,21 +158,21 @@ module _ {C E : Type 0} (by : E → ℕ) (cell : E → Option ℕ) (stands : ℕ
 
     kept : Rule record { words = words'; homes = homes'; views = set s.views id w }
     kept = rebuild by cell stands legal n passes s r id v w at words' homes' r.log r.owner (length-set s.words _ _) (length-set s.homes t.cell _)
-        (get_or-set_other s.words ((1 + n) + t.cell) 0 (t.number + 1) 0 (λ e. omega arith) ∙ r.clock) r.is_legal r.strangers refl fits_here (λ j u ne f. fits j u ne (r.seats j u f)) cells'
+        (get_or-set_other s.words (24 + 16 * t.cell) 0 (t.number + 1) 0 (λ e. omega arith) ∙ r.clock) r.is_legal r.strangers refl fits_here (λ j u ne f. fits j u ne (r.seats j u f)) cells'
 
   pub leaves : (z : ℕ) → z ≡ n → (id : ℕ) (m : Me (Option C) (View E)) (t : Ticket) (ts : List Ticket) → m.0.held ≡ t ∷ ts → m.0.drew ≡ None → ((u : Ticket) → Has ts u → u.cell ≢ t.cell)
       → (value : C) (carried : List (ℕ × Option C)) → m.1 ≡ (t.cell, Some value) ∷ carried → stands n t.cell value (at_cell cell t.cell m.0.front)
-      → Allows (Kept by cell stands legal z passes) n id m ((1 + n) + t.cell) (λ _. t.number + 1) (λ _. Leaves (step n ((1 + n) + t.cell) (t.number + 1) 0 none) m (t.number + 1))
-  leaves z same id m t ts held idle alone value carried has right = subst (λ (y : ℕ). Allows (Kept by cell stands legal y passes) n id m ((1 + n) + t.cell) (λ _. t.number + 1) (λ _. Leaves (step n ((1 + n) + t.cell) (t.number + 1) 0 none) m (t.number + 1))) (sym same) (λ s r len at small. (
+      → Allows (Kept by cell stands legal z passes) n id m (24 + 16 * t.cell) (λ _. t.number + 1) (λ _. Leaves (step n (24 + 16 * t.cell) (t.number + 1) 0 none) m (t.number + 1))
+  leaves z same id m t ts held idle alone value carried has right = subst (λ (y : ℕ). Allows (Kept by cell stands legal y passes) n id m (24 + 16 * t.cell) (λ _. t.number + 1) (λ _. Leaves (step n (24 + 16 * t.cell) (t.number + 1) 0 none) m (t.number + 1))) (sym same) (λ s r len at small. (
     outside m.0,
     gives,
     tt,
-    subst (λ (l : List (ℕ × Option C)). Rule record { words = set s.words ((1 + n) + t.cell) (t.number + 1); homes = put_back s.homes l; views = set s.views id (outside m.0) }) (sym has) (kept s r id m.0 at t ts held idle alone value right),
+    subst (λ (l : List (ℕ × Option C)). Rule record { words = set s.words (24 + 16 * t.cell) (t.number + 1); homes = put_back s.homes l; views = set s.views id (outside m.0) }) (sym has) (kept s r id m.0 at t ts held idle alone value right),
     refl,
   ))
 
   pub leaves_at : (z : ℕ) → z ≡ n → (id : ℕ) (m : Me (Option C) (View E)) (t : Ticket) (ts : List Ticket) → m.0.held ≡ t ∷ ts → m.0.drew ≡ None → ((u : Ticket) → Has ts u → u.cell ≢ t.cell)
-      → (value : C) (carried : List (ℕ × Option C)) → m.1 ≡ (t.cell, Some value) ∷ carried → stands n t.cell value (at_cell cell t.cell m.0.front) → (i : ℕ) → i ≡ (1 + n) + t.cell
+      → (value : C) (carried : List (ℕ × Option C)) → m.1 ≡ (t.cell, Some value) ∷ carried → stands n t.cell value (at_cell cell t.cell m.0.front) → (i : ℕ) → i ≡ 24 + 16 * t.cell
       → Allows (Kept by cell stands legal z passes) n id m i (λ _. t.number + 1) (λ _. Leaves (step n i (t.number + 1) 0 none) m (t.number + 1))
   leaves_at z same id m t ts held idle alone value carried has right i is = subst (λ (k : ℕ). Allows (Kept by cell stands legal z passes) n id m k (λ _. t.number + 1) (λ _. Leaves (step n k (t.number + 1) 0 none) m (t.number + 1))) (sym is)
       (leaves z same id m t ts held idle alone value carried has right)

@@ -1,5 +1,5 @@
 -- Looking whose turn it is keeps the rule, and who finds its own takes the value and learns the whole history.
-use Rattle.std.proofs.Common.{◌≡◌, ◌≢◌, ℕ, ◌+◌, ◌<◌, List, ◌∷◌, set, Option, Some, refl, sym, ap, ◌∙◌, subst, inl, inr, ⊎_elim, arith, length-set}
+use Rattle.std.proofs.Common.{◌≡◌, ◌≢◌, ℕ, ◌+◌, ◌*◌, ◌<◌, List, ◌∷◌, set, Option, Some, refl, sym, ap, ◌∙◌, subst, inl, inr, ⊎_elim, arith, length-set}
 use Rattle.std.specs.Prelude.{slice_index}
 use mathlib.Core.Logic.{dite}
 use mathlib.Core.Option.{some, some-ne-none, some-injective, none}
@@ -42,7 +42,7 @@ module _ {C E : Type 0} (by : E → ℕ) (cell : E → Option ℕ) (stands : ℕ
   abbrev Cell : List ℕ → Homes → List (View E) → List E → (ℕ → ℕ → ℕ) → ℕ → Type 0
   Cell = CellKept by cell stands legal n passes
 
-  module _ (s : St) (r : Rule s) (id : ℕ) (v : View E) (at : get_elem? s.views id ≡ some v) (t : Ticket) (drew : v.drew ≡ Some t) (now : t.number ≡ served_at n s.words t.cell) where
+  module _ (s : St) (r : Rule s) (id : ℕ) (v : View E) (at : get_elem? s.views id ≡ some v) (t : Ticket) (drew : v.drew ≡ Some t) (now : t.number ≡ served_at s.words t.cell) where
     abbrev homes' : Homes
     homes' = set s.homes t.cell none
 
@@ -50,8 +50,8 @@ module _ {C E : Type 0} (by : E → ℕ) (cell : E → Option ℕ) (stands : ℕ
     w = inside v t r.log
 
     -- who has the ticket that is served is this seat
-    ours : (j c u : ℕ) → c ≡ t.cell → u ≡ served_at n s.words c → r.owner c u ≡ j → j ≡ id
-    ours j c u e f o = let x = (r.seats id v at).drew t drew in sym o ∙ ((λ i. r.owner (e i) ((f ∙ (ap (served_at n s.words) e ∙ sym now)) i)) ∙ x.mine)
+    ours : (j c u : ℕ) → c ≡ t.cell → u ≡ served_at s.words c → r.owner c u ≡ j → j ≡ id
+    ours j c u e f o = let x = (r.seats id v at).drew t drew in sym o ∙ ((λ i. r.owner (e i) ((f ∙ (ap (served_at s.words) e ∙ sym now)) i)) ∙ x.mine)
 
     elsewhere : (c : ℕ) → c ≢ t.cell → Home s.homes r.log c → Home homes' r.log c
     elsewhere c ne h = record { value = h.value; there = set_else s.homes t.cell c none ne ∙ h.there; stands_for = h.stands_for }
@@ -96,7 +96,7 @@ module _ {C E : Type 0} (by : E → ℕ) (cell : E → Option ℕ) (stands : ℕ
     cells' : (d : ℕ) → d < n → Cell s.words homes' (set s.views id w) r.log r.owner d
     cells' d below = let k = r.cells d below in let x = (r.seats id v at).drew t drew in let to = x.to in record {
       ordered = k.ordered;
-      at_rest = λ e. elsewhere d (λ f. let a : drawn_at s.words d ≡ drawn_at s.words t.cell = ap (drawn_at s.words) f in let b : served_at n s.words d ≡ served_at n s.words t.cell = ap (served_at n s.words) f in omega arith) (k.at_rest e);
+      at_rest = λ e. elsewhere d (λ f. let a : drawn_at s.words d ≡ drawn_at s.words t.cell = ap (drawn_at s.words) f in let b : served_at s.words d ≡ served_at s.words t.cell = ap (served_at s.words) f in omega arith) (k.at_rest e);
       few = let few = k.few in let same = same_total by cell stands legal n passes s id v w at refl in omega arith;
       somewhere = λ u low high. still_open by cell stands legal n passes s.views id v w at (r.owner d u) (ticket d u) (⊎_elim (λ e. inr (inl (Some-injective _ _ (sym drew ∙ e)))) (λ m. inr (inr m))) (k.somewhere u low high);
     }
@@ -107,12 +107,12 @@ module _ {C E : Type 0} (by : E → ℕ) (cell : E → Option ℕ) (stands : ℕ
   abbrev Told : (m : Me (Option C) (View E)) → ℕ → ℕ → Me (Option C) (View E) → Type 0
   Told m i x m' = Looks by cell stands legal (step n i 0 0 none) m x m'
 
-  pub looks : (z : ℕ) → z ≡ n → (id : ℕ) (m : Me (Option C) (View E)) (t : Ticket) → m.0.drew ≡ Some t → (i : ℕ) → i ≡ (1 + n) + t.cell
+  pub looks : (z : ℕ) → z ≡ n → (id : ℕ) (m : Me (Option C) (View E)) (t : Ticket) → m.0.drew ≡ Some t → (i : ℕ) → i ≡ 24 + 16 * t.cell
       → Allows (Kept by cell stands legal z passes) n id m i (λ x. x) (Looks by cell stands legal (step n i 0 0 none) m)
   looks z same id m t drew i is = subst (λ (y : ℕ). Allows (Kept by cell stands legal y passes) n id m i (λ x. x) (Looks by cell stands legal (step n i 0 0 none) m)) (sym same) (λ s r len at small.
       let x = (r.seats id m.0 at).drew t drew in
-      let found : slice_index s.words i ≡ served_at n s.words t.cell = ap (λ k. slice_index s.words k) is in
-      dite (ℕ_discrete t.number (served_at n s.words t.cell))
+      let found : slice_index s.words i ≡ served_at s.words t.cell = ap (λ k. slice_index s.words k) is in
+      dite (ℕ_discrete t.number (served_at s.words t.cell))
       (λ now. let home = x.first now in (
         inside m.0 t r.log,
         takes t.cell (Some home.value),

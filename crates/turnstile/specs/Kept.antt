@@ -1,4 +1,4 @@
--- The rule of the table. Word 0 is the clock, 1 + c the next ticket of the cell c, and (1 + n) + c the ticket that has its turn. The slot c holds the cell's value while no one has the turn.
+-- The rule of the table. Word 0 is the clock, 1 + c the next ticket of the cell c, and 24 + 16 * c the ticket that has its turn. The slot c holds the cell's value while no one has the turn.
 use Rattle.std.specs.Prelude.{◌≡◌, ℕ, suc, ◌+◌, ◌*◌, ◌%◌, ◌^◌, ◌<◌, ◌≤◌, ◌⊎◌, List, [], ◌∷◌, ◌++◌, length, slice_index, Option, Some, None}
 use mathlib.Core.Option.{some}
 use mathlib.Core.Option as maybe
@@ -16,10 +16,10 @@ abbrev pub ticket : ℕ → ℕ → Ticket
 ticket c t = record { cell = c; number = t }
 
 abbrev pub drawn_at : List ℕ → ℕ → ℕ
-drawn_at words c = slice_index words (1 + c)
+drawn_at words c = slice_index words (16 + 16 * c)
 
-abbrev pub served_at : ℕ → List ℕ → ℕ → ℕ
-served_at n words c = slice_index words ((1 + n) + c)
+abbrev pub served_at : List ℕ → ℕ → ℕ
+served_at words c = slice_index words (24 + 16 * c)
 
 abbrev pub total : {A : Type 0} → (A → ℕ) → List A → ℕ
 total f [] = 0
@@ -51,15 +51,15 @@ module _ {C E : Type 0} (by : E → ℕ) (cell : E → Option ℕ) (stands : ℕ
   -- the seat id waits with this ticket
   pub record Waits (words : List ℕ) (homes : List (maybe.Option (Option C))) (log : List E) (owner : ℕ → ℕ → ℕ) (id : ℕ) (t : Ticket) : Type 0 where
     pub below : t.cell < n
-    pub from : served_at n words t.cell ≤ t.number
+    pub from : served_at words t.cell ≤ t.number
     pub to : t.number < drawn_at words t.cell
     pub mine : owner t.cell t.number ≡ id
-    pub first : t.number ≡ served_at n words t.cell → AtHome homes log t.cell
+    pub first : t.number ≡ served_at words t.cell → AtHome homes log t.cell
 
   -- the seat id has the turn of this ticket, and knows all entries of its cell
   pub record Holds (words : List ℕ) (log : List E) (owner : ℕ → ℕ → ℕ) (id : ℕ) (front : List E) (t : Ticket) : Type 0 where
     pub below : t.cell < n
-    pub turn : t.number ≡ served_at n words t.cell
+    pub turn : t.number ≡ served_at words t.cell
     pub to : t.number < drawn_at words t.cell
     pub mine : owner t.cell t.number ≡ id
     pub known : at_cell cell t.cell log ≡ at_cell cell t.cell front
@@ -84,10 +84,10 @@ module _ {C E : Type 0} (by : E → ℕ) (cell : E → Option ℕ) (stands : ℕ
     pub held : (t : Ticket) → Has v.held t → Holds words log owner id v.front t
 
   pub record CellKept (words : List ℕ) (homes : List (maybe.Option (Option C))) (views : List (View E)) (log : List E) (owner : ℕ → ℕ → ℕ) (c : ℕ) : Type 0 where
-    pub ordered : served_at n words c ≤ drawn_at words c
-    pub at_rest : served_at n words c ≡ drawn_at words c → AtHome homes log c
+    pub ordered : served_at words c ≤ drawn_at words c
+    pub at_rest : served_at words c ≡ drawn_at words c → AtHome homes log c
     pub few : drawn_at words c ≤ total drawn_of views
-    pub somewhere : (t : ℕ) → served_at n words c ≤ t → t < drawn_at words c → (v : View E) × (get_elem? views (owner c t) ≡ some v) × Open v (ticket c t)
+    pub somewhere : (t : ℕ) → served_at words c ≤ t → t < drawn_at words c → (v : View E) × (get_elem? views (owner c t) ≡ some v) × Open v (ticket c t)
 
   pub record Kept (s : State (Option C) (View E)) : Type 0 where
     pub log : List E
@@ -95,7 +95,7 @@ module _ {C E : Type 0} (by : E → ℕ) (cell : E → Option ℕ) (stands : ℕ
     pub owner : ℕ → ℕ → ℕ
     pub holder : ℕ → ℕ
     pub sized : (passes ≤ 64) × (n ≤ 65)
-    pub wide : length s.words ≡ 1 + (n + n)
+    pub wide : length s.words ≡ 16 + 16 * n
     pub deep : length s.homes ≡ n
     pub clock : slice_index s.words 0 ≡ length log % 2 ^ 64
     pub is_legal : legal n log

@@ -76,7 +76,7 @@ pub record IsOneHistory {C E : Type 0} (by : E → ℕ) (cell : E → Option ℕ
 
 -- the words and the key of a table with this many slots
 pub record IsSized (z : TableId) (k : Size) : Type 0 where
-  pub words : z.words ≡ 1 + (z.slots + z.slots)
+  pub words : z.words ≡ 16 + 16 * z.slots
   pub cells : k.cells ≡ z.slots
   pub few : z.slots ≤ 65
 

@@ -1,5 +1,5 @@
 -- What each step on the table tells its caller, and what it makes of a view.
-use Rattle.std.specs.Prelude.{◌≡◌, ◌≢◌, ℕ, ◌+◌, ◌^◌, ◌<◌, ◌≤◌, List, [], ◌∷◌, ◌++◌, take, drop, Option, Some, None}
+use Rattle.std.specs.Prelude.{◌≡◌, ◌≢◌, ℕ, ◌+◌, ◌*◌, ◌^◌, ◌<◌, ◌≤◌, List, [], ◌∷◌, ◌++◌, take, drop, Option, Some, None}
 use Rattle.atomic_table.specs.Table.{Me, Step, rest}
 use Rattle.turnstile.specs.declared.board.Ticket.{Ticket}
 use Rattle.turnstile.specs.declared.board.View.{View}
@@ -49,7 +49,7 @@ At C = Step (Option C)
 
 module _ {C E : Type 0} where
   abbrev pub Draws : At C → Sat C E → ℕ → Sat C E → Type 0
-  Draws s m r m' = (r < 2 ^ 60) × ((c : ℕ) → s.word ≡ 1 + c → m' ≡ (waiting m.0 (ticket c r), m.1))
+  Draws s m r m' = (r < 2 ^ 60) × ((c : ℕ) → s.word ≡ 16 + 16 * c → m' ≡ (waiting m.0 (ticket c r), m.1))
 
   abbrev pub Leaves : At C → Sat C E → ℕ → Sat C E → Type 0
   Leaves s m r m' = m' ≡ (outside m.0, rest m.1)
@@ -103,4 +103,4 @@ module _ {E : Type 0} (by : E → ℕ) (cell : E → Option ℕ) (legal : ℕ �
 
 module _ {C E : Type 0} (by : E → ℕ) (cell : E → Option ℕ) (stands : ℕ → ℕ → C → List E → Type 0) (legal : ℕ → List E → Type 0) where
   abbrev pub Looks : At C → Sat C E → ℕ → Sat C E → Type 0
-  Looks s m r m' = (t : Ticket) → m.0.drew ≡ Some t → s.word ≡ (1 + s.slots) + t.cell → (r ≡ t.number → TakesTurn by cell legal s.slots stands m t m') × (r ≢ t.number → m' ≡ m)
+  Looks s m r m' = (t : Ticket) → m.0.drew ≡ Some t → s.word ≡ 24 + 16 * t.cell → (r ≡ t.number → TakesTurn by cell legal s.slots stands m t m') × (r ≢ t.number → m' ≡ m)

@@ -24,10 +24,10 @@ pub fn fill<C: Drop>(alloc: Global, cells: Vec<C>) -> Result<Vec<Option<C>>, NoM
 }
 
 // The words of a table of at most 65 cells, before anything was done.
-static BLANK: [u64; 131] = [0; 131];
+static BLANK: [u64; 1056] = [0; 1056];
 
 fn blank(count: usize) -> &'static [u64]
-    requires { count ≤ 131 }
+    requires { count ≤ 1056 }
     ensures count { length result.now ≡ count }
     ensures blank { (i : ℕ) → slice_index result.now i ≡ 0 }
 {
@@ -46,7 +46,7 @@ pub fn open<W: World>(
     ensures board { IfOk result (λ t. IsSized t.0.shared.table_id t.0.shared.key × (t.0.shared.table_id.slots ≡ size.now.cells) × (t.0.shared.key ≡ size.now)) }
     ensures place { IfOk result (λ t. (t.1.table_id ≡ t.0.shared.table_id) × (t.1.me ≡ (starting size.now.passes, []))) }
 {
-    match Table::new(alloc, blank(1 + 2 * slots.len()), slots, size) {
+    match Table::new(alloc, blank(16 + 16 * slots.len()), slots, size) {
         Ok((table, place)) => Ok((table, place)),
         Err(_) => Err(NoMemory),
     }

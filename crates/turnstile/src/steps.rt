@@ -26,7 +26,7 @@ pub fn draw<W: World>(board: &Board<W>, place: &mut Place<W>, cell: usize) -> u6
     ensures small { result < 2 ^ 60 }
     ensures drew { place.new.me ≡ (waiting place.old.me.0 (ticket cell result), place.old.me.1) }
 {
-    board.shared.fetch_add::<Draw>(place, 1 + cell, 1)
+    board.shared.fetch_add::<Draw>(place, 16 + 16 * cell, 1)
 }
 
 /// Waits with a ticket until its turn comes, and takes the cell's value.
@@ -44,7 +44,7 @@ pub fn wait<W: World, R: Wait>(
     ensures seat { (place.new.table_id ≡ place.old.table_id) × (place.new.id ≡ place.old.id) }
     ensures taken { Taken W.by W.cell W.legal board.now.shared.table_id.slots W.stands place.old.me (ticket cell number) result place.new.me }
 {
-    let word = 1 + board.slot_count() + cell;
+    let word = 24 + 16 * cell;
     let mut spins = 0;
     for _ in rt.forever() {
         let found = board.shared.load::<Look<W>>(place, word);
@@ -97,10 +97,10 @@ pub fn put_back<W: World>(
     ensures seat { (place.new.table_id ≡ place.old.table_id) × (place.new.id ≡ place.old.id) }
     ensures left { place.new.me ≡ (outside place.old.me.0, rest place.old.me.1) }
 {
-    let word = 1 + board.slot_count() + cell;
+    let word = 24 + 16 * cell;
     board.shared.exchange(place, cell, Some(value));
     board.shared.store::<Leave>(place, word, number + 1);
-    if board.shared.peek(1 + cell) != number + 1 {
+    if board.shared.peek(16 + 16 * cell) != number + 1 {
         board.shared.wake_all(word);
     }
 }

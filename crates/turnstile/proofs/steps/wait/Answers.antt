@@ -1,4 +1,4 @@
-use Rattle.std.proofs.Common.{arith, ap, ◌∙◌, sym, subst, ◌+◌, ◌∷◌, Some, IsSome, rules}
+use Rattle.std.proofs.Common.{refl, arith, ap, ◌∙◌, sym, subst, ◌+◌, ◌∷◌, Some, IsSome, rules}
 use Rattle.atomic_table.specs.Table.{rest}
 use Rattle.turnstile.specs.Kept.{ticket}
 use Rattle.turnstile.specs.Steps.{Taken}
@@ -7,34 +7,34 @@ use Rattle.turnstile.proofs.Meets.{taken_of, one_value}
 use Rattle.turnstile.proofs.steps.wait.Goals as goal
 
 pub load-found-requires : goal.load-found-requires
-load-found-requires g c = let W = g.W.World in let b = c.args.board.now.shared in let z = c.requires.sized in let words = z.words in let lt = c.requires.cell in let n = c.slot_count.ensures in let i = c.loop.invariant in (
+load-found-requires g c = let W = g.W.World in let b = c.args.board.now.shared in let z = c.requires.sized in let words = z.words in let lt = c.requires.cell in let i = c.loop.invariant in (
   i.0 ∙ c.requires.of,
   omega arith,
-  looks W.by W.cell W.stands W.legal b.table_id.slots b.key.passes b.key.cells z.cells _ c.loop.place.me (ticket c.args.cell c.args.number) (ap (λ m. m.0.drew) i.2 ∙ c.requires.drew) _ (ap (λ k. (1 + k) + c.args.cell) n),
+  looks W.by W.cell W.stands W.legal b.table_id.slots b.key.passes b.key.cells z.cells _ c.loop.place.me (ticket c.args.cell c.args.number) (ap (λ m. m.0.drew) i.2 ∙ c.requires.drew) _ refl,
 )
 
 pub exchange-requires : goal.exchange-requires
-exchange-requires g c = let n = c.slot_count.ensures in let i = c.loop.invariant in let l = c.load-found.ensures in
-    let took = (l.2 (ticket c.args.cell c.args.number) (ap (λ m. m.0.drew) i.2 ∙ c.requires.drew) (ap (λ k. (1 + k) + c.args.cell) n)).0 c.if-found-number.true in
+exchange-requires g c = let i = c.loop.invariant in let l = c.load-found.ensures in
+    let took = (l.2 (ticket c.args.cell c.args.number) (ap (λ m. m.0.drew) i.2 ∙ c.requires.drew) refl).0 c.if-found-number.true in
     let e = ap (λ m. m.1) took.after in
     (l.0 ∙ (i.0 ∙ c.requires.of), (Some took.value, e ∙ ap (λ r. (c.args.cell, Some took.value) ∷ r) (sym (ap rest e))))
 
 pub unwrap-requires : goal.unwrap-requires
-unwrap-requires g c = let n = c.slot_count.ensures in let i = c.loop.invariant in let l = c.load-found.ensures in
-    let took = (l.2 (ticket c.args.cell c.args.number) (ap (λ m. m.0.drew) i.2 ∙ c.requires.drew) (ap (λ k. (1 + k) + c.args.cell) n)).0 c.if-found-number.true in
+unwrap-requires g c = let i = c.loop.invariant in let l = c.load-found.ensures in
+    let took = (l.2 (ticket c.args.cell c.args.number) (ap (λ m. m.0.drew) i.2 ∙ c.requires.drew) refl).0 c.if-found-number.true in
     let o = one_value c.args.cell c.exchange.result took.value _ _ (sym c.exchange.ensures.2 ∙ ap (λ m. m.1) took.after) in
     subst (λ x. IsSome x) (sym o) (search rules)
 
 pub returns-then-found-number-clause-taken : goal.returns-then-found-number-clause-taken
-returns-then-found-number-clause-taken g c = let W = g.W.World in let b = c.args.board.now.shared in let n = c.slot_count.ensures in let i = c.loop.invariant in let l = c.load-found.ensures in let x = c.exchange.ensures in
-    let took = (l.2 (ticket c.args.cell c.args.number) (ap (λ m. m.0.drew) i.2 ∙ c.requires.drew) (ap (λ k. (1 + k) + c.args.cell) n)).0 c.if-found-number.true in
+returns-then-found-number-clause-taken g c = let W = g.W.World in let b = c.args.board.now.shared in let i = c.loop.invariant in let l = c.load-found.ensures in let x = c.exchange.ensures in
+    let took = (l.2 (ticket c.args.cell c.args.number) (ap (λ m. m.0.drew) i.2 ∙ c.requires.drew) refl).0 c.if-found-number.true in
     subst (λ m. Taken W.by W.cell W.legal b.table_id.slots W.stands m (ticket c.args.cell c.args.number) c.unwrap.result c.exchange.new.seat.me) i.2
     (taken_of W.by W.cell W.legal b.table_id.slots W.stands c.loop.place.me c.load-found.new.seat.me c.exchange.new.seat.me (ticket c.args.cell c.args.number) c.exchange.result c.unwrap.result took x.2 x.3 c.unwrap.ensures)
 
 pub loop-preserved-then-spins-lt-SPINS : goal.loop-preserved-then-spins-lt-SPINS
-loop-preserved-then-spins-lt-SPINS g c = let n = c.slot_count.ensures in let i = c.loop.invariant in let l = c.load-found.ensures in
-    (l.0 ∙ i.0, l.1 ∙ i.1, (l.2 (ticket c.args.cell c.args.number) (ap (λ m. m.0.drew) i.2 ∙ c.requires.drew) (ap (λ k. (1 + k) + c.args.cell) n)).1 c.if-found-number.false ∙ i.2)
+loop-preserved-then-spins-lt-SPINS g c = let i = c.loop.invariant in let l = c.load-found.ensures in
+    (l.0 ∙ i.0, l.1 ∙ i.1, (l.2 (ticket c.args.cell c.args.number) (ap (λ m. m.0.drew) i.2 ∙ c.requires.drew) refl).1 c.if-found-number.false ∙ i.2)
 
 pub loop-preserved : goal.loop-preserved
-loop-preserved g c = let n = c.slot_count.ensures in let i = c.loop.invariant in let l = c.load-found.ensures in
-    (l.0 ∙ i.0, l.1 ∙ i.1, (l.2 (ticket c.args.cell c.args.number) (ap (λ m. m.0.drew) i.2 ∙ c.requires.drew) (ap (λ k. (1 + k) + c.args.cell) n)).1 c.if-found-number.false ∙ i.2)
+loop-preserved g c = let i = c.loop.invariant in let l = c.load-found.ensures in
+    (l.0 ∙ i.0, l.1 ∙ i.1, (l.2 (ticket c.args.cell c.args.number) (ap (λ m. m.0.drew) i.2 ∙ c.requires.drew) refl).1 c.if-found-number.false ∙ i.2)
