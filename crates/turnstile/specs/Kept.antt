@@ -1,4 +1,4 @@
--- The rule of the table. Word 0 is the clock, 1 + c the next ticket of the cell c, and 24 + 16 * c the ticket that has its turn. The slot c holds the cell's value while no one has the turn.
+-- The rule of the table. Word 0 is the clock, 16 + 16 * c the next ticket of the cell c, and 24 + 16 * c the ticket that has its turn: 64 bytes apart, so that no two of them share a cache line. The slot c holds the cell's value while no one has the turn.
 use Rattle.std.specs.Prelude.{◌≡◌, ℕ, suc, ◌+◌, ◌*◌, ◌%◌, ◌^◌, ◌<◌, ◌≤◌, ◌⊎◌, List, [], ◌∷◌, ◌++◌, length, slice_index, Option, Some, None}
 use mathlib.Core.Option.{some}
 use mathlib.Core.Option as maybe
