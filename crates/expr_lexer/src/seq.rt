@@ -1,7 +1,10 @@
-ghost use Rattle.std.specs.Prelude.{◌≡◌, ◌↔◌, [], ◌∷◌, ◌++◌, length, IfOk, IfErr, OnOk, OnErr, IsTrue};
+ghost use Rattle.std.specs.Prelude.{◌≡◌, ◌↔◌, ◌<◌, [], ◌∷◌, ◌++◌, length, remove, slice_get, IfOk, IfErr, OnOk, OnErr, IsTrue};
+ghost use Rattle.std.specs.Borrow.{sem};
 ghost use Rattle.std.specs.List.{AllZip};
+ghost use Rattle.std.specs.Option.{option_copied, option_copied_mut};
 ghost use Rattle.std.specs.Cmp.Lexicographic.{pointwise, lists_equiv, lists_per};
 ghost use Rattle.std.specs.Slice.Iter.{iter_rest};
+ghost use Rattle.expr_lexer.specs.Lends.{LendsItem};
 
 use std::alloc::{AllocError as NoMemory, AllocFailed, Global};
 use std::marker::Model;
@@ -31,11 +34,40 @@ impl<T> Seq<T> {
         }
     }
 
+    /// The empty list with room for this many items.
+    pub fn with_capacity(alloc: Global, capacity: usize) -> Result<Seq<T>, NoMemory>
+        ensures { IfOk result (λ made. made ≡ []) }
+    {
+        Ok(Seq {
+            items: Vec::with_capacity(alloc, capacity)?,
+        })
+    }
+
+    /// What the list takes its memory from.
+    pub fn allocator(&self) -> Global {
+        *self.items.allocator()
+    }
+
     /// The items, lent.
     pub fn as_slice(&self) -> &[T]
         ensures { result.now ≡ self.now }
     {
         self.items.as_slice()
+    }
+
+    /// The item at this place, from 0, lent.
+    pub fn get(&self, place: usize) -> Option<&T>
+        ensures { option_copied result ≡ slice_get self.now place }
+    {
+        self.items.get(place)
+    }
+
+    /// The item at this place, from 0, to be changed.
+    pub fn get_mut(&mut self, place: usize) -> Option<&mut T>
+        ensures* writes_back { sem 𝓛 (LendsItem T.row self.entry place result) }
+        ensures value { option_copied_mut result ≡ slice_get self.old place }
+    {
+        self.items.get_mut(place)
     }
 
     /// Goes over the items in order.
@@ -67,6 +99,15 @@ impl<T> Seq<T> {
         ensures given_back { IfErr result (λ refused. refused.value ≡ item) }
     {
         self.items.push(item)
+    }
+
+    /// Takes out the item at this place, from 0. Those after it close up.
+    pub fn remove(&mut self, place: usize) -> T
+        requires { place < length self.old }
+        ensures item { slice_get self.old place ≡ Some result }
+        ensures rest { self.new ≡ remove self.old place }
+    {
+        self.items.remove(place)
     }
 }
 

@@ -81,3 +81,21 @@ fn paths(rt: HostRuntime) -> Result<(), Fail> {
     assert!(rt; Step::Name(text(alloc, "2")?).try_clone()? != Step::Index(2));
     Ok(())
 }
+
+#[test]
+fn items_changed(rt: HostRuntime) -> Result<(), Fail> {
+    let mut places = Seq::with_capacity(rt.alloc(), 3)?;
+    for place in [4u8, 5, 6] {
+        places.push(place)?;
+    }
+    if let Some(place) = places.get_mut(1) {
+        *place = 9;
+    }
+    assert!(rt; places.get_mut(3).is_none());
+    assert_eq!(rt; places.len(), 3);
+    assert_eq!(rt; places.remove(0), 4);
+    assert!(rt; places.as_slice() == [9u8, 6].as_slice());
+    assert!(rt; places.get(1) == Some(&6));
+    assert!(rt; places.get(2).is_none());
+    Ok(())
+}
