@@ -6,14 +6,18 @@
 #![tactic(auto)]
 
 mod binary;
+mod lexer;
 mod path;
 mod seq;
 mod text;
+mod token;
 
 pub use binary::Bytes;
+pub use lexer::tokens;
 pub use path::{DocPath, Step};
 pub use seq::Seq;
 pub use text::Text;
+pub use token::{LexEnd, Token, TokenKind};
 
 #[cfg(test)]
 mod tests;
