@@ -1,3 +1,5 @@
 pub mod Steps
 pub mod Readings
 pub mod Unique
+pub mod Fits
+pub mod Spans

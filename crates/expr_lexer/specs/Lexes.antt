@@ -36,3 +36,7 @@ abbrev pub IsLexed : List ℕ → Result (List Token) LexEnd → Type 0
 IsLexed text (Ok tokens) = Lexes 0 text (Ok tokens)
 IsLexed text (Err (BadCharacter place)) = Lexes 0 text (Err place)
 IsLexed text (Err NoMemory) = Unit {0}
+
+-- no text has two readings
+abbrev pub HasOneReading : Type 0
+HasOneReading = (text : List ℕ) (reading another : Result (List Token) ℕ) → Lexes 0 text reading → Lexes 0 text another → reading ≡ another

@@ -1,8 +1,9 @@
-ghost use Rattle.std.specs.Prelude.{◌≡◌, ◌+◌, ◌^◌, ◌<◌, ◌≤◌, ◌∷◌, length, take, IfSome, Some};
+ghost use Rattle.std.specs.Prelude.{◌≡◌, ◌+◌, ◌^◌, ◌<◌, ◌≤◌, ◌∷◌, length, take, IfSome, IfOk, Some, All};
 ghost use Rattle.std.specs.List.{prefix_len};
 ghost use Rattle.std.specs.Str.{str_eq_ignore_ascii_case};
 ghost use Rattle.expr_lexer.specs.Character.{is_blank, is_letter, is_word_byte};
-ghost use Rattle.expr_lexer.specs.Lexes.{IsLexed};
+ghost use Rattle.expr_lexer.specs.Lexes.{IsLexed, HasOneReading};
+ghost use Rattle.expr_lexer.specs.Spans.{Follow, IsPart};
 ghost use Rattle.expr_lexer.specs.Steps.{Steps, GoesOn, BeginsToken};
 ghost use Rattle.std.specs.Char.{is_ascii_digit};
 ghost use Rattle.expr_lexer.specs.Lexeme.{word_kind, word_lexeme, placeholder, sign, front_lexeme, is_too_long};
@@ -225,6 +226,8 @@ fn step(bytes: &[u8], place: u32) -> Front<'_>
 pub fn tokens(alloc: Global, text: &str) -> Result<Seq<Token>, LexEnd>
     requires { length text.now < 2 ^ 32 }
     ensures lexed { IsLexed text.now result }
+    ensures follow { IfOk result (Follow 0 text.now) }
+    ensures parts { IfOk result (All (IsPart text.now)) }
 {
     let mut found = Seq::new(alloc);
     let mut rest = text.as_bytes();
@@ -245,3 +248,9 @@ pub fn tokens(alloc: Global, text: &str) -> Result<Seq<Token>, LexEnd>
         }
     }
 }
+
+/// A text reads in one way only: as these tokens, or with its first fault at this place. The function does
+/// nothing: its clause is the law.
+pub fn one_reading()
+    ensures { HasOneReading }
+{}

@@ -13,7 +13,7 @@ mod text;
 mod token;
 
 pub use binary::Bytes;
-pub use lexer::tokens;
+pub use lexer::{one_reading, tokens};
 pub use path::{DocPath, Step};
 pub use seq::Seq;
 pub use text::Text;

@@ -1,5 +1,6 @@
 ghost use Rattle.std.specs.Prelude.{◌≡◌};
 ghost use Rattle.expr_lexer.specs.declared.token.LexEnd.TheVariants.{NoMemory};
+ghost use Rattle.expr_lexer.specs.Spans.{IsPart, word_of};
 
 use std::alloc::AllocFailed;
 
@@ -52,6 +53,16 @@ pub struct Token {
     pub kind: TokenKind,
     pub from: u32,
     pub to: u32,
+}
+
+impl Token {
+    /// The token's own text, of the text that it is a token of.
+    pub fn word(self, text: &str) -> &str
+        requires { IsPart text.now self }
+        ensures { result.now ≡ word_of text.now self }
+    {
+        &text[self.from as usize..self.to as usize]
+    }
 }
 
 /// Why a text was not answered as tokens.

@@ -1,0 +1,9 @@
+use Rattle.std.proofs.Common.{[], Ok}
+use Rattle.expr_lexer.proofs.Spans.{follows, parts}
+use Rattle.expr_lexer.proofs.lexer.tokens.Goals as goal
+
+pub returns-in-End-clause-follow : goal.returns-in-End-clause-follow
+returns-in-End-clause-follow c = follows _ _ c.utf8.text (c.loop-found.invariant.reads (Ok []) c.in-End.ensures.steps)
+
+pub returns-in-End-clause-parts : goal.returns-in-End-clause-parts
+returns-in-End-clause-parts c = parts 0 _ _ (follows _ _ c.utf8.text (c.loop-found.invariant.reads (Ok []) c.in-End.ensures.steps))
