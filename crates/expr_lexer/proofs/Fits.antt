@@ -71,7 +71,7 @@ sign_fits : (bytes : List ℕ) → IfSome (sign bytes) (Fits bytes)
 unfolding sign
 sign_fits bytes =
     let fits : (text : String) (kind : TokenKind) → 0 < length (codes text) → is_ascii_all (codes text) ≡ true → begins text bytes ≡ true → Fits bytes (lexeme kind (length (codes text)))
-      = λ text kind some a e. sign_ascii (codes text) bytes kind some a e in
+    = λ text kind some a e. sign_ascii (codes text) bytes kind some a e in
     either _ _ _ bytes (fits "<>" Unequal (omega arith) refl) (
     either _ _ _ bytes (fits "<=" AtMost (omega arith) refl) (
     either _ _ _ bytes (fits ">=" AtLeast (omega arith) refl) (
@@ -92,8 +92,11 @@ run_fits : (p : ℕ → Bool) (b : ℕ) (rest : List ℕ) (kind : TokenKind) →
     → Fits (b ∷ rest) (lexeme kind (1 + prefix_len p rest))
 run_fits p b rest kind low pass =
     let bound : prefix_len p rest ≤ length rest = prefix_len-le-length p rest in
-    record { some = omega arith; within = omega arith;
-      ascii = λ k h. along b rest (prefix_len p rest) low (λ j g. pass _ (prefix_len_passes p rest j 0 g)) k (omega arith) }
+    record {
+      some = omega arith;
+      within = omega arith;
+      ascii = λ k h. along b rest (prefix_len p rest) low (λ j g. pass _ (prefix_len_passes p rest j 0 g)) k (omega arith);
+    }
 
 placeholder_fits : (kind : TokenKind) (b : ℕ) (rest : List ℕ) → b < 128 → IfSome (placeholder kind (prefix_len is_word_byte rest)) (Fits (b ∷ rest))
 placeholder_fits kind b rest low = go (prefix_len is_word_byte rest) (run_fits is_word_byte b rest kind low word_ascii)

@@ -31,8 +31,12 @@ part text place found utf8 h f =
     let first : get_or text place 0 < 128 = byte_at text place 0 place (omega arith) (f.ascii 0 f.some) in
     let some = f.some in
     let last : get_or text (place + found.size - 1) 0 < 128 = byte_at text place (found.size - 1) (place + found.size - 1) (omega arith) (f.ascii (found.size - 1) (omega arith)) in
-    record { some = omega (arith, f.some); within = within; begins = IsCharBoundary-before_ascii text place (omega (arith, f.some)) first;
-      ends = subst (IsCharBoundary text) (add_back (place + found.size) (omega arith)) (IsCharBoundary-after_ascii text (place + found.size - 1) utf8 (omega arith) last) }
+    record {
+      some = omega (arith, f.some);
+      within = within;
+      begins = IsCharBoundary-before_ascii text place (omega (arith, f.some)) first;
+      ends = subst (IsCharBoundary text) (add_back (place + found.size) (omega arith)) (IsCharBoundary-after_ascii text (place + found.size - 1) utf8 (omega arith) last);
+    }
 
 earlier : (place later : ℕ) (text : List ℕ) (tokens : List Token) → place ≤ later → Follow later text tokens → Follow place text tokens
 earlier place later text [] h f = tt
@@ -56,7 +60,7 @@ follow {place = place} text utf8 e n (token {byte = byte} {rest = rest} {found =
     let here : Fits (byte ∷ rest) found = fits (byte ∷ rest) found f in
     let within = here.within in
     joined place text found reading (part text place found utf8 (omega arith) (subst (λ bs. Fits bs found) e here))
-      (follow text utf8 (further text (byte ∷ rest) place found.size e) (omega (arith, length-drop {A = ℕ})) l)
+    (follow text utf8 (further text (byte ∷ rest) place found.size e) (omega (arith, length-drop {A = ℕ})) l)
 follow text utf8 e n (no_token b f) = tt
 follow text utf8 e n (long_index b f s) = tt
 

@@ -21,8 +21,8 @@ pub step_token : (place : ℕ) (bytes rest : List ℕ) (found : Lexeme) (reading
     → Lexes place bytes (with_front (token_at place found) reading)
 step_token place bytes rest found reading start f s e reads =
     let step : front_lexeme bytes ≡ Some found → Lexes (place + found.size) (drop found.size bytes) reading → Lexes place bytes (with_front (token_at place found) reading)
-      = subst (λ bs. front_lexeme bs ≡ Some found → Lexes (place + found.size) (drop found.size bs) reading
-      → Lexes place bs (with_front (token_at place found) reading)) (sym start.bytes_are) (λ f reads. token start.no_blank f s reads)
+    = subst (λ bs. front_lexeme bs ≡ Some found → Lexes (place + found.size) (drop found.size bs) reading
+    → Lexes place bs (with_front (token_at place found) reading)) (sym start.bytes_are) (λ f reads. token start.no_blank f s reads)
     in step f (subst (λ bs. Lexes (place + found.size) bs reading) e reads)
 
 pub step_bad : (place : ℕ) (bytes : List ℕ) → BeginsToken bytes → front_lexeme bytes ≡ None → Lexes place bytes (Err place)

@@ -20,16 +20,16 @@ token_at place found = record { kind = found.kind; from = place; to = place + fo
 pub data Lexes : ℕ → List ℕ → Result (List Token) ℕ → Type 0 where
   ends : {place : ℕ} → Lexes place [] (Ok [])
   blank : {place byte : ℕ} {rest : List ℕ} {reading : Result (List Token) ℕ}
-    → is_blank byte ≡ true → Lexes (place + 1) rest reading → Lexes place (byte ∷ rest) reading
+      → is_blank byte ≡ true → Lexes (place + 1) rest reading → Lexes place (byte ∷ rest) reading
   token : {place byte : ℕ} {rest : List ℕ} {found : Lexeme} {reading : Result (List Token) ℕ}
-    → is_blank byte ≡ false → front_lexeme (byte ∷ rest) ≡ Some found → is_too_long found ≡ false
-    → Lexes (place + found.size) (drop found.size (byte ∷ rest)) reading
-    → Lexes place (byte ∷ rest) (with_front (token_at place found) reading)
+      → is_blank byte ≡ false → front_lexeme (byte ∷ rest) ≡ Some found → is_too_long found ≡ false
+      → Lexes (place + found.size) (drop found.size (byte ∷ rest)) reading
+      → Lexes place (byte ∷ rest) (with_front (token_at place found) reading)
   no_token : {place byte : ℕ} {rest : List ℕ}
-    → is_blank byte ≡ false → front_lexeme (byte ∷ rest) ≡ None → Lexes place (byte ∷ rest) (Err place)
+      → is_blank byte ≡ false → front_lexeme (byte ∷ rest) ≡ None → Lexes place (byte ∷ rest) (Err place)
   long_index : {place byte : ℕ} {rest : List ℕ} {found : Lexeme}
-    → is_blank byte ≡ false → front_lexeme (byte ∷ rest) ≡ Some found → is_too_long found ≡ true
-    → Lexes place (byte ∷ rest) (Err (place + most_digits))
+      → is_blank byte ≡ false → front_lexeme (byte ∷ rest) ≡ Some found → is_too_long found ≡ true
+      → Lexes place (byte ∷ rest) (Err (place + most_digits))
 
 -- an answer is what the text reads as; refused memory says nothing of the text
 abbrev pub IsLexed : List ℕ → Result (List Token) LexEnd → Type 0
