@@ -1,8 +1,11 @@
-//! The small types that everything above is made of: text, bytes, lists and document paths.
+//! The small types that everything above is made of: text, bytes, lists and document paths; and the tokens of
+//! an expression.
 //!
 //! A contract sees a [`Text`] as the list of its UTF-8 bytes, a [`Bytes`] as the list of its bytes and a
 //! [`Seq`] as the list of its items. So a type that holds one of them can be named in a definition as it
 //! stands, where a `String` or a `Vec` would show its buffer. Going in and out takes no memory.
+//!
+//! [`tokens`] reads a text as the one list of its longest tokens, or names the place of its first fault.
 #![tactic(auto)]
 
 mod binary;
