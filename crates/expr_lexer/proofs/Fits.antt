@@ -1,9 +1,8 @@
 -- A token at the front is of a byte or more, and within the bytes.
-use Rattle.std.proofs.Common.{◌≡◌, ℕ, zero, suc, ◌+◌, ◌<◌, ◌≤◌, Bool, true, false, List, [], ◌∷◌, length, get_or, take, Option, Some, None, refl, arith}
+use Rattle.std.proofs.Common.{◌≡◌, ℕ, zero, suc, ◌+◌, ◌<◌, ◌≤◌, Bool, true, false, List, [], ◌∷◌, length, get_or, Option, Some, refl, arith}
 use Rattle.std.proofs.lemmas.Bool.Decides.{nat_tests}
 use Rattle.std.specs.Prelude.{codes, IfSome, nat_eq, nat_lt, ◌&&◌, if◌then◌else◌, ◌==◌}
 use Prim.Native.String.{String}
-use Rattle.std.proofs.lemmas.Grind.{common_steps}
 use Rattle.std.specs.List.{prefix_len, starts_with}
 use Rattle.std.specs.Char.{is_ascii_digit}
 use Rattle.std.proofs.lemmas.List.Sums.{prefix_len-le-length, prefix_len_passes}
@@ -27,11 +26,11 @@ pub record Begun (text bytes : List ℕ) : Type 0 where
   pub within : length text ≤ length bytes
   pub ascii : (k : ℕ) → k < length text → get_or bytes k 0 < 128
 
-both_left : (a b : Bool) → a && b ≡ true → a ≡ true
+pub both_left : (a b : Bool) → a && b ≡ true → a ≡ true
 both_left true b e = refl
 both_left false b e = e
 
-both_right : (a b : Bool) → a && b ≡ true → b ≡ true
+pub both_right : (a b : Bool) → a && b ≡ true → b ≡ true
 both_right true b e = e
 both_right false b e = absurd (cc)
 
@@ -49,10 +48,16 @@ begun (t ∷ text) (b ∷ bytes) e a =
     let low : t < 128 = let h = both_left (nat_lt t 128) _ a in grind (arith, nat_tests) in
     record { within = omega (arith, more.within); ascii = along b bytes (length text) (omega arith) more.ascii }
 
-either : (test : Bool) (found : Lexeme) (others : Option Lexeme) (bytes : List ℕ) → (test ≡ true → Fits bytes found)
-    → IfSome others (Fits bytes) → IfSome (if test then Some found else others) (Fits bytes)
-either true found others bytes first second = first refl
-either false found others bytes first second = second
+-- what holds of both answers holds of the one that a test picks
+pub either : (P : Lexeme → Type 0) (test : Bool) (found : Lexeme) (others : Option Lexeme) → (test ≡ true → P found)
+    → IfSome others P → IfSome (if test then Some found else others) P
+either P true found others first second = first refl
+either P false found others first second = second
+
+pub choice : (P : Lexeme → Type 0) (test : Bool) (x y : Option Lexeme) → (test ≡ true → IfSome x P) → IfSome y P
+    → IfSome (if test then x else y) P
+choice P true x y first second = first refl
+choice P false x y first second = second
 
 letter_ascii : (b : ℕ) → is_letter b ≡ true → b < 128
 letter_ascii b e = grind (arith, nat_tests)
@@ -72,20 +77,20 @@ unfolding sign
 sign_fits bytes =
     let fits : (text : String) (kind : TokenKind) → 0 < length (codes text) → is_ascii_all (codes text) ≡ true → begins text bytes ≡ true → Fits bytes (lexeme kind (length (codes text)))
     = λ text kind some a e. sign_ascii (codes text) bytes kind some a e in
-    either _ _ _ bytes (fits "<>" Unequal (omega arith) refl) (
-    either _ _ _ bytes (fits "<=" AtMost (omega arith) refl) (
-    either _ _ _ bytes (fits ">=" AtLeast (omega arith) refl) (
-    either _ _ _ bytes (fits "=" Equal (omega arith) refl) (
-    either _ _ _ bytes (fits "<" Less (omega arith) refl) (
-    either _ _ _ bytes (fits ">" More (omega arith) refl) (
-    either _ _ _ bytes (fits "(" OpenParenthesis (omega arith) refl) (
-    either _ _ _ bytes (fits ")" CloseParenthesis (omega arith) refl) (
-    either _ _ _ bytes (fits "[" OpenBracket (omega arith) refl) (
-    either _ _ _ bytes (fits "]" CloseBracket (omega arith) refl) (
-    either _ _ _ bytes (fits "," Comma (omega arith) refl) (
-    either _ _ _ bytes (fits "." Dot (omega arith) refl) (
-    either _ _ _ bytes (fits "+" Plus (omega arith) refl) (
-    either _ _ _ bytes (fits "-" Minus (omega arith) refl) tt)))))))))))))
+    either (Fits bytes) _ _ _ (fits "<>" Unequal (omega arith) refl) (
+    either (Fits bytes) _ _ _ (fits "<=" AtMost (omega arith) refl) (
+    either (Fits bytes) _ _ _ (fits ">=" AtLeast (omega arith) refl) (
+    either (Fits bytes) _ _ _ (fits "=" Equal (omega arith) refl) (
+    either (Fits bytes) _ _ _ (fits "<" Less (omega arith) refl) (
+    either (Fits bytes) _ _ _ (fits ">" More (omega arith) refl) (
+    either (Fits bytes) _ _ _ (fits "(" OpenParenthesis (omega arith) refl) (
+    either (Fits bytes) _ _ _ (fits ")" CloseParenthesis (omega arith) refl) (
+    either (Fits bytes) _ _ _ (fits "[" OpenBracket (omega arith) refl) (
+    either (Fits bytes) _ _ _ (fits "]" CloseBracket (omega arith) refl) (
+    either (Fits bytes) _ _ _ (fits "," Comma (omega arith) refl) (
+    either (Fits bytes) _ _ _ (fits "." Dot (omega arith) refl) (
+    either (Fits bytes) _ _ _ (fits "+" Plus (omega arith) refl) (
+    either (Fits bytes) _ _ _ (fits "-" Minus (omega arith) refl) tt)))))))))))))
 
 -- a first byte, and the bytes behind it that pass a test
 run_fits : (p : ℕ → Bool) (b : ℕ) (rest : List ℕ) (kind : TokenKind) → b < 128 → ((c : ℕ) → p c ≡ true → c < 128)
@@ -105,18 +110,13 @@ placeholder_fits kind b rest low = go (prefix_len is_word_byte rest) (run_fits i
     go zero h = tt
     go (suc n) h = h
 
-choice : (test : Bool) (x y : Option Lexeme) (bytes : List ℕ) → (test ≡ true → IfSome x (Fits bytes)) → IfSome y (Fits bytes)
-    → IfSome (if test then x else y) (Fits bytes)
-choice true x y bytes first second = first refl
-choice false x y bytes first second = second
-
 byte_ascii : (b c : ℕ) → (b == c) ≡ true → c < 128 → b < 128
 byte_ascii b c e low = grind (arith, nat_tests)
 
 pub front_fits : (bytes : List ℕ) → IfSome (front_lexeme bytes) (Fits bytes)
 front_fits [] = tt
 front_fits (b ∷ rest) =
-    either _ _ _ (b ∷ rest) (λ e. run_fits is_word_byte b rest _ (letter_ascii b e) word_ascii) (
-    either _ _ _ (b ∷ rest) (λ e. run_fits is_ascii_digit b rest Index (digit_ascii b e) digit_ascii) (
-    choice _ _ _ (b ∷ rest) (λ e. placeholder_fits NamePlaceholder b rest (byte_ascii b 35 e (omega arith))) (
-    choice _ _ _ (b ∷ rest) (λ e. placeholder_fits ValuePlaceholder b rest (byte_ascii b 58 e (omega arith))) (sign_fits (b ∷ rest)))))
+    either (Fits (b ∷ rest)) _ _ _ (λ e. run_fits is_word_byte b rest _ (letter_ascii b e) word_ascii) (
+    either (Fits (b ∷ rest)) _ _ _ (λ e. run_fits is_ascii_digit b rest Index (digit_ascii b e) digit_ascii) (
+    choice (Fits (b ∷ rest)) _ _ _ (λ e. placeholder_fits NamePlaceholder b rest (byte_ascii b 35 e (omega arith))) (
+    choice (Fits (b ∷ rest)) _ _ _ (λ e. placeholder_fits ValuePlaceholder b rest (byte_ascii b 58 e (omega arith))) (sign_fits (b ∷ rest)))))

@@ -3,3 +3,4 @@ pub mod Readings
 pub mod Unique
 pub mod Fits
 pub mod Spans
+pub mod Spelling

@@ -1,5 +1,5 @@
 -- Tokens of a text follow one another, and each can be cut out.
-use Rattle.std.proofs.Common.{◌≡◌, ℕ, ◌+◌, ◌-◌, ◌<◌, ◌≤◌, true, false, List, [], ◌∷◌, ◌++◌, append-nil, length, get_or, drop, Some, None, Result, Ok, Err, refl, sym, ◌∙◌, ap, subst, arith}
+use Rattle.std.proofs.Common.{◌≡◌, ℕ, ◌+◌, ◌-◌, ◌<◌, ◌≤◌, List, [], ◌∷◌, ◌++◌, append-nil, length, get_or, drop, Some, Result, Ok, Err, refl, ◌∙◌, ap, subst, arith}
 use Rattle.std.specs.Prelude.{IfSome, IfOk, All}
 use Rattle.std.specs.Str.{IsUtf8, IsCharBoundary}
 use Rattle.std.proofs.lemmas.Str.{IsCharBoundary-before_ascii, IsCharBoundary-after_ascii}
@@ -22,7 +22,7 @@ byte_at text place k there e low = subst (λ n. get_or text n 0 < 128) e (rw get
 add_back : (n : ℕ) → 0 < n → n - 1 + 1 ≡ n
 add_back n h = omega arith
 
-further : (text bytes : List ℕ) (place size : ℕ) → bytes ≡ drop place text → drop size bytes ≡ drop (place + size) text
+pub further : (text bytes : List ℕ) (place size : ℕ) → bytes ≡ drop place text → drop size bytes ≡ drop (place + size) text
 further text bytes place size e = ap (drop size) e ∙ drop-drop size place text
 
 part : (text : List ℕ) (place : ℕ) (found : Lexeme) → IsUtf8 text → place ≤ length text → Fits (drop place text) found → IsPart text (token_at place found)

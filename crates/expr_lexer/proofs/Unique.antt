@@ -1,5 +1,5 @@
 -- A text has one reading.
-use Rattle.std.proofs.Common.{◌≡◌, ℕ, ◌+◌, Bool, true, false, List, [], ◌∷◌, drop, Some, None, Result, Ok, Err, refl, sym, ap, subst}
+use Rattle.std.proofs.Common.{◌≡◌, ℕ, ◌+◌, List, ◌∷◌, drop, Some, Result, refl, subst}
 use Rattle.expr_lexer.specs.declared.lexer.Lexeme.{Lexeme}
 use Rattle.expr_lexer.specs.declared.token.Token.{Token}
 use Rattle.expr_lexer.specs.Lexeme.{front_lexeme}

@@ -39,4 +39,6 @@ IsLexed text (Err NoMemory) = Unit {0}
 
 -- no text has two readings
 abbrev pub HasOneReading : Type 0
-HasOneReading = (text : List ℕ) (reading another : Result (List Token) ℕ) → Lexes 0 text reading → Lexes 0 text another → reading ≡ another
+HasOneReading =
+    (text : List ℕ) (reading another : Result (List Token) ℕ)
+    → Lexes 0 text reading → Lexes 0 text another → reading ≡ another

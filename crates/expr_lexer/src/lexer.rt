@@ -1,12 +1,13 @@
-ghost use Rattle.std.specs.Prelude.{◌≡◌, ◌+◌, ◌^◌, ◌<◌, ◌≤◌, ◌∷◌, length, take, IfSome, IfOk, Some, All};
+ghost use Rattle.std.specs.Prelude.{◌≡◌, ◌+◌, ◌^◌, ◌<◌, ◌≤◌, length, IfSome, IfOk, Some, All};
+ghost use Rattle.std.specs.Char.{is_ascii_digit};
 ghost use Rattle.std.specs.List.{prefix_len};
 ghost use Rattle.std.specs.Str.{str_eq_ignore_ascii_case};
 ghost use Rattle.expr_lexer.specs.Character.{is_blank, is_letter, is_word_byte};
+ghost use Rattle.expr_lexer.specs.Lexeme.{word_kind, word_lexeme, placeholder, sign, front_lexeme, is_too_long};
 ghost use Rattle.expr_lexer.specs.Lexes.{IsLexed, HasOneReading};
 ghost use Rattle.expr_lexer.specs.Spans.{Follow, IsPart};
+ghost use Rattle.expr_lexer.specs.Spelling.{IsSpelled};
 ghost use Rattle.expr_lexer.specs.Steps.{Steps, GoesOn, BeginsToken};
-ghost use Rattle.std.specs.Char.{is_ascii_digit};
-ghost use Rattle.expr_lexer.specs.Lexeme.{word_kind, word_lexeme, placeholder, sign, front_lexeme, is_too_long};
 
 use crate::seq::Seq;
 use crate::token::{LexEnd, Token, TokenKind};
@@ -231,6 +232,7 @@ pub fn tokens(alloc: Global, text: &str) -> Result<Seq<Token>, LexEnd>
     ensures lexed { IsLexed text.now result }
     ensures follow { IfOk result (Follow 0 text.now) }
     ensures parts { IfOk result (All (IsPart text.now)) }
+    ensures spelled { IfOk result (All (IsSpelled text.now)) }
 {
     let mut found = Seq::new(alloc);
     let mut rest = text.as_bytes();

@@ -5,7 +5,8 @@
 //! [`Seq`] as the list of its items. So a type that holds one of them can be named in a definition as it
 //! stands, where a `String` or a `Vec` would show its buffer. Going in and out takes no memory.
 //!
-//! [`tokens`] reads a text as the one list of its longest tokens, or names the place of its first fault.
+//! [`tokens`] reads the text of an expression as its tokens, each with the place of its bytes, or tells the
+//! first byte that can't be read. A text has one such reading (`specs/Lexes.antt`, [`one_reading`]).
 #![tactic(auto)]
 
 mod binary;

@@ -1,4 +1,4 @@
-use Rattle.std.proofs.Common.{◌≡◌, ◌+◌, ◌++◌, List, ℕ, length, Result}
+use Rattle.std.proofs.Common.{◌≡◌, ◌+◌, List, ℕ, length, Result}
 use Rattle.expr_lexer.specs.declared.token.Token.{Token}
 use Rattle.expr_lexer.specs.Lexes.{Lexes}
 use Rattle.expr_lexer.proofs.Readings.{with_all}
