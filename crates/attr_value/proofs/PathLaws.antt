@@ -1,5 +1,5 @@
 -- Putting a value below an attribute or an element, and below a whole path.
-use Rattle.std.proofs.Common.{◌≡◌, ℕ, zero, suc, ◌<◌, List, [], ◌∷◌, length, get_or, slice_set, Bool, true, false, cond, Option, Some, None, option_map, option_and_then, bytes_eq, refl, sym, ap, ◌∙◌, arith}
+use Rattle.std.proofs.Common.{◌≡◌, ℕ, zero, suc, List, [], ◌∷◌, slice_get, slice_set, Bool, true, false, cond, Option, Some, None, option_map, option_and_then, bytes_eq, refl, sym, ap, ◌∙◌}
 use Rattle.std.specs.BTreeMap.{is_at}
 use Rattle.std.specs.Map.{lookup, set_value}
 use Rattle.expr_lexer.specs.declared.path.Step.{Step}
@@ -57,10 +57,12 @@ pub attribute_same : (name : List ℕ) (w v : Value) (es : List Entry) → tree_
 attribute_same name w v es same here = change-set_value name (λ t. Some t) w v (ap Some same) es here ∙ change-same name (attributes_of es)
 
 -- the same of an element
-pub element_same : (vs : List Value) (place : ℕ) (w d : Value) → place < length vs → tree_of w ≡ tree_of (get_or vs place d) → trees_of (slice_set vs place w) ≡ trees_of vs
-element_same [] place w d h same = absurd (omega arith)
-element_same (v ∷ vs) zero w d h same = ap (λ t. tree.tree t (trees_of vs)) same
-element_same (v ∷ vs) (suc place) w d h same = ap (tree.tree (tree_of v)) (element_same vs place w d (omega arith) same)
+pub element_same : (place : ℕ) (w v : Value) → tree_of w ≡ tree_of v → (vs : List Value) → slice_get vs place ≡ Some v → trees_of (slice_set vs place w) ≡ trees_of vs
+element_same place w v same [] here = refl
+element_same zero w v same (u ∷ vs) here =
+    let first : u ≡ v = cc in
+    ap (λ t. tree.tree t (trees_of vs)) (same ∙ ap tree_of (sym first))
+element_same (suc place) w v same (u ∷ vs) here = ap (tree.tree (tree_of u)) (element_same place w v same vs here)
 
 -- ---- from an item on
 

@@ -1,5 +1,5 @@
 -- A value, level by level, and a map of the code beside the attributes that it stands for.
-use Rattle.std.proofs.Common.{◌≡◌, ℕ, List, [], ◌∷◌, ◌++◌, Option, Some, None, option_map, option_and_then, is_some, Vec, Global, Ordering, Less, Equal, Greater, nat_cmp, is_eq, cond, Bool, true, false, bytes_eq, Bor, zero, suc, ◌<◌, ◌≤◌, length, get_or, slice_set, remove, refl, sym, subst, ap, ◌∙◌, arith, rules}
+use Rattle.std.proofs.Common.{◌≡◌, ℕ, List, [], ◌∷◌, ◌++◌, Option, Some, None, option_map, option_and_then, is_some, Ordering, Less, Equal, Greater, nat_cmp, is_eq, cond, Bool, true, false, bytes_eq, Bor, zero, suc, ◌<◌, ◌≤◌, length, slice_get, slice_set, remove, refl, sym, subst, ap, ◌∙◌, arith, rules}
 use Rattle.std.proofs.lemmas.Cmp.{nat_list_cmp_total}
 use Rattle.std.proofs.lemmas.Map.Text.{is_eq-slice_cmp}
 use Rattle.std.specs.Cmp.Lexicographic.{slice_cmp}
@@ -26,7 +26,7 @@ Entry = List ℕ × Value
 abbrev pub name_cmp : List ℕ → List ℕ → Ordering
 name_cmp = slice_cmp nat_cmp
 
-pub tree_of-L : (v : Vec Value Global) → tree_of (L v) ≡ tree.list (trees_of v.items)
+pub tree_of-L : (v : List Value) → tree_of (L v) ≡ tree.list (trees_of v)
 tree_of-L v = search (rules, the_lemmas)
 
 pub tree_of-M : (i : Item) → tree_of (M i) ≡ tree.map (attributes i)
@@ -71,15 +71,18 @@ lent (Some x) = refl
 
 -- ---- lists
 
-pub element_within : (vs : List Value) (place : ℕ) (d : Value) → place < length vs → Some (tree_of (get_or vs place d)) ≡ element_at place (trees_of vs)
-element_within [] place d h = absurd (omega arith)
-element_within (v ∷ vs) zero d h = refl
-element_within (v ∷ vs) (suc place) d h = element_within vs place d (omega arith)
+pub element_at-get : (vs : List Value) (place : ℕ) → option_map tree_of (slice_get vs place) ≡ element_at place (trees_of vs)
+element_at-get [] place = refl
+element_at-get (v ∷ vs) zero = refl
+element_at-get (v ∷ vs) (suc place) = element_at-get vs place
 
-pub element_past : (vs : List Value) (place : ℕ) → length vs ≤ place → None ≡ element_at place (trees_of vs)
-element_past [] place h = refl
-element_past (v ∷ vs) zero h = absurd (omega arith)
-element_past (v ∷ vs) (suc place) h = element_past vs place (omega arith)
+pub element_found : (place : ℕ) (vs : List Value) (v : Option Value) → v ≡ slice_get vs place → element_at place (trees_of vs) ≡ option_map tree_of v
+element_found place vs v here = sym (element_at-get vs place) ∙ ap (option_map tree_of) (sym here)
+
+pub element_past : (place : ℕ) (vs : List Value) → length vs ≤ place → element_at place (trees_of vs) ≡ None
+element_past place [] past = refl
+element_past zero (v ∷ vs) past = absurd (omega arith)
+element_past (suc place) (v ∷ vs) past = element_past place vs (omega arith)
 
 -- ---- attributes and elements that are changed
 
@@ -145,26 +148,30 @@ change_at-remove (v ∷ vs) zero h = refl
 change_at-remove (v ∷ vs) (suc place) h = ap (tree.tree (tree_of v)) (change_at-remove vs place (omega arith))
 
 -- an element that is there takes what stays of it
-pub change_at-set : (vs : List Value) (place : ℕ) (stays : Tree → Option Tree) (w d : Value) → place < length vs → Some (tree_of w) ≡ stays (tree_of (get_or vs place d)) → trees_of (slice_set vs place w) ≡ change_at place stays (trees_of vs)
-change_at-set [] place stays w d h kept = absurd (omega arith)
-change_at-set (v ∷ vs) zero stays w d h kept = ap (λ o. kept_element o (trees_of vs)) kept
-change_at-set (v ∷ vs) (suc place) stays w d h kept = ap (tree.tree (tree_of v)) (change_at-set vs place stays w d (omega arith) kept)
+pub change_at-set : (place : ℕ) (stays : Tree → Option Tree) (w v : Value) → Some (tree_of w) ≡ stays (tree_of v) → (vs : List Value) → slice_get vs place ≡ Some v
+    → trees_of (slice_set vs place w) ≡ change_at place stays (trees_of vs)
+change_at-set place stays w v kept [] here = refl
+change_at-set zero stays w v kept (u ∷ vs) here =
+    let first : u ≡ v = cc in
+    ap (λ o. kept_element o (trees_of vs)) (kept ∙ ap (λ x. stays (tree_of x)) (sym first))
+change_at-set (suc place) stays w v kept (u ∷ vs) here = ap (tree.tree (tree_of u)) (change_at-set place stays w v kept vs here)
 
-pub change_at-past : (vs : List Value) (place : ℕ) (stays : Tree → Option Tree) → length vs ≤ place → trees_of vs ≡ change_at place stays (trees_of vs)
-change_at-past [] place stays h = refl
-change_at-past (v ∷ vs) zero stays h = absurd (omega arith)
-change_at-past (v ∷ vs) (suc place) stays h = ap (tree.tree (tree_of v)) (change_at-past vs place stays (omega arith))
+-- where the list has no such place, nothing changes
+pub change_at-absent : (place : ℕ) (stays : Tree → Option Tree) (inside : Trees) → element_at place inside ≡ None → change_at place stays inside ≡ inside
+change_at-absent place stays tree.no_trees none = refl
+change_at-absent zero stays (tree.tree t rest) none = cc
+change_at-absent (suc place) stays (tree.tree t rest) none = ap (tree.tree t) (change_at-absent place stays rest none)
 
 -- an element that is replaced, and one that is appended
-pub put_at-set : (vs : List Value) (place : ℕ) (w : Value) → place < length vs → trees_of (slice_set vs place w) ≡ put_at place (tree_of w) (trees_of vs)
-put_at-set [] place w h = absurd (omega arith)
-put_at-set (v ∷ vs) zero w h = refl
-put_at-set (v ∷ vs) (suc place) w h = ap (tree.tree (tree_of v)) (put_at-set vs place w (omega arith))
+pub put_at-set : (place : ℕ) (w v : Value) (vs : List Value) → slice_get vs place ≡ Some v → trees_of (slice_set vs place w) ≡ put_at place (tree_of w) (trees_of vs)
+put_at-set place w v [] here = cc
+put_at-set zero w v (u ∷ vs) here = refl
+put_at-set (suc place) w v (u ∷ vs) here = ap (tree.tree (tree_of u)) (put_at-set place w v vs here)
 
-pub put_at-push : (vs : List Value) (place : ℕ) (w : Value) → length vs ≤ place → trees_of (vs ++ w ∷ []) ≡ put_at place (tree_of w) (trees_of vs)
-put_at-push [] place w h = refl
-put_at-push (v ∷ vs) zero w h = absurd (omega arith)
-put_at-push (v ∷ vs) (suc place) w h = ap (tree.tree (tree_of v)) (put_at-push vs place w (omega arith))
+pub put_at-push : (place : ℕ) (w : Value) (vs : List Value) → slice_get vs place ≡ None → trees_of (vs ++ w ∷ []) ≡ put_at place (tree_of w) (trees_of vs)
+put_at-push place w [] none = refl
+put_at-push zero w (u ∷ vs) none = cc
+put_at-push (suc place) w (u ∷ vs) none = ap (tree.tree (tree_of u)) (put_at-push place w vs none)
 
 -- ---- the rest of a path
 
@@ -173,6 +180,10 @@ no_steps [] e = refl
 no_steps (step ∷ steps) e = absurd (omega arith)
 
 -- what no further step finds is what is there
+pub is_some_tree : (there : Option Tree) → is_some there ≡ is_some (option_and_then (found_in []) there)
+is_some_tree None = refl
+is_some_tree (Some t) = refl
+
 pub is_some_here : (there : Option Value) → is_some there ≡ is_some (option_and_then (found_in []) (option_map tree_of there))
 is_some_here None = refl
 is_some_here (Some v) = refl

@@ -1,13 +1,13 @@
 //! Items with or without what a document path leads to.
 
-ghost use Rattle.std.specs.Prelude.{◌≡◌, ◌↔◌, ◌∷◌, ◌<◌, is_some, IsTrue, option_and_then, OnOk, OnErr, IfErr};
+ghost use Rattle.std.specs.Prelude.{◌≡◌, ◌↔◌, [], ◌∷◌, ◌<◌, is_some, IsTrue, option_and_then, OnOk, OnErr, IfErr};
 ghost use Rattle.attr_value.specs.Paths.{found, found_in, child, value_at, element_at, with_value, with_in, without, without_in, put, put_at, change, change_at, changed, reach, IsPathEnd, IsBadPathWhere};
 ghost use Rattle.attr_value.specs.Tree as tree;
 ghost use Rattle.attr_value.specs.View.{tree_of, trees_of, attributes};
 
 use crate::fault::{ValueEnd, ValueFault};
 use crate::value::{Item, Value};
-use expr_lexer::{DocPath, Step, Text};
+use expr_lexer::{DocPath, Seq, Step, Text};
 use std::alloc::AllocError as NoMemory;
 
 /// How many lists and maps may lie in one another.
@@ -67,10 +67,10 @@ fn remove_attribute(item: &mut Item, name: &Text, rest: &[Step]) -> bool
     let Some((step, deeper)) = rest.split_first() else {
         return item.attributes.remove(name).is_some();
     };
-    match item.attributes.get_mut(name) {
-        Some(value) => remove_below(value, step, deeper),
-        None => false,
-    }
+    let Some(value) = item.attributes.get_mut(name) else {
+        return false;
+    };
+    remove_below(value, step, deeper)
 }
 
 /// Takes out what the step and then the rest find.
@@ -94,19 +94,30 @@ fn remove_below(value: &mut Value, step: &Step, rest: &[Step]) -> bool
 
 /// Takes out what the place and then the rest of the steps find.
 #[cycle(remove)]
-fn remove_element(list: &mut Vec<Value>, place: usize, rest: &[Step]) -> bool
+fn remove_element(list: &mut Seq<Value>, place: usize, rest: &[Step]) -> bool
     ensures found { result
-        ≡ is_some (option_and_then (found_in rest.now) (element_at place (trees_of list.old.items))) }
-    ensures without { trees_of list.new.items ≡ change_at place (without_in rest.now) (trees_of list.old.items) }
+        ≡ is_some (option_and_then (found_in rest.now) (element_at place (trees_of list.old))) }
+    ensures without { trees_of list.new ≡ change_at place (without_in rest.now) (trees_of list.old) }
+{
+    let Some((step, deeper)) = rest.split_first() else {
+        return take_element(list, place);
+    };
+    let Some(value) = list.get_mut(place) else {
+        return false;
+    };
+    remove_below(value, step, deeper)
+}
+
+/// Takes out the element at this place.
+fn take_element(list: &mut Seq<Value>, place: usize) -> bool
+    ensures found { result ≡ is_some (element_at place (trees_of list.old)) }
+    ensures without { trees_of list.new ≡ change_at place (without_in []) (trees_of list.old) }
 {
     if list.len() <= place {
         return false;
     }
-    let Some((step, deeper)) = rest.split_first() else {
-        drop(list.remove(place));
-        return true;
-    };
-    remove_below(&mut list[place], step, deeper)
+    drop(list.remove(place));
+    true
 }
 
 /// Whether the value would lie, or hold lists and maps, deeper than an item may nest.
@@ -128,10 +139,10 @@ fn set_attribute(item: &mut Item, name: &Text, rest: &[Step], value: Value) -> R
         put_attribute(item, name, value)?;
         return Ok(());
     };
-    match item.attributes.get_mut(name) {
-        Some(parent) => set_below(parent, step, deeper, value),
-        None => Err(ValueEnd::Fault(ValueFault::BadPath)),
-    }
+    let Some(parent) = item.attributes.get_mut(name) else {
+        return Err(ValueEnd::Fault(ValueFault::BadPath));
+    };
+    set_below(parent, step, deeper, value)
 }
 
 /// Puts the value where the step and then the rest lead.
@@ -156,23 +167,23 @@ fn set_below(parent: &mut Value, step: &Step, rest: &[Step], value: Value) -> Re
 /// Puts the value where the place and then the rest of the steps lead.
 #[cycle(set)]
 fn set_element(
-    list: &mut Vec<Value>,
+    list: &mut Seq<Value>,
     place: usize,
     rest: &[Step],
     value: Value,
 ) -> Result<(), ValueEnd>
-    ensures ok { OnOk result (with_in (Step.Index place ∷ rest.now) (Some (tree.list (trees_of list.old.items))) (tree_of value) ≡ Some (tree.list (trees_of list.new.items))) }
-    ensures bad_path { IfErr result (IsBadPathWhere (with_in (Step.Index place ∷ rest.now) (Some (tree.list (trees_of list.old.items))) (tree_of value) ≡ None)) }
-    ensures unchanged { OnErr result (trees_of list.new.items ≡ trees_of list.old.items) }
+    ensures ok { OnOk result (with_in (Step.Index place ∷ rest.now) (Some (tree.list (trees_of list.old))) (tree_of value) ≡ Some (tree.list (trees_of list.new))) }
+    ensures bad_path { IfErr result (IsBadPathWhere (with_in (Step.Index place ∷ rest.now) (Some (tree.list (trees_of list.old))) (tree_of value) ≡ None)) }
+    ensures unchanged { OnErr result (trees_of list.new ≡ trees_of list.old) }
 {
     let Some((step, deeper)) = rest.split_first() else {
         put_element(list, place, value)?;
         return Ok(());
     };
-    if list.len() <= place {
+    let Some(parent) = list.get_mut(place) else {
         return Err(ValueEnd::Fault(ValueFault::BadPath));
-    }
-    set_below(&mut list[place], step, deeper, value)
+    };
+    set_below(parent, step, deeper, value)
 }
 
 /// Gives the attribute of this name the value, in its place where it is there.
@@ -189,14 +200,14 @@ fn put_attribute(item: &mut Item, name: &Text, value: Value) -> Result<(), NoMem
 }
 
 /// Puts the value at this place of the list, or at its end.
-fn put_element(list: &mut Vec<Value>, place: usize, value: Value) -> Result<(), NoMemory>
-    ensures ok { OnOk result (trees_of list.new.items ≡ put_at place (tree_of value) (trees_of list.old.items)) }
-    ensures unchanged { OnErr result (trees_of list.new.items ≡ trees_of list.old.items) }
+fn put_element(list: &mut Seq<Value>, place: usize, value: Value) -> Result<(), NoMemory>
+    ensures ok { OnOk result (trees_of list.new ≡ put_at place (tree_of value) (trees_of list.old)) }
+    ensures unchanged { OnErr result (trees_of list.new ≡ trees_of list.old) }
 {
-    if place < list.len() {
-        list[place] = value;
-    } else {
-        list.push(value)?;
+    if let Some(kept) = list.get_mut(place) {
+        *kept = value;
+        return Ok(());
     }
+    list.push(value)?;
     Ok(())
 }

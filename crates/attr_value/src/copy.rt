@@ -4,6 +4,7 @@ ghost use Rattle.std.specs.Prelude.{◌≡◌, IfOk};
 ghost use Rattle.attr_value.specs.View.{tree_of, trees_of, attributes};
 
 use crate::value::{Item, Value};
+use expr_lexer::Seq;
 use std::alloc::AllocError as NoMemory;
 use std::collections::BTreeMap;
 use std::default::Emptied;
@@ -45,11 +46,11 @@ impl Item {
 }
 
 #[cycle(copy)]
-fn copy_of_list(list: &Vec<Value>) -> Result<Vec<Value>, NoMemory>
-    ensures { IfOk result (λ copy. trees_of copy.items ≡ trees_of list.now.items) }
+fn copy_of_list(list: &Seq<Value>) -> Result<Seq<Value>, NoMemory>
+    ensures { IfOk result (λ copy. trees_of copy ≡ trees_of list.now) }
 {
-    let mut copies = Vec::with_capacity(*list.allocator(), list.len())?;
-    for value in list {
+    let mut copies = Seq::with_capacity(list.allocator(), list.len())?;
+    for value in list.as_slice() {
         copies.push(value.try_clone()?)?;
     }
     Ok(copies)

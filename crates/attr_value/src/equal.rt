@@ -77,7 +77,7 @@ fn are_equal(value: &Value, other: &Value) -> bool
         (Value::B(bytes), Value::B(other)) => bytes == other,
         (Value::Bool(flag), Value::Bool(other)) => flag == other,
         (Value::Null, Value::Null) => true,
-        (Value::L(list), Value::L(other)) => are_equal_lists(list, other),
+        (Value::L(list), Value::L(other)) => are_equal_lists(list.as_slice(), other.as_slice()),
         (Value::M(item), Value::M(other)) => are_equal_items(item, other),
         (Value::Ss(texts), Value::Ss(other)) => texts == other,
         (Value::Ns(numbers), Value::Ns(other)) => numbers == other,

@@ -5,7 +5,7 @@ ghost use Rattle.attr_value.specs.Paths.{found, found_in, child, value_at, eleme
 ghost use Rattle.attr_value.specs.View.{tree_of, trees_of, attributes};
 
 use crate::value::{Item, Value};
-use expr_lexer::{DocPath, Step, Text};
+use expr_lexer::{DocPath, Seq, Step, Text};
 
 impl Item {
     /// What the path finds, lent: a path begins with a name, and each step of it leads to an attribute of a map or to a
@@ -57,12 +57,9 @@ fn one_below<'v>(value: &'v Value, step: &Step) -> Option<&'v Value>
     }
 }
 
-fn element(list: &Vec<Value>, place: usize) -> Option<&Value>
-    ensures { option_map (λ found. tree_of found.now) result ≡ element_at place (trees_of list.now.items) }
+/// The element at this place.
+fn element(list: &Seq<Value>, place: usize) -> Option<&Value>
+    ensures { option_map (λ found. tree_of found.now) result ≡ element_at place (trees_of list.now) }
 {
-    if place < list.len() {
-        Some(&list[place])
-    } else {
-        None
-    }
+    list.get(place)
 }

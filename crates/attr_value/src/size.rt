@@ -5,7 +5,7 @@ ghost use Rattle.attr_value.specs.Sizes.{size, count, elements_size, item_size, 
 ghost use Rattle.attr_value.specs.View.{tree_of, trees_of, attributes};
 
 use crate::value::{Item, Value};
-use expr_lexer::{Bytes, Text};
+use expr_lexer::{Bytes, Seq, Text};
 use number38::Number;
 
 impl Value {
@@ -77,11 +77,11 @@ impl Item {
 
 /// The bytes of a list's elements, and 1 for each.
 #[cycle(size)]
-fn list_bytes(list: &Vec<Value>) -> u64
-    ensures { result ≡ min (count (trees_of list.now.items) + elements_size (trees_of list.now.items)) u64.MAX }
+fn list_bytes(list: &Seq<Value>) -> u64
+    ensures { result ≡ min (count (trees_of list.now) + elements_size (trees_of list.now)) u64.MAX }
 {
     let mut total = 0u64;
-    for value in list {
+    for value in list.as_slice() {
         total = total.saturating_add(value.size()).saturating_add(1);
     }
     total
@@ -89,11 +89,11 @@ fn list_bytes(list: &Vec<Value>) -> u64
 
 /// The greatest depth of an element, 0 where there is none.
 #[cycle(depth)]
-fn list_depth(list: &Vec<Value>) -> u32
-    ensures { result ≡ min (elements_depth (trees_of list.now.items)) u32.MAX }
+fn list_depth(list: &Seq<Value>) -> u32
+    ensures { result ≡ min (elements_depth (trees_of list.now)) u32.MAX }
 {
     let mut deepest = 0u32;
-    for value in list {
+    for value in list.as_slice() {
         deepest = deepest.max(value.depth());
     }
     deepest

@@ -28,14 +28,14 @@ fn path(alloc: Global, from: &str) -> Result<DocPath, Fail> {
 }
 
 fn list_of(alloc: Global, value: Value) -> Result<Value, AllocError> {
-    let mut list = Vec::new(alloc);
+    let mut list = Seq::new(alloc);
     list.push(value)?;
     Ok(Value::L(list))
 }
 
 /// This many lists in one another, the innermost of which is empty.
 fn nested(alloc: Global, levels: u32) -> Result<Value, AllocError> {
-    let mut value = Value::L(Vec::new(alloc));
+    let mut value = Value::L(Seq::new(alloc));
     for _level in 1..levels {
         value = list_of(alloc, value)?;
     }
@@ -135,7 +135,7 @@ fn example(alloc: Global) -> Result<Item, Fail> {
     let mut item = Item::new(alloc);
     set(alloc, &mut item, "m", Value::M(Item::new(alloc)))?;
     for steps in ["l", "m.y", "m.y.0"] {
-        set(alloc, &mut item, steps, Value::L(Vec::new(alloc)))?;
+        set(alloc, &mut item, steps, Value::L(Seq::new(alloc)))?;
     }
     for (steps, digits) in [
         ("l.0", "10"),

@@ -24,7 +24,7 @@ pub enum Value {
     /// The null value.
     Null,
     /// A list of values of any kinds.
-    L(Vec<Value>),
+    L(Seq<Value>),
     /// A map from names to values of any kinds.
     M(Item),
     /// A set of texts, as [`string_set`](crate::string_set) makes it.

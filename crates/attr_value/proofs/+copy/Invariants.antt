@@ -4,7 +4,7 @@ use Rattle.attr_value.proofs.Views.{Entry}
 use Rattle.attr_value.proofs.+copy.Given as goal
 
 abbrev pub invariant-copy::copy_of_list-loop-value : goal.invariant-copy::copy_of_list-loop-value
-invariant-copy::copy_of_list-loop-value l = map tree_of l.copies.items ≡ map tree_of (take l.value-index l.value-items)
+invariant-copy::copy_of_list-loop-value l = map tree_of l.copies ≡ map tree_of (take l.value-index l.value-items)
 
 abbrev pub invariant-value::Item::try_clone-loop-name : goal.invariant-value::Item::try_clone-loop-name
 invariant-value::Item::try_clone-loop-name l =

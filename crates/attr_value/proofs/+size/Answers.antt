@@ -10,10 +10,10 @@ use Rattle.attr_value.proofs.+size.Goals as goal
 pub size::list_bytes-returns : goal.size::list_bytes-returns
 size::list_bytes-returns t c =
     let l = c.loop-value in
-    let xs = c.deref-value-items.result.now in
+    let xs = c.as_slice-value-items.result.now in
     let none : drop l.value-index xs ≡ [] = drop_all l.value-index xs (omega arith) in
     let rest : list_size (drop l.value-index xs) ≡ 0 = ap list_size none in
-    let whole : list_size xs ≡ list_size c.args.list.now.items = ap list_size c.deref-value-items.ensures.value in
+    let whole : list_size xs ≡ list_size c.args.list.now = ap list_size c.as_slice-value-items.ensures in
     omega (arith, rest, whole, l.invariant.sum)
 
 pub value::Item::size-returns : goal.value::Item::size-returns

@@ -1,9 +1,9 @@
-use Rattle.std.proofs.Common.{◌≡◌, [], ◌∷◌, Some, None, is_some, option_and_then, sym, ap, ◌∙◌, arith}
+use Rattle.std.proofs.Common.{◌≡◌, [], Some, None, is_some, option_and_then, sym, ap, ◌∙◌}
 use Rattle.expr_lexer.specs.declared.path.Step.TheVariants.{Name}
 use Rattle.attr_value.specs.Paths.{found_in, child, value_at, element_at, without_in, change, change_at, changed}
 use Rattle.attr_value.specs.Tree.{map}
 use Rattle.attr_value.specs.View.{tree_of, trees_of, attributes, attributes_of}
-use Rattle.attr_value.proofs.Views.{tree_of-M, value_at-lookup, value_at_found, is_some_here, no_steps, element_within, element_past, change-remove_entry, change-set_value, change-absent, change_at-remove, change_at-set, change_at-past}
+use Rattle.attr_value.proofs.Views.{tree_of-M, value_at-lookup, value_at_found, is_some_here, is_some_tree, no_steps, element_found, change-remove_entry, change-set_value, change-absent, change_at-set, change_at-absent}
 use Rattle.attr_value.proofs.change.+remove.Goals as goal
 
 pub remove_attribute-returns-in_default-clause-found : goal.remove_attribute-returns-in_default-clause-found
@@ -18,26 +18,26 @@ remove_attribute-returns-in_default-clause-without t c =
     let none : c.args.rest.now ≡ [] = no_steps _ c.in_default.ensures.cases in
     ap attributes_of c.remove.ensures.entries ∙ change-remove_entry c.args.name.now c.args.item.now.attributes.entries ∙ ap (λ steps. change c.args.name.now (without_in steps) (attributes c.args.item.now)) (sym none)
 
-pub remove_attribute-returns-in-Some-get_mut-clause-found : goal.remove_attribute-returns-in-Some-get_mut-clause-found
-remove_attribute-returns-in-Some-get_mut-clause-found t c =
+pub remove_attribute-returns-clause-found : goal.remove_attribute-returns-clause-found
+remove_attribute-returns-clause-found t c =
     let there = value_at_found c.args.name.now c.args.item.now.attributes.entries _ c.in-Some-get_mut.ensures.value in
     rw (c.in-Some.ensures.cases.0, there) c.remove_below.ensures.found
 
-pub remove_attribute-returns-in-Some-get_mut-clause-without : goal.remove_attribute-returns-in-Some-get_mut-clause-without
-remove_attribute-returns-in-Some-get_mut-clause-without t c =
+pub remove_attribute-returns-clause-without : goal.remove_attribute-returns-clause-without
+remove_attribute-returns-clause-without t c =
     let w = c.remove_below.new.value in
     let v = c.in-Some-get_mut.value.now in
     let kept : Some (tree_of w) ≡ without_in c.args.rest.now (tree_of v) = ap Some c.remove_below.ensures.without ∙ ap (λ s. without_in s (tree_of v)) (sym c.in-Some.ensures.cases.0) in
     ap attributes_of (c.get_mut.follows.holds w).0 ∙ change-set_value c.args.name.now (without_in c.args.rest.now) w v kept c.args.item.now.attributes.entries (sym c.in-Some-get_mut.ensures.value)
 
-pub remove_attribute-returns-in-None-clause-found : goal.remove_attribute-returns-in-None-clause-found
-remove_attribute-returns-in-None-clause-found t c =
-    let there = value_at_found c.args.name.now c.args.item.now.attributes.entries None c.in-None.ensures.value in
+pub remove_attribute-returns-in_default-get_mut-clause-found : goal.remove_attribute-returns-in_default-get_mut-clause-found
+remove_attribute-returns-in_default-get_mut-clause-found t c =
+    let there = value_at_found c.args.name.now c.args.item.now.attributes.entries None c.in_default-get_mut.ensures.value in
     ap (λ o. is_some (option_and_then (found_in c.args.rest.now) o)) (sym there)
 
-pub remove_attribute-returns-in-None-clause-without : goal.remove_attribute-returns-in-None-clause-without
-remove_attribute-returns-in-None-clause-without t c =
-    let there = value_at_found c.args.name.now c.args.item.now.attributes.entries None c.in-None.ensures.value in
+pub remove_attribute-returns-in_default-get_mut-clause-without : goal.remove_attribute-returns-in_default-get_mut-clause-without
+remove_attribute-returns-in_default-get_mut-clause-without t c =
+    let there = value_at_found c.args.name.now c.args.item.now.attributes.entries None c.in_default-get_mut.ensures.value in
     ap (λ m. attributes_of m.entries) c.get_mut.follows.holds-at-none ∙ sym (change-absent c.args.name.now (without_in c.args.rest.now) (attributes c.args.item.now) there)
 
 pub remove_below-returns-in-M-clause-found : goal.remove_below-returns-in-M-clause-found
@@ -53,36 +53,35 @@ remove_below-returns-in-M-clause-without t c =
     let inside = c.remove_attribute.ensures.without ∙ ap (λ i. change c.in-Name.name (without_in c.args.rest.now) (attributes i)) c.in-M.item-is in
     rw (c.in-Name.is, c.in-M.is) (tree_of-M c.remove_attribute.new.item ∙ ap map inside ∙ ap (changed (Name c.in-Name.name) (without_in c.args.rest.now)) (sym (tree_of-M c.in-M.item)))
 
-pub remove_element-returns-then-len-place-clause-found : goal.remove_element-returns-then-len-place-clause-found
-remove_element-returns-then-len-place-clause-found t c =
-    ap (λ o. is_some (option_and_then (found_in c.args.rest.now) o)) (element_past c.args.list.now.items c.args.place (omega arith))
-
-pub remove_element-returns-then-len-place-clause-without : goal.remove_element-returns-then-len-place-clause-without
-remove_element-returns-then-len-place-clause-without t c = change_at-past c.args.list.now.items c.args.place (without_in c.args.rest.now) (omega arith)
-
 pub remove_element-returns-in_default-clause-found : goal.remove_element-returns-in_default-clause-found
 remove_element-returns-in_default-clause-found t c =
-    let vs = c.args.list.now.items in
+    let there = element_at c.args.place (trees_of c.args.list.now) in
     let none : c.args.rest.now ≡ [] = no_steps _ c.in_default.ensures.cases in
-    ap (λ o. is_some (option_and_then (found_in []) o)) (element_within vs c.args.place c.remove.result (omega arith)) ∙ ap (λ steps. is_some (option_and_then (found_in steps) (element_at c.args.place (trees_of vs)))) (sym none)
+    c.take_element.ensures.found ∙ is_some_tree there ∙ ap (λ steps. is_some (option_and_then (found_in steps) there)) (sym none)
 
 pub remove_element-returns-in_default-clause-without : goal.remove_element-returns-in_default-clause-without
 remove_element-returns-in_default-clause-without t c =
-    let vs = c.args.list.now.items in
     let none : c.args.rest.now ≡ [] = no_steps _ c.in_default.ensures.cases in
-    ap trees_of c.remove.ensures.items ∙ change_at-remove vs c.args.place (omega arith) ∙ ap (λ steps. change_at c.args.place (without_in steps) (trees_of vs)) (sym none)
+    c.take_element.ensures.without ∙ ap (λ steps. change_at c.args.place (without_in steps) (trees_of c.args.list.now)) (sym none)
 
 pub remove_element-returns-clause-found : goal.remove_element-returns-clause-found
 remove_element-returns-clause-found t c =
-    let vs = c.args.list.now.items in
-    let v = c.index_mut.result.now in
-    let here : Some (tree_of v) ≡ element_at c.args.place (trees_of vs) = ap (λ x. Some (tree_of x)) c.index_mut.ensures.value ∙ element_within vs c.args.place v (omega arith) in
-    rw (c.in-Some.ensures.cases.0, ← here) c.remove_below.ensures.found
+    let here = element_found c.args.place c.args.list.now (Some c.in-Some-get_mut.value.now) c.in-Some-get_mut.ensures.value in
+    rw (c.in-Some.ensures.cases.0, here) c.remove_below.ensures.found
 
 pub remove_element-returns-clause-without : goal.remove_element-returns-clause-without
 remove_element-returns-clause-without t c =
-    let vs = c.args.list.now.items in
-    let v = c.index_mut.result.now in
     let w = c.remove_below.new.value in
-    let kept = ap Some c.remove_below.ensures.without ∙ ap (λ x. without_in (c.in-Some.step.now ∷ c.in-Some.deeper.now) (tree_of x)) c.index_mut.ensures.value in
-    change_at-set vs c.args.place (without_in c.args.rest.now) w v (omega arith) (rw c.in-Some.ensures.cases.0 kept)
+    let v = c.in-Some-get_mut.value.now in
+    let kept : Some (tree_of w) ≡ without_in c.args.rest.now (tree_of v) = ap Some c.remove_below.ensures.without ∙ ap (λ s. without_in s (tree_of v)) (sym c.in-Some.ensures.cases.0) in
+    change_at-set c.args.place (without_in c.args.rest.now) w v kept c.args.list.now (sym c.in-Some-get_mut.ensures.value)
+
+pub remove_element-returns-in_default-get_mut-clause-found : goal.remove_element-returns-in_default-get_mut-clause-found
+remove_element-returns-in_default-get_mut-clause-found t c =
+    let here = element_found c.args.place c.args.list.now None c.in_default-get_mut.ensures.value in
+    ap (λ o. is_some (option_and_then (found_in c.args.rest.now) o)) (sym here)
+
+pub remove_element-returns-in_default-get_mut-clause-without : goal.remove_element-returns-in_default-get_mut-clause-without
+remove_element-returns-in_default-get_mut-clause-without t c =
+    let here = element_found c.args.place c.args.list.now None c.in_default-get_mut.ensures.value in
+    sym (change_at-absent c.args.place (without_in c.args.rest.now) (trees_of c.args.list.now) here)

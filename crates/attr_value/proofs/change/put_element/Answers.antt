@@ -1,10 +1,10 @@
-use Rattle.std.proofs.Common.{ap, ◌∙◌, arith}
+use Rattle.std.proofs.Common.{sym, ap, ◌∙◌}
 use Rattle.attr_value.specs.View.{trees_of}
 use Rattle.attr_value.proofs.Views.{put_at-set, put_at-push}
 use Rattle.attr_value.proofs.change.put_element.Goals as goal
 
-pub returns-then-place-len-clause-ok : goal.returns-then-place-len-clause-ok
-returns-then-place-len-clause-ok c = put_at-set c.args.list.now.items c.args.place c.args.value (omega arith)
+pub returns-in-Some-clause-ok : goal.returns-in-Some-clause-ok
+returns-in-Some-clause-ok c = put_at-set c.args.place c.args.value c.in-Some.kept.now c.args.list.now (sym c.in-Some.ensures.value)
 
-pub returns-in_ok-push-clause-ok : goal.returns-in_ok-push-clause-ok
-returns-in_ok-push-clause-ok c = ap trees_of c.in_ok-push.ensures.items ∙ put_at-push c.args.list.now.items c.args.place c.args.value (omega arith)
+pub returns-clause-ok : goal.returns-clause-ok
+returns-clause-ok c = ap trees_of c.in_ok-push.ensures.ok ∙ put_at-push c.args.place c.args.value c.args.list.now (sym c.in_default.ensures.value)

@@ -1,10 +1,7 @@
-use Rattle.std.proofs.Common.{Some, ap, ◌∙◌, arith}
+use Rattle.std.proofs.Common.{option_map, ap, ◌∙◌}
 use Rattle.attr_value.specs.View.{tree_of}
-use Rattle.attr_value.proofs.Views.{element_within, element_past}
+use Rattle.attr_value.proofs.Views.{lent, element_at-get}
 use Rattle.attr_value.proofs.path.element.Goals as goal
 
-pub returns-then-place-len : goal.returns-then-place-len
-returns-then-place-len c = ap (λ v. Some (tree_of v)) c.index.ensures ∙ element_within c.args.list.now.items c.args.place c.index.result.now (omega arith)
-
-pub returns-else-place-len : goal.returns-else-place-len
-returns-else-place-len c = element_past c.args.list.now.items c.args.place (omega arith)
+pub returns : goal.returns
+returns c = lent c.get.result ∙ ap (option_map tree_of) c.get.ensures ∙ element_at-get c.args.list.now c.args.place
