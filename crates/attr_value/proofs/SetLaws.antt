@@ -1,8 +1,8 @@
 -- A sorted list whose neighbours are told apart is a set, and else has a repeat.
-use Rattle.std.proofs.Common.{◌≡◌, ℕ, zero, suc, ◌+◌, ◌<◌, ◌≤◌, Bool, true, false, cond, List, [], ◌∷◌, length, get_or, Ordering, Less, Equal, Greater, is_eq, refl, ap, subst, arith, add-one}
+use Rattle.std.proofs.Common.{◌≡◌, ℕ, zero, suc, ◌+◌, ◌<◌, ◌≤◌, Bool, true, false, cond, List, [], ◌∷◌, length, get_or, Ordering, Less, Equal, Greater, is_eq, refl, ap, ◌∙◌, subst, arith, add-one}
 use Rattle.std.specs.Cmp.{IsTotalOrder}
 use Rattle.std.specs.Ordering.{is_lt, ordering_reverse}
-use Rattle.std.specs.List.{IsAllAdjacentAnswer, count_by}
+use Rattle.std.specs.List.{AllByRecursion, IsAllAdjacentAnswer, count_by}
 use Rattle.std.specs.List.Sorted.{IsPermutation, IsSorted, IsStrictlySortedBy}
 use Rattle.std.proofs.lemmas.Cmp.{tied_itself}
 use Rattle.std.proofs.lemmas.List.Sorted.{sum_by-IsPermutation}
@@ -35,6 +35,40 @@ module _ {A : Type 0} {cmp : A → A → Ordering} (laws : IsTotalOrder cmp) whe
   one_counted : (b : Bool) → b ≡ true → ◌≡◌ {A = ℕ} (cond b 1 0) 1
   one_counted true e = refl
   one_counted false e = cc
+
+  none_counted : (b : Bool) → b ≡ false → ◌≡◌ {A = ℕ} (cond b 1 0) 0
+  none_counted true e = cc
+  none_counted false e = refl
+
+  -- no element above another ties with it
+  none_above : (x y : A) → cmp x y ≡ Equal → (ys : List A) → AllByRecursion (λ z. cmp y z ≡ Less) ys
+      → count_by (λ z. is_eq (cmp x z)) ys ≡ 0
+  none_above x y tie [] above = refl
+  none_above x y tie (z ∷ ys) above =
+      let other : is_eq (cmp x z) ≡ false = ap is_eq (laws.congr x y z tie ∙ above.0) in
+      let first = counted (λ z. is_eq (cmp x z)) z ys in
+      omega (arith, first, none_counted _ other, none_above x y tie ys above.1)
+
+  once_more : (x y : A) (ys : List A) (o : Ordering) → cmp x y ≡ o → AllByRecursion (λ z. cmp y z ≡ Less) ys
+      → count_by (λ z. is_eq (cmp x z)) ys ≤ 1 → count_by (λ z. is_eq (cmp x z)) (y ∷ ys) ≤ 1
+  once_more x y ys Less e above rest =
+      omega (arith, counted (λ z. is_eq (cmp x z)) y ys, none_counted _ (ap is_eq e), rest)
+  once_more x y ys Equal e above rest =
+      omega (arith, counted (λ z. is_eq (cmp x z)) y ys, one_counted _ (ap is_eq e), none_above x y e ys above)
+  once_more x y ys Greater e above rest =
+      omega (arith, counted (λ z. is_eq (cmp x z)) y ys, none_counted _ (ap is_eq e), rest)
+
+  counted_once : (x : A) (ys : List A) → IsStrictlySortedBy cmp ys → count_by (λ z. is_eq (cmp x z)) ys ≤ 1
+  unfolding IsStrictlySortedBy
+  counted_once x [] up = omega arith
+  counted_once x (y ∷ ys) up = once_more x y ys (cmp x y) refl up.0 (counted_once x ys up.1)
+
+  -- a list with an order of its elements, each below the next, has none twice
+  pub no_repeat : (elements xs : List A) → IsPermutation elements xs → IsStrictlySortedBy cmp xs
+      → HasRepeat cmp elements → ⊥
+  no_repeat elements xs moved up (x, twice) =
+      let same = sum_by-IsPermutation (λ y. cond (is_eq (cmp x y)) 1 0) elements xs moved in
+      omega (arith, same, counted_once x xs up, twice)
 
   -- two neighbours that pass a test are two elements that pass it
   neighbours_counted : (p : A → Bool) (xs : List A) (k : ℕ) (d : A) → suc k < length xs → p (get_or xs k d) ≡ true → p (get_or xs (suc k) d) ≡ true → 2 ≤ count_by p xs

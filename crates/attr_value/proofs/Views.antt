@@ -1,5 +1,5 @@
 -- A value, level by level, and a map of the code beside the attributes that it stands for.
-use Rattle.std.proofs.Common.{◌≡◌, ℕ, List, [], ◌∷◌, ◌++◌, Option, Some, None, option_map, option_and_then, is_some, Ordering, Less, Equal, Greater, nat_cmp, is_eq, cond, Bool, true, false, bytes_eq, Bor, zero, suc, ◌<◌, ◌≤◌, length, slice_get, slice_set, remove, refl, sym, subst, ap, ◌∙◌, arith, rules}
+use Rattle.std.proofs.Common.{◌≡◌, ◌↔◌, ℕ, List, [], ◌∷◌, ◌++◌, Option, Some, None, option_map, option_and_then, is_some, Ordering, Less, Equal, Greater, nat_cmp, is_eq, cond, Bool, true, false, bytes_eq, Bor, zero, suc, ◌<◌, ◌≤◌, length, slice_get, slice_set, remove, refl, sym, subst, ap, ◌∙◌, arith, rules}
 use Rattle.std.proofs.lemmas.Cmp.{nat_list_cmp_total}
 use Rattle.std.proofs.lemmas.Map.Text.{is_eq-slice_cmp}
 use Rattle.std.specs.Cmp.Lexicographic.{slice_cmp}
@@ -13,7 +13,7 @@ use Rattle.std.specs.Ordering.{match_ordering, ordering_reverse}
 use Rattle.std.specs.BTreeMap.{insert_entry, is_at}
 use Rattle.expr_lexer.specs.declared.path.Step.{Step}
 use Rattle.attr_value.specs.Tree as tree
-use Rattle.attr_value.specs.Tree.{Tree, Trees, Attributes, no_attributes, attribute}
+use Rattle.attr_value.specs.Tree.{Tree, Trees, Attributes, no_attributes, attribute, IsBelowNames, AreInOrder}
 use Rattle.attr_value.specs.View.{tree_of, trees_of, attributes_of, attributes}
 use Rattle.attr_value.specs.Paths.{put, value_at, element_at, change, kept_attribute, change_at, kept_element, put_at, without_in, found_in}
 use Rattle.attr_value.specs.declared.value.Value.{Value, L, M, the_lemmas}
@@ -40,6 +40,21 @@ attributes_of-match_ordering Greater a b c = refl
 pub attributes_of-insert_entry : (es : List Entry) (name : List ℕ) (v : Value) → attributes_of (insert_entry name_cmp es name v) ≡ put name (tree_of v) (attributes_of es)
 attributes_of-insert_entry [] name v = refl
 attributes_of-insert_entry (e ∷ es) name v = attributes_of-match_ordering (name_cmp name e.0) _ _ _ ∙ rw (attributes_of-insert_entry es name v)
+
+below_names : (name : List ℕ) (es : List Entry) → AllByRecursion (λ y. name_cmp name y ≡ Less) (keys_of es) → IsBelowNames name (attributes_of es)
+below_names name [] below = tt
+below_names name (e ∷ es) below = (below.0, below_names name es below.1)
+
+-- a map's names are in order
+pub attributes_in_order : (es : List Entry) → IsStrictlySortedBy name_cmp (keys_of es) → AreInOrder (attributes_of es)
+unfolding IsStrictlySortedBy
+attributes_in_order [] up = tt
+attributes_in_order (e ∷ es) up = (below_names e.0 es up.0, attributes_in_order es up.1)
+
+-- what has no entry has no attribute
+pub no_entries : (es : List Entry) → (length es ≡ 0) ↔ (attributes_of es ≡ no_attributes)
+no_entries [] = (λ _. refl, λ _. refl)
+no_entries (e ∷ es) = (λ none. absurd (omega arith), λ none. cc)
 
 below_middle : (first : Entry) (es : List Entry) (e : Entry) (more : List Entry) → AllByRecursion (λ y. name_cmp first.0 y ≡ Less) (keys_of (es ++ e ∷ more)) → name_cmp first.0 e.0 ≡ Less
 below_middle first [] e more h = h.0

@@ -1,11 +1,11 @@
 -- What a document path finds in an item, and the item with or without a value there.
-use Rattle.std.specs.Prelude.{ℕ, zero, suc, ◌+◌, ◌-◌, List, [], ◌∷◌, length, Option, Some, None, option_map, option_and_then, ⊤, if◌then◌else◌, bytes_eq}
+use Rattle.std.specs.Prelude.{◌≡◌, ◌↔◌, ℕ, zero, suc, ◌+◌, ◌-◌, ◌<◌, ◌≤◌, List, [], ◌∷◌, length, Option, Some, None, option_map, option_and_then, ⊤, if◌then◌else◌, bytes_eq}
 use Rattle.std.specs.Ordering.{nat_cmp, match_ordering}
 use Rattle.std.specs.Cmp.Lexicographic.{slice_cmp}
 use Rattle.expr_lexer.specs.declared.path.Step.{Step}
 use Rattle.expr_lexer.specs.declared.path.Step.TheVariants.{Name, Index}
 use Rattle.attr_value.specs.Tree.{Tree, list, map, Trees, no_trees, tree, Attributes, no_attributes, attribute}
-use Rattle.attr_value.specs.Sizes.{depth}
+use Rattle.attr_value.specs.Sizes.{depth, item_depth}
 use Rattle.attr_value.specs.declared.fault.ValueFault.TheVariants.{EmptySet, DuplicateInSet, TooDeep, BadPath}
 use Rattle.attr_value.specs.declared.fault.ValueEnd.{ValueEnd}
 use Rattle.attr_value.specs.declared.fault.ValueEnd.TheVariants.{Fault, NoMemory}
@@ -120,6 +120,11 @@ without (Index place ∷ steps) item = item
 -- how deep an item nests where a path leads to a value: each step but the first lies in one more list or map
 abbrev pub reach : List Step → Tree → ℕ
 reach steps value = length steps - 1 + depth value
+
+-- this holds exactly where an item that nests within the limit would nest deeper with the value at the path
+abbrev pub HoldsWhereDeeper : ℕ → List Step → Attributes → Tree → Type 0 → Type 0
+HoldsWhereDeeper limit steps item value P =
+    item_depth item ≤ limit → (new : Attributes) → with_value steps item value ≡ Some new → P ↔ (limit < item_depth new)
 
 -- memory was refused, or the path is bad and this holds
 abbrev pub IsBadPathWhere : Type 0 → ValueEnd → Type 0

@@ -41,6 +41,10 @@ trees_of vs = trees (map tree_of vs)
 abbrev pub attributes_of : List (List ℕ × Value) → Attributes
 attributes_of es = named (map (λ e. (e.0, tree_of e.1)) es)
 
+-- the names and values of an item, in order of name
+abbrev pub entries : Item → List (List ℕ × Value)
+entries i = i.attributes.entries
+
 -- the attributes of an item, in order of name
 abbrev pub attributes : Item → Attributes
-attributes i = attributes_of i.attributes.entries
+attributes i = attributes_of (entries i)

@@ -1,7 +1,8 @@
 //! Items with or without what a document path leads to.
 
-ghost use Rattle.std.specs.Prelude.{◌≡◌, ◌↔◌, [], ◌∷◌, ◌<◌, is_some, IsTrue, option_and_then, OnOk, OnErr, IfErr};
-ghost use Rattle.attr_value.specs.Paths.{found, found_in, child, value_at, element_at, with_value, with_in, without, without_in, put, put_at, change, change_at, changed, reach, IsPathEnd, IsBadPathWhere};
+ghost use Rattle.std.specs.Prelude.{◌≡◌, ◌↔◌, [], ◌∷◌, ◌<◌, ◌≤◌, is_some, IsTrue, option_and_then, OnOk, OnErr, IfErr};
+ghost use Rattle.attr_value.specs.Paths.{found, found_in, child, value_at, element_at, with_value, with_in, without, without_in, put, put_at, change, change_at, changed, reach, HoldsWhereDeeper, IsPathEnd, IsBadPathWhere};
+ghost use Rattle.attr_value.specs.Sizes.{item_depth};
 ghost use Rattle.attr_value.specs.Tree as tree;
 ghost use Rattle.attr_value.specs.View.{tree_of, trees_of, attributes};
 
@@ -14,31 +15,44 @@ use std::alloc::AllocError as NoMemory;
 pub const MAX_DEPTH: u32 = 32;
 
 impl Item {
-    /// Puts the value at the path: in place of what is there, at the end of a list where its place is past the end, or as
-    /// a new attribute.
+    /// Puts the value at the path: in place of what is there, at the end of a list where its place
+    /// is past the end, or as a new attribute.
     ///
-    /// `TooDeep` where the value would lie, or hold lists and maps, deeper than [`MAX_DEPTH`], and else `BadPath` where
-    /// the path has no step, does not begin with a name, or its parent is not there or is of another kind. The item stays as
-    /// it was where there is no `Ok`, and the value is dropped then.
+    /// `TooDeep` where the value would lie, or hold lists and maps, deeper than [`MAX_DEPTH`], and
+    /// else `BadPath` where the path has no step, does not begin with a name, or its parent is not
+    /// there or is of another kind. The item stays as it was where there is no `Ok`, and the value
+    /// is dropped then.
     pub fn set(&mut self, path: &DocPath, value: Value) -> Result<(), ValueEnd>
-        ensures ok { OnOk result (with_value path.now.steps (attributes self.old) (tree_of value) ≡ Some (attributes self.new)) }
+        ensures ok { OnOk result
+            (with_value path.now.steps (attributes self.old) (tree_of value) ≡ Some (attributes self.new)) }
         ensures too_deep { (result ≡ Err (ValueEnd.Fault ValueFault.TooDeep))
             ↔ (MAX_DEPTH < reach path.now.steps (tree_of value)) }
+        ensures deeper { HoldsWhereDeeper MAX_DEPTH path.now.steps (attributes self.old) (tree_of value)
+            (result ≡ Err (ValueEnd.Fault ValueFault.TooDeep)) }
         ensures bad_path { result ≡ Err (ValueEnd.Fault ValueFault.BadPath)
             → with_value path.now.steps (attributes self.old) (tree_of value) ≡ None }
         ensures no_other { IfErr result IsPathEnd }
         ensures unchanged { OnErr result (attributes self.new ≡ attributes self.old) }
+        ensures within { item_depth (attributes self.old) ≤ MAX_DEPTH
+            → item_depth (attributes self.new) ≤ MAX_DEPTH }
     {
         if is_too_deep(path, &value) {
             return Err(ValueEnd::Fault(ValueFault::TooDeep));
         }
-        let Some((first, rest)) = path.steps.as_slice().split_first() else {
-            return Err(ValueEnd::Fault(ValueFault::BadPath));
-        };
-        match first {
-            Step::Name(name) => set_attribute(self, name, rest, value),
-            Step::Index(_) => Err(ValueEnd::Fault(ValueFault::BadPath)),
-        }
+        set_in(self, path.steps.as_slice(), value)
+    }
+
+    /// Gives the attribute of this name the value, in place of what it had. Where memory is refused
+    /// the item stays as it was.
+    ///
+    /// It does not measure how deep the value nests: who makes an item from outside does so before.
+    pub fn put(&mut self, name: Text, value: Value) -> Result<(), NoMemory>
+        ensures ok { OnOk result
+            (attributes self.new ≡ put name (tree_of value) (attributes self.old)) }
+        ensures unchanged { OnErr result (attributes self.new ≡ attributes self.old) }
+    {
+        self.attributes.insert(name, value)?;
+        Ok(())
     }
 
     /// Takes out what the path finds, and answers whether something was there. The elements of a list after one that goes
@@ -128,6 +142,23 @@ fn is_too_deep(path: &DocPath, value: &Value) -> bool
     above > MAX_DEPTH as usize || value.depth() > MAX_DEPTH - above as u32
 }
 
+/// Puts the value where the steps lead.
+fn set_in(item: &mut Item, steps: &[Step], value: Value) -> Result<(), ValueEnd>
+    ensures ok { OnOk result
+        (with_value steps.now (attributes item.old) (tree_of value) ≡ Some (attributes item.new)) }
+    ensures bad_path { IfErr result
+        (IsBadPathWhere (with_value steps.now (attributes item.old) (tree_of value) ≡ None)) }
+    ensures unchanged { OnErr result (attributes item.new ≡ attributes item.old) }
+{
+    let Some((first, rest)) = steps.split_first() else {
+        return Err(ValueEnd::Fault(ValueFault::BadPath));
+    };
+    match first {
+        Step::Name(name) => set_attribute(item, name, rest, value),
+        Step::Index(_) => Err(ValueEnd::Fault(ValueFault::BadPath)),
+    }
+}
+
 /// Puts the value where the name and then the rest of the steps lead.
 #[cycle(set)]
 fn set_attribute(item: &mut Item, name: &Text, rest: &[Step], value: Value) -> Result<(), ValueEnd>
@@ -195,8 +226,7 @@ fn put_attribute(item: &mut Item, name: &Text, value: Value) -> Result<(), NoMem
         *kept = value;
         return Ok(());
     }
-    item.attributes.insert(name.try_clone()?, value)?;
-    Ok(())
+    item.put(name.try_clone()?, value)
 }
 
 /// Puts the value at this place of the list, or at its end.

@@ -18,8 +18,8 @@ use number38::Number;
 pub fn string_set(elements: Seq<Text>) -> Result<Value, ValueEnd>
     ensures ok { IfOk result (λ set. IsTextSet elements (tree_of set)) }
     ensures empty { (result ≡ Err (ValueEnd.Fault ValueFault.EmptySet)) ↔ (elements ≡ []) }
-    ensures repeat { result ≡ Err (ValueEnd.Fault ValueFault.DuplicateInSet)
-        → HasRepeat (slice_cmp nat_cmp) elements }
+    ensures repeat { (result ≡ Err (ValueEnd.Fault ValueFault.DuplicateInSet))
+        ↔ HasRepeat (slice_cmp nat_cmp) elements }
     ensures no_other { IfErr result IsSetEnd }
 {
     Ok(Value::Ss(set_of(elements)?))
@@ -30,7 +30,8 @@ pub fn string_set(elements: Seq<Text>) -> Result<Value, ValueEnd>
 pub fn number_set(elements: Seq<Number>) -> Result<Value, ValueEnd>
     ensures ok { IfOk result (λ set. IsNumberSet elements (tree_of set)) }
     ensures empty { (result ≡ Err (ValueEnd.Fault ValueFault.EmptySet)) ↔ (elements ≡ []) }
-    ensures repeat { result ≡ Err (ValueEnd.Fault ValueFault.DuplicateInSet) → HasRepeat int_cmp elements }
+    ensures repeat { (result ≡ Err (ValueEnd.Fault ValueFault.DuplicateInSet))
+        ↔ HasRepeat int_cmp elements }
     ensures no_other { IfErr result IsSetEnd }
 {
     Ok(Value::Ns(set_of(elements)?))
@@ -40,8 +41,8 @@ pub fn number_set(elements: Seq<Number>) -> Result<Value, ValueEnd>
 pub fn binary_set(elements: Seq<Bytes>) -> Result<Value, ValueEnd>
     ensures ok { IfOk result (λ set. IsBinarySet elements (tree_of set)) }
     ensures empty { (result ≡ Err (ValueEnd.Fault ValueFault.EmptySet)) ↔ (elements ≡ []) }
-    ensures repeat { result ≡ Err (ValueEnd.Fault ValueFault.DuplicateInSet)
-        → HasRepeat (slice_cmp nat_cmp) elements }
+    ensures repeat { (result ≡ Err (ValueEnd.Fault ValueFault.DuplicateInSet))
+        ↔ HasRepeat (slice_cmp nat_cmp) elements }
     ensures no_other { IfErr result IsSetEnd }
 {
     Ok(Value::Bs(set_of(elements)?))
@@ -51,7 +52,7 @@ pub fn binary_set(elements: Seq<Bytes>) -> Result<Value, ValueEnd>
 fn set_of<T: Ord + Drop>(elements: Seq<T>) -> Result<Seq<T>, ValueFault>
     ensures ok { IfOk result (λ set. IsSetOf T.cmp elements set) }
     ensures empty { (result ≡ Err ValueFault.EmptySet) ↔ (elements ≡ []) }
-    ensures repeat { result ≡ Err ValueFault.DuplicateInSet → HasRepeat T.cmp elements }
+    ensures repeat { (result ≡ Err ValueFault.DuplicateInSet) ↔ HasRepeat T.cmp elements }
     ensures no_other { IfErr result IsSetFault }
 {
     let mut sorted = Vec::from(elements);

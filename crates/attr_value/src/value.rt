@@ -1,13 +1,14 @@
 //! The ten kinds of values, and items.
 
-ghost use Rattle.std.specs.Prelude.{◌≡◌};
-ghost use Rattle.attr_value.specs.Tree.{no_attributes};
-ghost use Rattle.attr_value.specs.View.{attributes};
+ghost use Rattle.std.specs.Prelude.{◌≡◌, ◌↔◌, IsTrue};
+ghost use Rattle.attr_value.specs.Sizes.{attribute_count};
+ghost use Rattle.attr_value.specs.Tree.{no_attributes, AreInOrder};
+ghost use Rattle.attr_value.specs.View.{attributes, entries};
 
 use expr_lexer::{Bytes, Seq, Text};
 use number38::Number;
 use std::alloc::Global;
-use std::collections::BTreeMap;
+use std::collections::btree_map::{self, BTreeMap};
 
 /// An attribute value (DynamoDB API Reference: AttributeValue).
 #[cycle(value)]
@@ -50,5 +51,27 @@ impl Item {
         Item {
             attributes: BTreeMap::new(alloc),
         }
+    }
+
+    /// How many attributes there are.
+    pub fn len(&self) -> usize
+        ensures { result ≡ attribute_count (attributes self.now) }
+    {
+        self.attributes.len()
+    }
+
+    /// Whether there is no attribute.
+    pub fn is_empty(&self) -> bool
+        ensures { IsTrue result ↔ (attributes self.now ≡ no_attributes) }
+    {
+        self.attributes.is_empty()
+    }
+
+    /// Goes over the attributes, each a name and its value, in order of the names' bytes.
+    pub fn iter(&self) -> btree_map::Iter<'_, Text, Value>
+        ensures shows { result ≡ entries self.now }
+        ensures in_order { AreInOrder (attributes self.now) }
+    {
+        self.attributes.iter()
     }
 }

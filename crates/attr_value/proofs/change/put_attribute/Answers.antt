@@ -1,7 +1,8 @@
 use Rattle.std.proofs.Common.{sym, ap, ◌∙◌}
+use Rattle.std.proofs.lemmas.Result.{on_ok_weaker}
 use Rattle.attr_value.specs.Paths.{put}
 use Rattle.attr_value.specs.View.{tree_of, attributes_of}
-use Rattle.attr_value.proofs.Views.{put-set_value, attributes_of-insert_entry}
+use Rattle.attr_value.proofs.Views.{put-set_value}
 use Rattle.attr_value.proofs.change.put_attribute.Goals as goal
 
 pub returns-in-Some-clause-ok : goal.returns-in-Some-clause-ok
@@ -12,5 +13,5 @@ pub returns-clause-ok : goal.returns-clause-ok
 returns-clause-ok c =
     let value = tree_of c.args.value in
     let m = c.get_mut.follows.lender-at-none in
-    ap attributes_of c.in_ok-insert.ensures.entries ∙ attributes_of-insert_entry m.entries c.in_ok-try_clone.field-0 c.args.value ∙ ap (λ n. put n value (attributes_of m.entries)) c.in_ok-try_clone.ensures
-    ∙ ap (λ k. put c.args.name.now value (attributes_of k.entries)) c.get_mut.follows.holds-at-none
+    on_ok_weaker c.put.result (λ e. e ∙ ap (λ n. put n value (attributes_of m.entries)) c.in_ok-try_clone.ensures
+    ∙ ap (λ k. put c.args.name.now value (attributes_of k.entries)) c.get_mut.follows.holds-at-none) c.put.ensures.ok

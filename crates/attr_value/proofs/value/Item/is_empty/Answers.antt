@@ -1,0 +1,7 @@
+use Rattle.attr_value.proofs.Views.{no_entries}
+use Rattle.attr_value.proofs.value.Item.is_empty.Goals as goal
+
+pub returns : goal.returns
+returns c =
+    let none = no_entries c.args.self.now.attributes.entries in
+    (λ empty. none.0 (c.is_empty.ensures.0 empty), λ empty. c.is_empty.ensures.1 (none.1 empty))
