@@ -1,13 +1,8 @@
 -- Sums that stop at a limit, and how a list or a map weighs without its first entry.
 use Rattle.std.proofs.Common.{◌≡◌, ℕ, ◌+◌, List, [], ◌∷◌, length, min, max, refl, arith}
-use Rattle.attr_value.specs.Sizes.{count, elements_size, attribute_count}
-use Rattle.attr_value.specs.View.{trees_of, attributes_of}
-use Rattle.attr_value.specs.declared.value.Value.{Value}
+use Rattle.attr_value.specs.Sizes.{attribute_count}
+use Rattle.attr_value.specs.View.{attributes_of}
 use Rattle.attr_value.proofs.Views.{Entry}
-
--- the elements of a list, and 1 for each
-abbrev pub list_size : List Value → ℕ
-list_size vs = count (trees_of vs) + elements_size (trees_of vs)
 
 pub saturates : (t s w n m : ℕ) → min (min (min (t + min s m) m + n) m + w) m ≡ min (t + (n + s + w)) m
 saturates t s w n m = omega arith

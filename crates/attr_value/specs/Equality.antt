@@ -4,7 +4,9 @@ use Rattle.std.specs.Bool.{beq}
 use Rattle.std.specs.Cmp.Lexicographic.{pointwise, slice_cmp}
 use Rattle.std.specs.Ordering.{nat_cmp, int_cmp, int_eq}
 use Rattle.std.specs.declared.cmp.Ordering.{Ordering}
-use Rattle.attr_value.specs.Tree.{Tree, text, number, binary, boolean, null, list, map, text_set, number_set, binary_set, Trees, no_trees, tree, Attributes, no_attributes, attribute}
+use Rattle.attr_value.specs.Tree.{Tree, text, number, binary, boolean, null, list, map}
+use Rattle.attr_value.specs.Tree.{text_set, number_set, binary_set}
+use Rattle.attr_value.specs.Tree.{Trees, no_trees, tree, Attributes, no_attributes, attribute}
 
 abbrev mutual
   -- whether two values are of one type with the same content
@@ -28,7 +30,8 @@ abbrev mutual
 
   pub same_attributes : Attributes → Attributes → Bool
   same_attributes no_attributes no_attributes = true
-  same_attributes (attribute n t ts) (attribute m u us) = bytes_eq n m && same t u && same_attributes ts us
+  same_attributes (attribute n t ts) (attribute m u us) =
+      bytes_eq n m && same t u && same_attributes ts us
   same_attributes _ _ = false
 
 -- texts and binaries by their unsigned bytes, numbers by value; other values have no order

@@ -5,7 +5,9 @@ use Rattle.std.specs.Cmp.{IsEquivalence, decided, booleans_Decides}
 use Rattle.std.specs.Cmp.Lexicographic.{pointwise}
 use Rattle.std.proofs.lemmas.Bool.Decides.{Decides-int_eq}
 use Rattle.std.proofs.lemmas.Slice.Eq.{slice_eq-Decides, bytes_eq-Decides}
-use Rattle.attr_value.specs.Tree.{Tree, text, number, binary, boolean, null, list, map, text_set, number_set, binary_set, Trees, no_trees, tree, Attributes, no_attributes, attribute}
+use Rattle.attr_value.specs.Tree.{Tree, text, number, binary, boolean, null, list, map}
+use Rattle.attr_value.specs.Tree.{text_set, number_set, binary_set}
+use Rattle.attr_value.specs.Tree.{Trees, no_trees, tree, Attributes, no_attributes, attribute}
 use Rattle.attr_value.specs.View.{tree_of, attributes}
 use Rattle.attr_value.specs.declared.value.Value.{Value}
 use Rattle.attr_value.specs.declared.value.Item.{Item}
@@ -28,7 +30,8 @@ mutual
   equal_where_same (list ts) (list us) e = ap list (equal_elements ts us e)
   equal_where_same (map ts) (map us) e = ap map (equal_attributes ts us e)
   equal_where_same (text_set s) (text_set u) e = ap text_set ((texts s u).0 e)
-  equal_where_same (number_set s) (number_set u) e = ap number_set ((slice_eq-Decides Decides-int_eq s u _ refl).0 e)
+  equal_where_same (number_set s) (number_set u) e =
+      ap number_set ((slice_eq-Decides Decides-int_eq s u _ refl).0 e)
   equal_where_same (binary_set s) (binary_set u) e = ap binary_set ((texts s u).0 e)
   equal_where_same _ _ e = cc
 
@@ -36,7 +39,8 @@ mutual
   equal_elements no_trees no_trees e = refl
   equal_elements (tree t ts) (tree u us) e =
       let parts = both (same t u) (same_elements ts us) e in
-      ap (λ x. tree x ts) (equal_where_same t u parts.0) ∙ ap (tree u) (equal_elements ts us parts.1)
+      ap (λ x. tree x ts) (equal_where_same t u parts.0)
+      ∙ ap (tree u) (equal_elements ts us parts.1)
   equal_elements _ _ e = cc
 
   equal_attributes : (ts us : Attributes) → same_attributes ts us ≡ true → ts ≡ us
@@ -44,7 +48,9 @@ mutual
   equal_attributes (attribute n t ts) (attribute m u us) e =
       let parts = both (bytes_eq n m && same t u) (same_attributes ts us) e in
       let first = both (bytes_eq n m) (same t u) parts.0 in
-      ap (λ x. attribute x t ts) ((bytes_eq-Decides n m).0 first.0) ∙ ap (λ x. attribute m x ts) (equal_where_same t u first.1) ∙ ap (attribute m u) (equal_attributes ts us parts.1)
+      ap (λ x. attribute x t ts) ((bytes_eq-Decides n m).0 first.0)
+      ∙ ap (λ x. attribute m x ts) (equal_where_same t u first.1)
+      ∙ ap (attribute m u) (equal_attributes ts us parts.1)
   equal_attributes _ _ e = cc
 
 all_true : (a b : Bool) → a ≡ true → b ≡ true → (a && b) ≡ true
@@ -66,11 +72,14 @@ mutual
 
   elements_itself : (ts : Trees) → same_elements ts ts ≡ true
   elements_itself no_trees = refl
-  elements_itself (tree t ts) = all_true (same t t) (same_elements ts ts) (same_itself t) (elements_itself ts)
+  elements_itself (tree t ts) =
+      all_true (same t t) (same_elements ts ts) (same_itself t) (elements_itself ts)
 
   pub attributes_itself : (ts : Attributes) → same_attributes ts ts ≡ true
   attributes_itself no_attributes = refl
-  attributes_itself (attribute n t ts) = all_true (bytes_eq n n && same t t) (same_attributes ts ts) (all_true (bytes_eq n n) (same t t) ((bytes_eq-Decides n n).1 refl) (same_itself t)) (attributes_itself ts)
+  attributes_itself (attribute n t ts) =
+      let named = all_true (bytes_eq n n) (same t t) ((bytes_eq-Decides n n).1 refl) (same_itself t) in
+      all_true (bytes_eq n n && same t t) (same_attributes ts ts) named (attributes_itself ts)
 
 pub same-Decides : (t u : Tree) → Decides (same t u) (t ≡ u)
 same-Decides t u = (equal_where_same t u, λ e. subst (λ x. same t x ≡ true) e (same_itself t))
@@ -90,5 +99,6 @@ pub items_laws : IsEquivalence (λ (i j : Item). same (map (attributes i)) (map 
 items_laws = record {
   refl = λ i. same_laws.refl (map (attributes i));
   symm = λ i j. same_laws.symm (map (attributes i)) (map (attributes j));
-  congr = λ i j k e. same_laws.congr (map (attributes i)) (map (attributes j)) (map (attributes k)) e;
+  congr = λ i j k e.
+      same_laws.congr (map (attributes i)) (map (attributes j)) (map (attributes k)) e;
 }

@@ -1,12 +1,16 @@
 -- What a document path finds in an item, and the item with or without a value there.
-use Rattle.std.specs.Prelude.{◌≡◌, ◌↔◌, ℕ, zero, suc, ◌+◌, ◌-◌, ◌<◌, ◌≤◌, List, [], ◌∷◌, length, Option, Some, None, option_map, option_and_then, ⊤, if◌then◌else◌, bytes_eq}
+use Rattle.std.specs.Prelude.{◌≡◌, ◌↔◌, ℕ, zero, suc, ◌+◌, ◌-◌, ◌<◌, ◌≤◌, ⊤, if◌then◌else◌}
+use Rattle.std.specs.Prelude.{List, [], ◌∷◌, length, bytes_eq}
+use Rattle.std.specs.Prelude.{Option, Some, None, option_map, option_and_then}
 use Rattle.std.specs.Ordering.{nat_cmp, match_ordering}
 use Rattle.std.specs.Cmp.Lexicographic.{slice_cmp}
 use Rattle.expr_lexer.specs.declared.path.Step.{Step}
 use Rattle.expr_lexer.specs.declared.path.Step.TheVariants.{Name, Index}
-use Rattle.attr_value.specs.Tree.{Tree, list, map, Trees, no_trees, tree, Attributes, no_attributes, attribute}
+use Rattle.attr_value.specs.Tree.{Tree, list, map, Trees, no_trees, tree}
+use Rattle.attr_value.specs.Tree.{Attributes, no_attributes, attribute}
 use Rattle.attr_value.specs.Sizes.{depth, item_depth}
-use Rattle.attr_value.specs.declared.fault.ValueFault.TheVariants.{EmptySet, DuplicateInSet, TooDeep, BadPath}
+use Rattle.attr_value.specs.declared.fault.ValueFault.TheVariants.{EmptySet, DuplicateInSet}
+use Rattle.attr_value.specs.declared.fault.ValueFault.TheVariants.{TooDeep, BadPath}
 use Rattle.attr_value.specs.declared.fault.ValueEnd.{ValueEnd}
 use Rattle.attr_value.specs.declared.fault.ValueEnd.TheVariants.{Fault, NoMemory}
 
@@ -17,7 +21,8 @@ abbrev pub value_at : List ℕ → Attributes → Option Tree
 value_at name no_attributes = None
 value_at name (attribute other t rest) = if bytes_eq name other then Some t else value_at name rest
 
--- the attributes with this value at this name: an attribute that is there takes it, and a new one goes to its place in order
+-- the attributes with this value at this name: an attribute that is there takes it, and a new one
+-- goes to its place in order
 abbrev pub put : List ℕ → Tree → Attributes → Attributes
 put name value no_attributes = attribute name value no_attributes
 put name value (attribute other t rest) = match_ordering (slice_cmp nat_cmp name other)
@@ -34,7 +39,8 @@ kept_attribute name (Some t) rest = attribute name t rest
 abbrev pub change : List ℕ → (Tree → Option Tree) → Attributes → Attributes
 change name stays no_attributes = no_attributes
 change name stays (attribute other t rest) =
-    if bytes_eq name other then kept_attribute other (stays t) rest else attribute other t (change name stays rest)
+    if bytes_eq name other then kept_attribute other (stays t) rest
+    else attribute other t (change name stays rest)
 
 -- the element at a place, from 0
 abbrev pub element_at : ℕ → Trees → Option Tree
@@ -86,12 +92,21 @@ abbrev pub found_in : List Step → Tree → Option Tree
 found_in [] t = Some t
 found_in (step ∷ steps) t = option_and_then (found_in steps) (child step t)
 
--- what stands at a place once the steps from there lead to this value: nothing where a parent on the way is not there or
--- is of another kind
+-- what stands at a place once the steps from there lead to this value: nothing where a parent on
+-- the way is not there or is of another kind
 abbrev pub with_in : List Step → Option Tree → Tree → Option Tree
 with_in [] there value = Some value
 with_in (step ∷ steps) None value = None
-with_in (step ∷ steps) (Some t) value = option_and_then (λ below. placed step below t) (with_in steps (child step t) value)
+with_in (step ∷ steps) (Some t) value =
+    option_and_then (λ below. placed step below t) (with_in steps (child step t) value)
+
+-- with this value where the step and then the rest lead, the old tree is the new
+abbrev pub IsWith : Step → List Step → Tree → Tree → Tree → Type 0
+IsWith step rest value old new = with_in (step ∷ rest) (Some old) value ≡ Some new
+
+-- the step and then the rest lead to no place for this value in the tree
+abbrev pub HasNoPlace : Step → List Step → Tree → Tree → Type 0
+HasNoPlace step rest value t = with_in (step ∷ rest) (Some t) value ≡ None
 
 -- what stays of a value without what the steps find
 abbrev pub without_in : List Step → Tree → Option Tree
@@ -108,7 +123,8 @@ found (step ∷ steps) item = option_and_then (found_in steps) (child step (map 
 -- the item with this value at the path, where the path's parent is there and of the right kind
 abbrev pub with_value : List Step → Attributes → Tree → Option Attributes
 with_value [] item value = None
-with_value (Name name ∷ steps) item value = option_map (λ below. put name below item) (with_in steps (value_at name item) value)
+with_value (Name name ∷ steps) item value =
+    option_map (λ below. put name below item) (with_in steps (value_at name item) value)
 with_value (Index place ∷ steps) item value = None
 
 -- the item without what the path finds
@@ -117,14 +133,17 @@ without [] item = item
 without (Name name ∷ steps) item = change name (without_in steps) item
 without (Index place ∷ steps) item = item
 
--- how deep an item nests where a path leads to a value: each step but the first lies in one more list or map
+-- how deep an item nests where a path leads to a value: each step but the first lies in one more
+-- list or map
 abbrev pub reach : List Step → Tree → ℕ
 reach steps value = length steps - 1 + depth value
 
--- this holds exactly where an item that nests within the limit would nest deeper with the value at the path
+-- this holds exactly where an item that nests within the limit would nest deeper with the value at
+-- the path
 abbrev pub HoldsWhereDeeper : ℕ → List Step → Attributes → Tree → Type 0 → Type 0
 HoldsWhereDeeper limit steps item value P =
-    item_depth item ≤ limit → (new : Attributes) → with_value steps item value ≡ Some new → P ↔ (limit < item_depth new)
+    item_depth item ≤ limit → (new : Attributes) → with_value steps item value ≡ Some new
+    → P ↔ (limit < item_depth new)
 
 -- memory was refused, or the path is bad and this holds
 abbrev pub IsBadPathWhere : Type 0 → ValueEnd → Type 0

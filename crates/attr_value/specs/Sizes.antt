@@ -1,7 +1,10 @@
--- The size of values in bytes, and how deep they nest (DynamoDB Developer Guide, "Item sizes and formats").
+-- The size of values in bytes, and how deep they nest (DynamoDB Developer Guide, "Item sizes and
+-- formats").
 use Rattle.std.specs.Prelude.{ℕ, ◌+◌, ◌/◌, max, length, sum_by, ℤ, unsigned_abs}
 use Rattle.number38.specs.Digits.{significant_digits}
-use Rattle.attr_value.specs.Tree.{Tree, text, number, binary, boolean, null, list, map, text_set, number_set, binary_set, Trees, no_trees, tree, Attributes, no_attributes, attribute}
+use Rattle.attr_value.specs.Tree.{Tree, text, number, binary, boolean, null, list, map}
+use Rattle.attr_value.specs.Tree.{text_set, number_set, binary_set}
+use Rattle.attr_value.specs.Tree.{Trees, no_trees, tree, Attributes, no_attributes, attribute}
 
 -- the significant digits of a number, of which 0 has one
 abbrev pub digits : ℤ → ℕ
@@ -43,6 +46,10 @@ abbrev mutual
   pub item_size : Attributes → ℕ
   item_size no_attributes = 0
   item_size (attribute name t rest) = length name + size t + item_size rest
+
+-- the elements of a list, and 1 for each
+abbrev pub list_size : Trees → ℕ
+list_size inside = count inside + elements_size inside
 
 abbrev mutual
   -- how many lists and maps lie in one another in a value

@@ -1,5 +1,6 @@
 -- The tree that a value stands for, and the attributes of an item.
-use Rattle.std.specs.Prelude.{ℕ, List, [], ◌∷◌, map}
+use Rattle.std.specs.Prelude.{ℕ, List, [], ◌∷◌, map, Option, option_map}
+use Rattle.std.specs.Borrow.{Bor}
 use Rattle.attr_value.specs.Tree as tree
 use Rattle.attr_value.specs.Tree.{Tree, Trees, Attributes}
 use Rattle.attr_value.specs.declared.value.Value.{Value, fold-Value}
@@ -40,6 +41,10 @@ trees_of vs = trees (map tree_of vs)
 
 abbrev pub attributes_of : List (List ℕ × Value) → Attributes
 attributes_of es = named (map (λ e. (e.0, tree_of e.1)) es)
+
+-- the tree of a value that is lent
+abbrev pub lent_tree : Option (Bor Value) → Option Tree
+lent_tree lent = option_map (λ value. tree_of value.now) lent
 
 -- the names and values of an item, in order of name
 abbrev pub entries : Item → List (List ℕ × Value)

@@ -1,7 +1,11 @@
 //! Items with or without what a document path leads to.
 
-ghost use Rattle.std.specs.Prelude.{◌≡◌, ◌↔◌, [], ◌∷◌, ◌<◌, ◌≤◌, is_some, IsTrue, option_and_then, OnOk, OnErr, IfErr};
-ghost use Rattle.attr_value.specs.Paths.{found, found_in, child, value_at, element_at, with_value, with_in, without, without_in, put, put_at, change, change_at, changed, reach, HoldsWhereDeeper, IsPathEnd, IsBadPathWhere};
+ghost use Rattle.std.specs.Prelude.{◌≡◌, ◌↔◌, [], ◌<◌, ◌≤◌, is_some, option_and_then};
+ghost use Rattle.std.specs.Prelude.{IsTrue, OnOk, OnErr, IfErr};
+ghost use Rattle.attr_value.specs.Paths.{found, found_in, child, value_at, element_at, put, put_at};
+ghost use Rattle.attr_value.specs.Paths.{without, without_in, change, change_at, changed};
+ghost use Rattle.attr_value.specs.Paths.{with_value, reach, IsWith, HasNoPlace, HoldsWhereDeeper};
+ghost use Rattle.attr_value.specs.Paths.{IsPathEnd, IsBadPathWhere};
 ghost use Rattle.attr_value.specs.Sizes.{item_depth};
 ghost use Rattle.attr_value.specs.Tree as tree;
 ghost use Rattle.attr_value.specs.View.{tree_of, trees_of, attributes};
@@ -23,12 +27,12 @@ impl Item {
     /// there or is of another kind. The item stays as it was where there is no `Ok`, and the value
     /// is dropped then.
     pub fn set(&mut self, path: &DocPath, value: Value) -> Result<(), ValueEnd>
-        ensures ok { OnOk result
-            (with_value path.now.steps (attributes self.old) (tree_of value) ≡ Some (attributes self.new)) }
+        ensures ok { OnOk result (with_value path.now.steps (attributes self.old) (tree_of value)
+            ≡ Some (attributes self.new)) }
         ensures too_deep { (result ≡ Err (ValueEnd.Fault ValueFault.TooDeep))
             ↔ (MAX_DEPTH < reach path.now.steps (tree_of value)) }
-        ensures deeper { HoldsWhereDeeper MAX_DEPTH path.now.steps (attributes self.old) (tree_of value)
-            (result ≡ Err (ValueEnd.Fault ValueFault.TooDeep)) }
+        ensures deeper { HoldsWhereDeeper MAX_DEPTH path.now.steps (attributes self.old)
+            (tree_of value) (result ≡ Err (ValueEnd.Fault ValueFault.TooDeep)) }
         ensures bad_path { result ≡ Err (ValueEnd.Fault ValueFault.BadPath)
             → with_value path.now.steps (attributes self.old) (tree_of value) ≡ None }
         ensures no_other { IfErr result IsPathEnd }
@@ -55,8 +59,8 @@ impl Item {
         Ok(())
     }
 
-    /// Takes out what the path finds, and answers whether something was there. The elements of a list after one that goes
-    /// close up. It takes no memory.
+    /// Takes out what the path finds, and answers whether something was there. The elements of a
+    /// list after one that goes close up. It takes no memory.
     pub fn remove(&mut self, path: &DocPath) -> bool
         ensures found { result ≡ is_some (found path.now.steps (attributes self.old)) }
         ensures without { attributes self.new ≡ without path.now.steps (attributes self.old) }
@@ -76,7 +80,8 @@ impl Item {
 fn remove_attribute(item: &mut Item, name: &Text, rest: &[Step]) -> bool
     ensures found { result
         ≡ is_some (option_and_then (found_in rest.now) (value_at name.now (attributes item.old))) }
-    ensures without { attributes item.new ≡ change name.now (without_in rest.now) (attributes item.old) }
+    ensures without { attributes item.new
+        ≡ change name.now (without_in rest.now) (attributes item.old) }
 {
     let Some((step, deeper)) = rest.split_first() else {
         return item.attributes.remove(name).is_some();
@@ -92,7 +97,8 @@ fn remove_attribute(item: &mut Item, name: &Text, rest: &[Step]) -> bool
 fn remove_below(value: &mut Value, step: &Step, rest: &[Step]) -> bool
     ensures found { result
         ≡ is_some (option_and_then (found_in rest.now) (child step.now (tree_of value.old))) }
-    ensures without { tree_of value.new ≡ changed step.now (without_in rest.now) (tree_of value.old) }
+    ensures without { tree_of value.new
+        ≡ changed step.now (without_in rest.now) (tree_of value.old) }
 {
     match step {
         Step::Name(name) => match value {
@@ -111,7 +117,8 @@ fn remove_below(value: &mut Value, step: &Step, rest: &[Step]) -> bool
 fn remove_element(list: &mut Seq<Value>, place: usize, rest: &[Step]) -> bool
     ensures found { result
         ≡ is_some (option_and_then (found_in rest.now) (element_at place (trees_of list.old))) }
-    ensures without { trees_of list.new ≡ change_at place (without_in rest.now) (trees_of list.old) }
+    ensures without { trees_of list.new
+        ≡ change_at place (without_in rest.now) (trees_of list.old) }
 {
     let Some((step, deeper)) = rest.split_first() else {
         return take_element(list, place);
@@ -162,8 +169,10 @@ fn set_in(item: &mut Item, steps: &[Step], value: Value) -> Result<(), ValueEnd>
 /// Puts the value where the name and then the rest of the steps lead.
 #[cycle(set)]
 fn set_attribute(item: &mut Item, name: &Text, rest: &[Step], value: Value) -> Result<(), ValueEnd>
-    ensures ok { OnOk result (with_in (Step.Name name.now ∷ rest.now) (Some (tree.map (attributes item.old))) (tree_of value) ≡ Some (tree.map (attributes item.new))) }
-    ensures bad_path { IfErr result (IsBadPathWhere (with_in (Step.Name name.now ∷ rest.now) (Some (tree.map (attributes item.old))) (tree_of value) ≡ None)) }
+    ensures ok { OnOk result (IsWith (Step.Name name.now) rest.now (tree_of value)
+        (tree.map (attributes item.old)) (tree.map (attributes item.new))) }
+    ensures bad_path { IfErr result (IsBadPathWhere (HasNoPlace (Step.Name name.now) rest.now
+        (tree_of value) (tree.map (attributes item.old)))) }
     ensures unchanged { OnErr result (attributes item.new ≡ attributes item.old) }
 {
     let Some((step, deeper)) = rest.split_first() else {
@@ -179,8 +188,10 @@ fn set_attribute(item: &mut Item, name: &Text, rest: &[Step], value: Value) -> R
 /// Puts the value where the step and then the rest lead.
 #[cycle(set)]
 fn set_below(parent: &mut Value, step: &Step, rest: &[Step], value: Value) -> Result<(), ValueEnd>
-    ensures ok { OnOk result (with_in (step.now ∷ rest.now) (Some (tree_of parent.old)) (tree_of value) ≡ Some (tree_of parent.new)) }
-    ensures bad_path { IfErr result (IsBadPathWhere (with_in (step.now ∷ rest.now) (Some (tree_of parent.old)) (tree_of value) ≡ None)) }
+    ensures ok { OnOk result
+        (IsWith step.now rest.now (tree_of value) (tree_of parent.old) (tree_of parent.new)) }
+    ensures bad_path { IfErr result
+        (IsBadPathWhere (HasNoPlace step.now rest.now (tree_of value) (tree_of parent.old))) }
     ensures unchanged { OnErr result (tree_of parent.new ≡ tree_of parent.old) }
 {
     match step {
@@ -203,8 +214,10 @@ fn set_element(
     rest: &[Step],
     value: Value,
 ) -> Result<(), ValueEnd>
-    ensures ok { OnOk result (with_in (Step.Index place ∷ rest.now) (Some (tree.list (trees_of list.old))) (tree_of value) ≡ Some (tree.list (trees_of list.new))) }
-    ensures bad_path { IfErr result (IsBadPathWhere (with_in (Step.Index place ∷ rest.now) (Some (tree.list (trees_of list.old))) (tree_of value) ≡ None)) }
+    ensures ok { OnOk result (IsWith (Step.Index place) rest.now (tree_of value)
+        (tree.list (trees_of list.old)) (tree.list (trees_of list.new))) }
+    ensures bad_path { IfErr result (IsBadPathWhere (HasNoPlace (Step.Index place) rest.now
+        (tree_of value) (tree.list (trees_of list.old)))) }
     ensures unchanged { OnErr result (trees_of list.new ≡ trees_of list.old) }
 {
     let Some((step, deeper)) = rest.split_first() else {
@@ -219,7 +232,8 @@ fn set_element(
 
 /// Gives the attribute of this name the value, in its place where it is there.
 fn put_attribute(item: &mut Item, name: &Text, value: Value) -> Result<(), NoMemory>
-    ensures ok { OnOk result (attributes item.new ≡ put name.now (tree_of value) (attributes item.old)) }
+    ensures ok { OnOk result
+        (attributes item.new ≡ put name.now (tree_of value) (attributes item.old)) }
     ensures unchanged { OnErr result (attributes item.new ≡ attributes item.old) }
 {
     if let Some(kept) = item.attributes.get_mut(name) {
@@ -231,7 +245,8 @@ fn put_attribute(item: &mut Item, name: &Text, value: Value) -> Result<(), NoMem
 
 /// Puts the value at this place of the list, or at its end.
 fn put_element(list: &mut Seq<Value>, place: usize, value: Value) -> Result<(), NoMemory>
-    ensures ok { OnOk result (trees_of list.new ≡ put_at place (tree_of value) (trees_of list.old)) }
+    ensures ok { OnOk result
+        (trees_of list.new ≡ put_at place (tree_of value) (trees_of list.old)) }
     ensures unchanged { OnErr result (trees_of list.new ≡ trees_of list.old) }
 {
     if let Some(kept) = list.get_mut(place) {

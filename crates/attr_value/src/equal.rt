@@ -8,8 +8,8 @@ use crate::value::{Item, Value};
 use std::cmp::Ordering;
 
 impl Value {
-    /// The order of two texts or two binaries by their unsigned bytes, a proper front first, and of two numbers by value.
-    /// No other two values have an order.
+    /// The order of two texts or two binaries by their unsigned bytes, a proper front first, and of
+    /// two numbers by value. No other two values have an order.
     pub fn compare(&self, other: &Value) -> Option<Ordering>
         ensures { result ≡ order (tree_of self.now) (tree_of other.now) }
     {
@@ -22,7 +22,8 @@ impl Value {
     }
 }
 
-/// Values are equal where they are of one type with the same content: sets as sets, maps as maps, numbers by value.
+/// Values are equal where they are of one type with the same content: sets as sets, maps as maps,
+/// numbers by value.
 impl PartialEq for Value {
     ghost use Rattle.std.specs.Cmp.{partial_equiv_from_equiv};
     ghost use Rattle.attr_value.specs.Equality.{same};

@@ -4,7 +4,8 @@ ghost use Rattle.std.specs.Prelude.{◌≡◌};
 
 use std::alloc::AllocError as NoMemory;
 
-/// What is wrong with a set or a path. Where several stand together, the first in this order is answered.
+/// What is wrong with a set or a path. Where several stand together, the first in this order is
+/// answered.
 #[derive(Clone, Copy, Debug, PartialEq, Eq)]
 pub enum ValueFault {
     /// A set of no element.

@@ -1,19 +1,19 @@
 //! What document paths find.
 
-ghost use Rattle.std.specs.Prelude.{◌≡◌, option_map};
+ghost use Rattle.std.specs.Prelude.{◌≡◌};
 ghost use Rattle.attr_value.specs.Paths.{found, found_in, child, value_at, element_at};
-ghost use Rattle.attr_value.specs.View.{tree_of, trees_of, attributes};
+ghost use Rattle.attr_value.specs.View.{tree_of, trees_of, attributes, lent_tree};
 
 use crate::value::{Item, Value};
 use expr_lexer::{DocPath, Seq, Step, Text};
 
 impl Item {
-    /// What the path finds, lent: a path begins with a name, and each step of it leads to an attribute of a map or to a
-    /// place of a list, from 0. A path with no step finds nothing.
+    /// What the path finds, lent: a path begins with a name, and each step of it leads to an
+    /// attribute of a map or to a place of a list, from 0. A path with no step finds nothing.
     ///
     /// It costs the logarithm of the attributes for each name, and no memory.
     pub fn get(&self, path: &DocPath) -> Option<&Value>
-        ensures { option_map (λ value. tree_of value.now) result ≡ found path.now.steps (attributes self.now) }
+        ensures { lent_tree result ≡ found path.now.steps (attributes self.now) }
     {
         let (first, rest) = path.steps.as_slice().split_first()?;
         match first {
@@ -24,7 +24,7 @@ impl Item {
 
     /// The value of the attribute of this name, lent.
     pub fn attribute(&self, name: &Text) -> Option<&Value>
-        ensures { option_map (λ value. tree_of value.now) result ≡ value_at name.now (attributes self.now) }
+        ensures { lent_tree result ≡ value_at name.now (attributes self.now) }
     {
         self.attributes.get(name)
     }
@@ -32,7 +32,7 @@ impl Item {
 
 /// What the steps find from a value on.
 fn below<'v>(value: &'v Value, steps: &[Step]) -> Option<&'v Value>
-    ensures { option_map (λ found. tree_of found.now) result ≡ found_in steps.now (tree_of value.now) }
+    ensures { lent_tree result ≡ found_in steps.now (tree_of value.now) }
 {
     let mut reached = value;
     for step in steps {
@@ -43,7 +43,7 @@ fn below<'v>(value: &'v Value, steps: &[Step]) -> Option<&'v Value>
 
 /// The value one step below.
 fn one_below<'v>(value: &'v Value, step: &Step) -> Option<&'v Value>
-    ensures { option_map (λ found. tree_of found.now) result ≡ child step.now (tree_of value.now) }
+    ensures { lent_tree result ≡ child step.now (tree_of value.now) }
 {
     match step {
         Step::Name(name) => match value {
@@ -59,7 +59,7 @@ fn one_below<'v>(value: &'v Value, step: &Step) -> Option<&'v Value>
 
 /// The element at this place.
 fn element(list: &Seq<Value>, place: usize) -> Option<&Value>
-    ensures { option_map (λ found. tree_of found.now) result ≡ element_at place (trees_of list.now) }
+    ensures { lent_tree result ≡ element_at place (trees_of list.now) }
 {
     list.get(place)
 }

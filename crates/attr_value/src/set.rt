@@ -4,7 +4,8 @@ ghost use Rattle.std.specs.Prelude.{◌≡◌, ◌↔◌, [], IfOk, IfErr};
 ghost use Rattle.std.specs.Cmp.Lexicographic.{slice_cmp};
 ghost use Rattle.std.specs.List.{IsAllAdjacentAnswer};
 ghost use Rattle.std.specs.Ordering.{nat_cmp, int_cmp, is_lt};
-ghost use Rattle.attr_value.specs.Sets.{IsSetOf, HasRepeat, IsSetFault, IsSetEnd, IsTextSet, IsNumberSet, IsBinarySet};
+ghost use Rattle.attr_value.specs.Sets.{IsSetOf, IsTextSet, IsNumberSet, IsBinarySet};
+ghost use Rattle.attr_value.specs.Sets.{HasRepeat, IsSetFault, IsSetEnd};
 ghost use Rattle.attr_value.specs.View.{tree_of};
 
 use crate::fault::{ValueEnd, ValueFault};
@@ -14,7 +15,8 @@ use number38::Number;
 
 /// The set of these texts, in order of their bytes.
 ///
-/// `EmptySet` where there is none, and `DuplicateInSet` where one is there twice. It takes no memory.
+/// `EmptySet` where there is none, and `DuplicateInSet` where one is there twice. It takes no
+/// memory.
 pub fn string_set(elements: Seq<Text>) -> Result<Value, ValueEnd>
     ensures ok { IfOk result (λ set. IsTextSet elements (tree_of set)) }
     ensures empty { (result ≡ Err (ValueEnd.Fault ValueFault.EmptySet)) ↔ (elements ≡ []) }
@@ -25,8 +27,8 @@ pub fn string_set(elements: Seq<Text>) -> Result<Value, ValueEnd>
     Ok(Value::Ss(set_of(elements)?))
 }
 
-/// The set of these numbers, in order of their values, with the faults of [`string_set`]: two texts of one number are
-/// one number.
+/// The set of these numbers, in order of their values, with the faults of [`string_set`]: two texts
+/// of one number are one number.
 pub fn number_set(elements: Seq<Number>) -> Result<Value, ValueEnd>
     ensures ok { IfOk result (λ set. IsNumberSet elements (tree_of set)) }
     ensures empty { (result ≡ Err (ValueEnd.Fault ValueFault.EmptySet)) ↔ (elements ≡ []) }

@@ -1,7 +1,8 @@
 //! Sizes in bytes and depths in levels, each in one walk that takes no memory.
 
-ghost use Rattle.std.specs.Prelude.{◌≡◌, ◌+◌, length, min, sum_by};
-ghost use Rattle.attr_value.specs.Sizes.{size, count, elements_size, item_size, number_size, depth, elements_depth, item_depth};
+ghost use Rattle.std.specs.Prelude.{◌≡◌, length, min, sum_by};
+ghost use Rattle.attr_value.specs.Sizes.{size, list_size, item_size, number_size};
+ghost use Rattle.attr_value.specs.Sizes.{depth, elements_depth, item_depth};
 ghost use Rattle.attr_value.specs.View.{tree_of, trees_of, attributes};
 
 use crate::value::{Item, Value};
@@ -9,11 +10,12 @@ use expr_lexer::{Bytes, Seq, Text};
 use number38::Number;
 
 impl Value {
-    /// The size in bytes, or `u64::MAX` where it is more than that (DynamoDB Developer Guide: Item sizes and formats).
+    /// The size in bytes, or `u64::MAX` where it is more than that (DynamoDB Developer Guide: Item
+    /// sizes and formats).
     ///
-    /// A text or a binary has its bytes, a number half its significant digits, rounded up, and 1, a boolean and the null
-    /// value 1, a set the sum of its elements, and a list or a map 3, 1 for each element, and the sum of the contents with
-    /// a map's names.
+    /// A text or a binary has its bytes, a number half its significant digits, rounded up, and 1, a
+    /// boolean and the null value 1, a set the sum of its elements, and a list or a map 3, 1 for
+    /// each element, and the sum of the contents with a map's names.
     #[cycle(size)]
     pub fn size(&self) -> u64
         ensures { result ≡ min (size (tree_of self.now)) u64.MAX }
@@ -34,7 +36,8 @@ impl Value {
         }
     }
 
-    /// How many lists and maps lie in one another: 0 for what is neither, 1 for an empty list or map.
+    /// How many lists and maps lie in one another: 0 for what is neither, 1 for an empty list or
+    /// map.
     #[cycle(depth)]
     pub fn depth(&self) -> u32
         ensures { result ≡ min (depth (tree_of self.now)) u32.MAX }
@@ -78,7 +81,7 @@ impl Item {
 /// The bytes of a list's elements, and 1 for each.
 #[cycle(size)]
 fn list_bytes(list: &Seq<Value>) -> u64
-    ensures { result ≡ min (count (trees_of list.now) + elements_size (trees_of list.now)) u64.MAX }
+    ensures { result ≡ min (list_size (trees_of list.now)) u64.MAX }
 {
     let mut total = 0u64;
     for value in list.as_slice() {

@@ -1,6 +1,6 @@
 use crate::{Item, Value, ValueEnd, ValueFault, binary_set, number_set, string_set};
 use expr_lexer::{Bytes, DocPath, Seq, Step, Text};
-use number38::parse;
+use number38::{Number, parse};
 use std::alloc::{AllocError, Global};
 use std::cmp::Ordering;
 use std::process::Abort;
@@ -10,21 +10,12 @@ fn text(alloc: Global, from: &str) -> Result<Value, AllocError> {
     Ok(Value::S(Text::copied(alloc, from)?))
 }
 
-fn number(from: &str) -> Result<Value, Fail> {
-    Ok(Value::N(parse(from)?))
+fn binary(alloc: Global, from: &[u8]) -> Result<Value, AllocError> {
+    Ok(Value::B(Bytes::copied(alloc, from)?))
 }
 
-/// A path in the form `m.x.3`, whose steps of digits are places.
-fn path(alloc: Global, from: &str) -> Result<DocPath, Fail> {
-    let mut steps = Seq::new(alloc);
-    for part in from.split('.') {
-        let step = match part.parse::<u32>() {
-            Ok(place) => Step::Index(place),
-            Err(_) => Step::Name(Text::copied(alloc, part)?),
-        };
-        steps.push(step)?;
-    }
-    Ok(DocPath { steps })
+fn number(from: &str) -> Result<Value, Fail> {
+    Ok(Value::N(parse(from)?))
 }
 
 fn list_of(alloc: Global, value: Value) -> Result<Value, AllocError> {
@@ -42,110 +33,144 @@ fn nested(alloc: Global, levels: u32) -> Result<Value, AllocError> {
     Ok(value)
 }
 
+/// A step to a place where the text is one, and else to a name.
+fn step(alloc: Global, from: &str) -> Result<Step, AllocError> {
+    match from.parse::<u32>() {
+        Ok(place) => Ok(Step::Index(place)),
+        Err(_) => Ok(Step::Name(Text::copied(alloc, from)?)),
+    }
+}
+
+/// A path in the form `m.x.3`.
+fn path(alloc: Global, from: &str) -> Result<DocPath, AllocError> {
+    let mut steps = Seq::new(alloc);
+    for part in from.split('.') {
+        steps.push(step(alloc, part)?)?;
+    }
+    Ok(DocPath { steps })
+}
+
 fn set(alloc: Global, item: &mut Item, steps: &str, value: Value) -> Result<(), Fail> {
     Ok(item.set(&path(alloc, steps)?, value)?)
 }
+
+// Sizes and depths, by hand from the rules.
 
 fn measures(rt: &impl Abort, value: &Value, size: u64, depth: u32) {
     assert_eq!(rt; value.size(), size);
     assert_eq!(rt; value.depth(), depth);
 }
 
-fn measures_nested(rt: &impl Abort, alloc: Global, levels: u32, size: u64) -> Result<(), Fail> {
-    measures(rt, &nested(alloc, levels)?, size, levels);
+const NUMBERS: [(&str, u64); 15] = [
+    ("0", 2),
+    ("-0.00", 2),
+    ("7", 2),
+    ("-7", 2),
+    ("70", 2),
+    ("12", 2),
+    ("1.5", 2),
+    ("123", 3),
+    ("-12.3", 3),
+    ("1234", 3),
+    ("12345", 4),
+    ("1E125", 2),
+    ("1E-130", 2),
+    ("0.1234567", 5),
+    ("99999999999999999999999999999999999999", 20),
+];
+
+fn number_measures(rt: &impl Abort, digits: &str, size: u64) -> Result<(), Fail> {
+    measures(rt, &number(digits)?, size, 0);
     Ok(())
 }
 
 #[test]
 fn sizes_of_numbers(rt: HostRuntime) -> Result<(), Fail> {
-    for (digits, size) in [
-        ("0", 2u64),
-        ("-0.00", 2),
-        ("7", 2),
-        ("-7", 2),
-        ("70", 2),
-        ("12", 2),
-        ("1.5", 2),
-        ("123", 3),
-        ("-12.3", 3),
-        ("1234", 3),
-        ("12345", 4),
-        ("1E125", 2),
-        ("1E-130", 2),
-        ("0.1234567", 5),
-        ("99999999999999999999999999999999999999", 20),
-    ] {
-        measures(&rt, &number(digits)?, size, 0);
+    for (digits, size) in NUMBERS {
+        number_measures(&rt, digits, size)?;
+    }
+    Ok(())
+}
+
+const TEXTS: [(&str, u64); 8] = [
+    ("", 0),
+    ("a", 1),
+    ("é", 2),
+    ("€", 3),
+    ("Music", 5),
+    ("日本", 6),
+    ("a b", 3),
+    ("𝄞", 4),
+];
+
+fn text_measures(rt: &impl Abort, alloc: Global, from: &str, size: u64) -> Result<(), Fail> {
+    measures(rt, &text(alloc, from)?, size, 0);
+    measures(rt, &binary(alloc, from.as_bytes())?, size, 0);
+    Ok(())
+}
+
+#[test]
+fn sizes_of_texts_and_binaries(rt: HostRuntime) -> Result<(), Fail> {
+    for (from, size) in TEXTS {
+        text_measures(&rt, rt.alloc(), from, size)?;
     }
     Ok(())
 }
 
 #[test]
-fn sizes_of_texts(rt: HostRuntime) -> Result<(), Fail> {
-    let alloc = rt.alloc();
-    for (from, size) in [
-        ("", 0u64),
-        ("a", 1),
-        ("é", 2),
-        ("€", 3),
-        ("Music", 5),
-        ("日本", 6),
-        ("a b", 3),
-        ("𝄞", 4),
-    ] {
-        measures(&rt, &text(alloc, from)?, size, 0);
-    }
-    Ok(())
-}
-
-#[test]
-fn sizes_of_binaries_and_small_values(rt: HostRuntime) -> Result<(), Fail> {
-    let alloc = rt.alloc();
-    measures(&rt, &Value::B(Bytes::copied(alloc, &[])?), 0, 0);
-    measures(&rt, &Value::B(Bytes::copied(alloc, &[255, 0])?), 2, 0);
+fn sizes_of_small_values(rt: HostRuntime) {
     measures(&rt, &Value::Bool(true), 1, 0);
     measures(&rt, &Value::Bool(false), 1, 0);
     measures(&rt, &Value::Null, 1, 0);
-    measures(&rt, &Value::M(Item::new(alloc)), 3, 1);
+    measures(&rt, &Value::M(Item::new(rt.alloc())), 3, 1);
+}
+
+const LEVELS: [(u32, u64); 10] = [
+    (1, 3),
+    (2, 7),
+    (3, 11),
+    (4, 15),
+    (5, 19),
+    (10, 39),
+    (31, 123),
+    (32, 127),
+    (33, 131),
+    (34, 135),
+];
+
+fn nested_measures(rt: &impl Abort, alloc: Global, levels: u32, size: u64) -> Result<(), Fail> {
+    measures(rt, &nested(alloc, levels)?, size, levels);
     Ok(())
 }
 
 #[test]
 fn sizes_and_depths_of_lists(rt: HostRuntime) -> Result<(), Fail> {
-    let alloc = rt.alloc();
-    for (levels, size) in [
-        (1u32, 3u64),
-        (2, 7),
-        (3, 11),
-        (4, 15),
-        (5, 19),
-        (10, 39),
-        (31, 123),
-        (32, 127),
-        (33, 131),
-        (34, 135),
-    ] {
-        measures_nested(&rt, alloc, levels, size)?;
+    for (levels, size) in LEVELS {
+        nested_measures(&rt, rt.alloc(), levels, size)?;
     }
     Ok(())
 }
+
+const LISTS: [&str; 3] = ["l", "m.y", "m.y.0"];
+
+const PLACES: [(&str, &str); 7] = [
+    ("l.0", "10"),
+    ("l.9", "20"),
+    ("l.9", "30"),
+    ("m.x", "1"),
+    ("m.y.0.0", "5"),
+    ("m.y.0.7", "6"),
+    ("m.y.4294967295", "7"),
+];
 
 /// `{ l: [10, 20, 30], m: { x: 1, y: [[5, 6], 7] } }`
 fn example(alloc: Global) -> Result<Item, Fail> {
     let mut item = Item::new(alloc);
     set(alloc, &mut item, "m", Value::M(Item::new(alloc)))?;
-    for steps in ["l", "m.y", "m.y.0"] {
+    for steps in LISTS {
         set(alloc, &mut item, steps, Value::L(Seq::new(alloc)))?;
     }
-    for (steps, digits) in [
-        ("l.0", "10"),
-        ("l.9", "20"),
-        ("l.9", "30"),
-        ("m.x", "1"),
-        ("m.y.0.0", "5"),
-        ("m.y.0.7", "6"),
-        ("m.y.4294967295", "7"),
-    ] {
+    for (steps, digits) in PLACES {
         set(alloc, &mut item, steps, number(digits)?)?;
     }
     Ok(item)
@@ -153,9 +178,9 @@ fn example(alloc: Global) -> Result<Item, Fail> {
 
 #[test]
 fn size_and_depth_of_an_item(rt: HostRuntime) -> Result<(), Fail> {
-    let alloc = rt.alloc();
-    // l: 1 + 3 + 3 * (1 + 2), y: 1 + 3 + 1 + (3 + 2 * (1 + 2)) + 1 + 2, x: 1 + 2, m: 1 + 3 + 2 + x + y
-    let item = example(alloc)?;
+    // l: 1 + 3 + 3 * (1 + 2), y: 1 + 3 + 1 + (3 + 2 * (1 + 2)) + 1 + 2, x: 1 + 2,
+    // m: 1 + 3 + 2 + x + y
+    let item = example(rt.alloc())?;
     assert_eq!(rt; item.size(), 39);
     assert_eq!(rt; item.depth(), 3);
     measures(&rt, &Value::M(item), 44, 4);
@@ -166,164 +191,250 @@ fn size_and_depth_of_an_item(rt: HostRuntime) -> Result<(), Fail> {
 fn largest_item(rt: HostRuntime) -> Result<(), Fail> {
     let alloc = rt.alloc();
     let mut item = Item::new(alloc);
-    set(alloc, &mut item, "id", text(alloc, "a")?)?;
+    item.put(Text::copied(alloc, "id")?, text(alloc, "a")?)?;
     let bytes = vec![in alloc; 0u8; 409_596]?;
-    set(alloc, &mut item, "v", Value::B(Bytes::from(bytes)))?;
+    item.put(Text::copied(alloc, "v")?, Value::B(Bytes::from(bytes)))?;
     assert_eq!(rt; item.size(), 409_600);
     Ok(())
 }
 
-fn texts(alloc: Global, from: [&str; 3]) -> Result<Seq<Text>, Fail> {
+// Sets.
+
+fn texts(alloc: Global, from: &str) -> Result<Seq<Text>, AllocError> {
     let mut texts = Seq::new(alloc);
-    for text in from {
+    for text in from.split(' ') {
         texts.push(Text::copied(alloc, text)?)?;
     }
     Ok(texts)
 }
 
-fn numbers(alloc: Global, from: [&str; 2]) -> Result<Seq<number38::Number>, Fail> {
+fn numbers(alloc: Global, from: &str) -> Result<Seq<Number>, Fail> {
     let mut numbers = Seq::new(alloc);
-    for digits in from {
+    for digits in from.split(' ') {
         numbers.push(parse(digits)?)?;
     }
     Ok(numbers)
 }
 
-fn refused(answer: Result<Value, ValueEnd>) -> Option<ValueEnd> {
-    answer.err()
+fn binaries(alloc: Global, from: &str) -> Result<Seq<Bytes>, AllocError> {
+    let mut binaries = Seq::new(alloc);
+    for bytes in from.split(' ') {
+        binaries.push(Bytes::copied(alloc, bytes.as_bytes())?)?;
+    }
+    Ok(binaries)
 }
 
 #[test]
-fn sets(rt: HostRuntime) -> Result<(), Fail> {
-    let alloc = rt.alloc();
-    let set = string_set(texts(alloc, ["b", "é", "ab"])?)?;
+fn sets_of_texts(rt: HostRuntime) -> Result<(), Fail> {
+    let set = string_set(texts(rt.alloc(), "b é ab")?)?;
     measures(&rt, &set, 5, 0);
-    assert!(rt; set == string_set(texts(alloc, ["é", "ab", "b"])?)?);
-    measures(&rt, &number_set(numbers(alloc, ["10", "-2.25"])?)?, 5, 0);
+    assert!(rt; set == string_set(texts(rt.alloc(), "é ab b")?)?);
     Ok(())
+}
+
+#[test]
+fn sets_of_numbers_and_binaries(rt: HostRuntime) -> Result<(), Fail> {
+    measures(&rt, &number_set(numbers(rt.alloc(), "10 -2.25")?)?, 5, 0);
+    measures(&rt, &binary_set(binaries(rt.alloc(), "ba a")?)?, 3, 0);
+    Ok(())
+}
+
+fn fault(answer: Result<Value, ValueEnd>) -> Option<ValueFault> {
+    match answer.err()? {
+        ValueEnd::Fault(fault) => Some(fault),
+        ValueEnd::NoMemory => None,
+    }
 }
 
 #[test]
 fn faults_of_sets(rt: HostRuntime) -> Result<(), Fail> {
-    let alloc = rt.alloc();
-    let none = Some(ValueEnd::Fault(ValueFault::EmptySet));
-    assert!(rt; refused(binary_set(Seq::new(alloc))) == none);
-    let twice = Some(ValueEnd::Fault(ValueFault::DuplicateInSet));
-    assert!(rt; refused(string_set(texts(alloc, ["b", "a", "b"])?)) == twice);
-    assert!(rt; refused(number_set(numbers(alloc, ["1", "1.0"])?)) == twice);
+    let twice = Some(ValueFault::DuplicateInSet);
+    assert!(rt; fault(binary_set(Seq::new(rt.alloc()))) == Some(ValueFault::EmptySet));
+    assert!(rt; fault(string_set(texts(rt.alloc(), "b a b")?)) == twice);
+    assert!(rt; fault(number_set(numbers(rt.alloc(), "1 1.0")?)) == twice);
     Ok(())
 }
 
-fn finds(rt: &impl Abort, item: &Item, steps: &DocPath, value: &Value) {
-    assert!(rt; item.get(steps) == Some(value));
+// Paths.
+
+fn finds(
+    rt: &impl Abort,
+    alloc: Global,
+    item: &Item,
+    steps: &str,
+    value: &Value,
+) -> Result<(), Fail> {
+    assert!(rt; item.get(&path(alloc, steps)?) == Some(value));
+    Ok(())
 }
+
+const FOUND: [(&str, &str); 6] = [
+    ("l.0", "10"),
+    ("l.2", "30"),
+    ("m.x", "1"),
+    ("m.y.0.0", "5"),
+    ("m.y.0.1", "6"),
+    ("m.y.1", "7"),
+];
 
 #[test]
 fn paths_that_find(rt: HostRuntime) -> Result<(), Fail> {
-    let alloc = rt.alloc();
-    let item = example(alloc)?;
-    for (steps, digits) in [
-        ("l.0", "10"),
-        ("l.2", "30"),
-        ("m.x", "1"),
-        ("m.y.0.0", "5"),
-        ("m.y.0.1", "6"),
-        ("m.y.1", "7"),
-    ] {
-        finds(&rt, &item, &path(alloc, steps)?, &number(digits)?);
+    let item = example(rt.alloc())?;
+    for (steps, digits) in FOUND {
+        finds(&rt, rt.alloc(), &item, steps, &number(digits)?)?;
     }
     Ok(())
 }
+
+fn finds_nothing(rt: &impl Abort, alloc: Global, item: &mut Item, steps: &str) -> Result<(), Fail> {
+    let steps = path(alloc, steps)?;
+    assert!(rt; item.get(&steps).is_none());
+    assert!(rt; !item.remove(&steps));
+    Ok(())
+}
+
+const NOT_FOUND: [&str; 10] = [
+    "a",
+    "0",
+    "l.3",
+    "l.x",
+    "m.0",
+    "m.z",
+    "m.x.0",
+    "m.y.1.0",
+    "m.y.0.0.x",
+    "L",
+];
 
 #[test]
 fn paths_that_find_nothing(rt: HostRuntime) -> Result<(), Fail> {
-    let alloc = rt.alloc();
-    let mut item = example(alloc)?;
-    for steps in [
-        "a",
-        "0",
-        "l.3",
-        "l.x",
-        "m.0",
-        "m.z",
-        "m.x.0",
-        "m.y.1.0",
-        "m.y.0.0.x",
-        "L",
-    ] {
-        let steps = path(alloc, steps)?;
-        assert!(rt; item.get(&steps).is_none());
-        assert!(rt; !item.remove(&steps));
+    let mut item = example(rt.alloc())?;
+    for steps in NOT_FOUND {
+        finds_nothing(&rt, rt.alloc(), &mut item, steps)?;
     }
-    assert!(rt; item == example(alloc)?);
+    assert!(rt; item == example(rt.alloc())?);
     Ok(())
 }
 
+fn refuses(
+    rt: &impl Abort,
+    alloc: Global,
+    item: &mut Item,
+    steps: &str,
+    value: Value,
+    fault: ValueFault,
+) -> Result<(), Fail> {
+    let answer = item.set(&path(alloc, steps)?, value);
+    assert!(rt; answer == Err(ValueEnd::Fault(fault)));
+    Ok(())
+}
+
+const BAD_PATHS: [&str; 7] = ["a.b", "0", "l.3.x", "l.x", "m.0", "m.z.y", "m.x.0"];
+
 #[test]
 fn bad_paths(rt: HostRuntime) -> Result<(), Fail> {
-    let alloc = rt.alloc();
-    let mut item = example(alloc)?;
-    for steps in ["a.b", "0", "l.3.x", "l.x", "m.0", "m.z.y", "m.x.0"] {
-        let answer = item.set(&path(alloc, steps)?, Value::Null);
-        assert!(rt; answer == Err(ValueEnd::Fault(ValueFault::BadPath)));
+    let mut item = example(rt.alloc())?;
+    for steps in BAD_PATHS {
+        refuses(
+            &rt,
+            rt.alloc(),
+            &mut item,
+            steps,
+            Value::Null,
+            ValueFault::BadPath,
+        )?;
     }
-    assert!(rt; item == example(alloc)?);
+    assert!(rt; item == example(rt.alloc())?);
     assert!(rt; item == item.try_clone()?);
     Ok(())
 }
 
+const PUT: [(&str, &str); 4] = [("l.1", "l.1"), ("l.9", "l.3"), ("m.z", "m.z"), ("m", "m")];
+
 #[test]
 fn values_put_in(rt: HostRuntime) -> Result<(), Fail> {
-    let alloc = rt.alloc();
-    let mut item = example(alloc)?;
-    for (steps, found) in [("l.1", "l.1"), ("l.9", "l.3"), ("m.z", "m.z"), ("m", "m")] {
-        set(alloc, &mut item, steps, Value::Bool(true))?;
-        finds(&rt, &item, &path(alloc, found)?, &Value::Bool(true));
+    let mut item = example(rt.alloc())?;
+    for (steps, found) in PUT {
+        set(rt.alloc(), &mut item, steps, Value::Bool(true))?;
+        finds(&rt, rt.alloc(), &item, found, &Value::Bool(true))?;
     }
     Ok(())
 }
 
+const TAKEN: [&str; 4] = ["l.0", "l.0", "m.y.0.0", "m.x"];
+
+const LEFT: [(&str, &str); 3] = [("l.0", "30"), ("m.y.0.0", "6"), ("m.y.1", "7")];
+
 #[test]
 fn values_taken_out(rt: HostRuntime) -> Result<(), Fail> {
-    let alloc = rt.alloc();
-    let mut item = example(alloc)?;
-    for steps in ["l.0", "l.0", "m.y.0.0", "m.x"] {
-        assert!(rt; item.remove(&path(alloc, steps)?));
+    let mut item = example(rt.alloc())?;
+    for steps in TAKEN {
+        assert!(rt; item.remove(&path(rt.alloc(), steps)?));
     }
-    for (steps, digits) in [("l.0", "30"), ("m.y.0.0", "6"), ("m.y.1", "7")] {
-        finds(&rt, &item, &path(alloc, steps)?, &number(digits)?);
+    for (steps, digits) in LEFT {
+        finds(&rt, rt.alloc(), &item, steps, &number(digits)?)?;
     }
     assert_eq!(rt; item.size(), 26);
     Ok(())
 }
 
+const DEEPEST: [(&str, u32); 3] = [("l", 32), ("l.0", 31), ("l.0.0", 30)];
+
+const TOO_DEEP: [(&str, u32); 4] = [("l", 33), ("a.b", 32), ("l.0", 32), ("l.0.0", 31)];
+
 #[test]
 fn deepest_values(rt: HostRuntime) -> Result<(), Fail> {
     let alloc = rt.alloc();
     let mut item = Item::new(alloc);
-    for (steps, levels) in [("l", 32u32), ("l.0", 31), ("l.0.0", 30)] {
+    for (steps, levels) in DEEPEST {
         set(alloc, &mut item, steps, nested(alloc, levels)?)?;
         assert_eq!(rt; item.depth(), 32);
     }
-    for (steps, levels) in [("l", 33u32), ("a.b", 32), ("l.0", 32), ("l.0.0", 31)] {
-        let answer = item.set(&path(alloc, steps)?, nested(alloc, levels)?);
-        assert!(rt; answer == Err(ValueEnd::Fault(ValueFault::TooDeep)));
+    for (steps, levels) in TOO_DEEP {
+        let value = nested(alloc, levels)?;
+        refuses(&rt, alloc, &mut item, steps, value, ValueFault::TooDeep)?;
     }
     Ok(())
 }
 
+// Attributes and orders.
+
+const NAMES: [&str; 5] = ["é", "b", "ab", "B", "b"];
+
+fn joined_names(alloc: Global, item: &Item) -> Result<String, AllocError> {
+    let mut joined = String::new(alloc);
+    for (name, _value) in item.iter() {
+        joined.push_str(name.as_str())?;
+    }
+    Ok(joined)
+}
+
+#[test]
+fn attributes_in_order(rt: HostRuntime) -> Result<(), Fail> {
+    let mut item = Item::new(rt.alloc());
+    assert!(rt; item.is_empty());
+    for name in NAMES {
+        item.put(Text::copied(rt.alloc(), name)?, Value::Null)?;
+    }
+    assert!(rt; !item.is_empty());
+    assert_eq!(rt; item.len(), 4);
+    assert_eq!(rt; joined_names(rt.alloc(), &item)?.as_str(), "Babbé");
+    Ok(())
+}
+
+const ORDERS: [(&str, Ordering); 3] = [
+    ("10", Ordering::Less),
+    ("2.0", Ordering::Equal),
+    ("-3", Ordering::Greater),
+];
+
 #[test]
 fn orders(rt: HostRuntime) -> Result<(), Fail> {
-    let alloc = rt.alloc();
     let two = number("2")?;
-    for (digits, order) in [
-        ("10", Ordering::Less),
-        ("2.0", Ordering::Equal),
-        ("-3", Ordering::Greater),
-    ] {
+    for (digits, order) in ORDERS {
         assert!(rt; two.compare(&number(digits)?) == Some(order));
     }
-    assert!(rt; two.compare(&text(alloc, "2")?).is_none());
+    assert!(rt; two.compare(&text(rt.alloc(), "2")?).is_none());
     assert!(rt; Value::Null.compare(&Value::Null).is_none());
     Ok(())
 }

@@ -36,7 +36,8 @@ pub enum Value {
     Bs(Seq<Bytes>),
 }
 
-/// An item, or the inside of a map: attributes with a name and a value each, in order of the names' bytes.
+/// An item, or the inside of a map: attributes with a name and a value each, in order of the names'
+/// bytes.
 #[cycle(value)]
 #[derive(Debug, Drop)]
 pub struct Item {

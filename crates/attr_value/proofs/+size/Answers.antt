@@ -1,9 +1,9 @@
 use Rattle.std.proofs.Common.{◌≡◌, [], length, drop, ap, ◌∙◌, arith}
 use Rattle.std.proofs.lemmas.List.{drop_all}
-use Rattle.attr_value.specs.Sizes.{size, item_size, attribute_count}
+use Rattle.attr_value.specs.Sizes.{size, list_size, item_size, attribute_count}
 use Rattle.attr_value.specs.Tree.{map}
-use Rattle.attr_value.specs.View.{tree_of, attributes, attributes_of}
-use Rattle.attr_value.proofs.SizeLaws.{list_size, attribute_count-length}
+use Rattle.attr_value.specs.View.{tree_of, trees_of, attributes, attributes_of}
+use Rattle.attr_value.proofs.SizeLaws.{attribute_count-length}
 use Rattle.attr_value.proofs.Views.{tree_of-M}
 use Rattle.attr_value.proofs.+size.Goals as goal
 
@@ -12,8 +12,8 @@ size::list_bytes-returns t c =
     let l = c.loop-value in
     let xs = c.as_slice-value-items.result.now in
     let none : drop l.value-index xs ≡ [] = drop_all l.value-index xs (omega arith) in
-    let rest : list_size (drop l.value-index xs) ≡ 0 = ap list_size none in
-    let whole : list_size xs ≡ list_size c.args.list.now = ap list_size c.as_slice-value-items.ensures in
+    let rest : list_size (trees_of (drop l.value-index xs)) ≡ 0 = ap (λ vs. list_size (trees_of vs)) none in
+    let whole : list_size (trees_of xs) ≡ list_size (trees_of c.args.list.now) = ap (λ vs. list_size (trees_of vs)) c.as_slice-value-items.ensures in
     omega (arith, rest, whole, l.invariant.sum)
 
 pub value::Item::size-returns : goal.value::Item::size-returns
