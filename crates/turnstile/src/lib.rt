@@ -11,10 +11,12 @@
 //! history, and [`Turnstile::close`] gives values that stand for it. Who counts an entry knows, as it is counted, all
 //! entries of the cell and of its own pass, and the law `goes_on` of the world has to make do with that.
 //!
-//! A turn can't be dropped: it must be left. Nothing is promised of waiting: who waits looks again a hundred times and
-//! then sleeps, and who leaves wakes the sleepers where there may be any.
+//! A turn can't be dropped: it must be left. Nothing is promised of waiting. Who wants a turn that others are after looks
+//! again a little later, draws a ticket at last, looks a hundred times more and then sleeps; who leaves wakes the next
+//! one where it sleeps.
 #![tactic(auto)]
 
+mod bells;
 mod board;
 mod life;
 mod pass;
@@ -22,6 +24,7 @@ mod steps;
 mod turn;
 mod turns;
 mod turnstile;
+mod waiting;
 mod world;
 
 pub use pass::{Pass, Spent, TurnEnd};

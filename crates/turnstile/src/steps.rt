@@ -7,13 +7,14 @@ ghost use Rattle.turnstile.specs.Kept.{most_drawn, ticket};
 ghost use Rattle.turnstile.specs.Steps.{waiting, outside, Taken, Counts, Met};
 ghost use Rattle.turnstile.specs.Passes.{IsSized};
 
+use crate::bells::Bells;
 use crate::board::{Board, Count, Draw, Gather, Learn, Leave, Look, Note, Place};
+use crate::waiting::{pause, sleep};
 use crate::world::{EntryOf, World};
-use std::hint;
 use std::sync::Wait;
 
-/// How often a waiting thread looks again before it sleeps.
-const SPINS: u32 = 100;
+/// How often a thread with a ticket looks whether its turn has come, before it sleeps.
+const LOOKS: u32 = 100;
 
 /// Draws a ticket of the cell.
 pub fn draw<W: World>(board: &Board<W>, place: &mut Place<W>, cell: usize) -> u64
@@ -29,9 +30,11 @@ pub fn draw<W: World>(board: &Board<W>, place: &mut Place<W>, cell: usize) -> u6
     board.shared.fetch_add::<Draw>(place, 16 + 16 * cell, 1)
 }
 
-/// Waits with a ticket until its turn comes, and takes the cell's value.
+/// Waits with a ticket until its turn comes, and takes the cell's value. The farther the turn is, the
+/// less often it looks.
 pub fn wait<W: World, R: Wait>(
     board: &Board<W>,
+    bells: &Bells,
     place: &mut Place<W>,
     rt: &R,
     cell: usize,
@@ -45,17 +48,17 @@ pub fn wait<W: World, R: Wait>(
     ensures taken { Taken W.by W.cell W.legal board.now.shared.table_id.slots W.stands place.old.me (ticket cell number) result place.new.me }
 {
     let word = 24 + 16 * cell;
-    let mut spins = 0;
+    let mut looks = 0;
     for _ in rt.forever() {
         let found = board.shared.load::<Look<W>>(place, word);
         if found == number {
             return board.shared.exchange(place, cell, None).unwrap();
         }
-        if spins < SPINS {
-            spins += 1;
-            hint::spin_loop();
+        if looks < LOOKS {
+            looks += 1;
+            pause(2 * number.saturating_sub(found).min(64));
         } else {
-            board.shared.park(rt, word, (found & 0xffff_ffff) as u32);
+            sleep(board, bells, rt, cell, number);
         }
     }
     unreachable!()
@@ -76,10 +79,10 @@ pub fn count<W: World, E: EntryOf<W, W::Entry>>(board: &Board<W>, place: &mut Pl
     board.shared.fetch_add::<Count<W, E>>(place, 0, 1);
 }
 
-/// Puts the value back and serves the next ticket. Who draws a ticket after the word was peeked finds
-/// its turn at its first look, so no one is left asleep.
+/// Puts the value back, serves the next ticket, and wakes who has it.
 pub fn put_back<W: World>(
     board: &Board<W>,
+    bells: &Bells,
     place: &mut Place<W>,
     cell: usize,
     number: u64,
@@ -97,12 +100,10 @@ pub fn put_back<W: World>(
     ensures seat { (place.new.table_id ≡ place.old.table_id) × (place.new.id ≡ place.old.id) }
     ensures left { place.new.me ≡ (outside place.old.me.0, rest place.old.me.1) }
 {
-    let word = 24 + 16 * cell;
+    let next = number + 1;
     board.shared.exchange(place, cell, Some(value));
-    board.shared.store::<Leave>(place, word, number + 1);
-    if board.shared.peek(16 + 16 * cell) != number + 1 {
-        board.shared.wake_all(word);
-    }
+    board.shared.store::<Leave>(place, 24 + 16 * cell, next);
+    bells.of(cell, next).ring();
 }
 
 // Lets `place` learn what `other` has seen.

@@ -3,6 +3,7 @@ ghost use Rattle.std.specs.Prelude.{◌≡◌, ◌+◌, ◌<◌, ◌≤◌, ℕ,
 ghost use Rattle.turnstile.specs.Histories.{at_cell, Trail};
 ghost use Rattle.turnstile.specs.Passes.{most_units, emptied, stacked, IsSized, HoldsAll, EachStands};
 
+use crate::bells::Bells;
 use crate::board::{Board, Place};
 use crate::pass::Pass;
 use crate::steps::{draw, put_back, wait};
@@ -12,6 +13,7 @@ use std::sync::Wait;
 /// Takes one unit of the pass, and then turn after turn. There is room for the tickets and the values.
 pub fn take_turns<W: World, R: Wait>(
     board: &Board<W>,
+    bells: &Bells,
     pass: &mut Pass<W>,
     rt: &R,
     tickets: Vec<u64>,
@@ -34,7 +36,7 @@ pub fn take_turns<W: World, R: Wait>(
     pass.used += 1;
     for cell in 0..board.slot_count() {
         let number = draw(board, &mut pass.seat, cell);
-        let value = wait(board, &mut pass.seat, rt, cell, number);
+        let value = wait(board, bells, &mut pass.seat, rt, cell, number);
         let Ok(()) = numbers.push(number) else {
             unreachable!()
         };
@@ -48,6 +50,7 @@ pub fn take_turns<W: World, R: Wait>(
 /// Leaves turn after turn, the last taken first.
 pub fn leave_turns<W: World>(
     board: &Board<W>,
+    bells: &Bells,
     place: &mut Place<W>,
     tickets: Vec<u64>,
     cells: Vec<W::Cell>,
@@ -69,6 +72,6 @@ pub fn leave_turns<W: World>(
         let Some(value) = values.pop() else {
             unreachable!()
         };
-        put_back(board, place, numbers.len(), number, value);
+        put_back(board, bells, place, numbers.len(), number, value);
     }
 }

@@ -3,12 +3,14 @@ ghost use Rattle.turnstile.specs.Histories.{own, at_cell, longer, Trail, Ends, M
 ghost use Rattle.turnstile.specs.Kept.{ticket};
 ghost use Rattle.turnstile.specs.Passes.{most_units, first_passes, EachStands, HoldsAll, IsOneHistory};
 
+use crate::bells::Bells;
 use crate::board::{Board, Size};
 use crate::life::{deal, fill, gather, open, take_values};
 use crate::pass::{MOST_UNITS, Pass, Spent, TurnEnd};
 use crate::steps::{count, draw, meet, put_back, wait};
 use crate::turn::{AllTurns, Turn};
 use crate::turns::{leave_turns, take_turns};
+use crate::waiting::approach;
 use crate::world::{EntryOf, World};
 use expr_lexer::Seq;
 use std::alloc::{AllocError as NoMemory, Global};
@@ -18,6 +20,7 @@ use std::sync::Wait;
 /// Cells behind turns, and one history of their entries.
 pub struct Turnstile<W: World> {
     table: Board<W>,
+    bells: Bells,
     // Room for the answer of `close`.
     room: Vec<W::Cell>,
 }
@@ -53,10 +56,11 @@ impl<W: World> Turnstile<W> {
             cells: cells.len() as u64,
             passes: passes as u64,
         };
+        let bells = Bells::new(alloc)?;
         let slots = fill(alloc, cells)?;
         let (table, place) = open::<W>(alloc, &size, slots)?;
         let dealt = deal(&table, place, passes, dealt)?;
-        Ok((Turnstile { table, room }, Seq::from(dealt)))
+        Ok((Turnstile { table, bells, room }, Seq::from(dealt)))
     }
 
     /// How many cells there are.
@@ -82,8 +86,16 @@ impl<W: World> Turnstile<W> {
             return Err(Spent);
         }
         pass.used += 1;
+        approach(&self.table, rt, cell as usize);
         let number = draw(&self.table, &mut pass.seat, cell as usize);
-        let value = wait(&self.table, &mut pass.seat, rt, cell as usize, number);
+        let value = wait(
+            &self.table,
+            &self.bells,
+            &mut pass.seat,
+            rt,
+            cell as usize,
+            number,
+        );
         Ok(Turn {
             cell,
             number,
@@ -123,7 +135,14 @@ impl<W: World> Turnstile<W> {
             value,
             counted: _,
         } = turn;
-        put_back(&self.table, &mut pass.seat, cell as usize, number, value);
+        put_back(
+            &self.table,
+            &self.bells,
+            &mut pass.seat,
+            cell as usize,
+            number,
+            value,
+        );
     }
 
     /// Takes one unit of the pass, and takes the turns of all cells, in ascending order.
@@ -149,7 +168,7 @@ impl<W: World> Turnstile<W> {
         let count = self.table.slot_count();
         let numbers = Vec::with_capacity(alloc, count)?;
         let values = Vec::with_capacity(alloc, count)?;
-        let (numbers, values) = take_turns(&self.table, pass, rt, numbers, values);
+        let (numbers, values) = take_turns(&self.table, &self.bells, pass, rt, numbers, values);
         Ok(AllTurns {
             numbers,
             values,
@@ -189,7 +208,7 @@ impl<W: World> Turnstile<W> {
             values,
             counted: _,
         } = turns;
-        leave_turns(&self.table, &mut pass.seat, numbers, values);
+        leave_turns(&self.table, &self.bells, &mut pass.seat, numbers, values);
     }
 
     /// Lets each of the two passes see all that the other had seen.
@@ -211,7 +230,11 @@ impl<W: World> Turnstile<W> {
         ensures count { length result ≡ self.id.slots }
         ensures history { IsOneHistory W.by W.cell W.stands W.legal self.id.slots passes result }
     {
-        let Turnstile { table, room } = self;
+        let Turnstile {
+            table,
+            bells: _,
+            room,
+        } = self;
         let mut passes: Vec<Pass<W>> = passes.into();
         let Some(first) = passes.pop() else {
             unreachable!()
@@ -223,6 +246,10 @@ impl<W: World> Turnstile<W> {
 
 impl<W: World> Drop for Turnstile<W> {
     fn drop(self) {
-        let Self { table: _, room: _ } = self;
+        let Self {
+            table: _,
+            bells: _,
+            room: _,
+        } = self;
     }
 }

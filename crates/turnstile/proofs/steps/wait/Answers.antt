@@ -31,8 +31,8 @@ returns-then-found-number-clause-taken g c = let W = g.W.World in let b = c.args
     subst (λ m. Taken W.by W.cell W.legal b.table_id.slots W.stands m (ticket c.args.cell c.args.number) c.unwrap.result c.exchange.new.seat.me) i.2
     (taken_of W.by W.cell W.legal b.table_id.slots W.stands c.loop.place.me c.load-found.new.seat.me c.exchange.new.seat.me (ticket c.args.cell c.args.number) c.exchange.result c.unwrap.result took x.2 x.3 c.unwrap.ensures)
 
-pub loop-preserved-then-spins-lt-SPINS : goal.loop-preserved-then-spins-lt-SPINS
-loop-preserved-then-spins-lt-SPINS g c = let i = c.loop.invariant in let l = c.load-found.ensures in
+pub loop-preserved-then-looks-lt-LOOKS : goal.loop-preserved-then-looks-lt-LOOKS
+loop-preserved-then-looks-lt-LOOKS g c = let i = c.loop.invariant in let l = c.load-found.ensures in
     (l.0 ∙ i.0, l.1 ∙ i.1, (l.2 (ticket c.args.cell c.args.number) (ap (λ m. m.0.drew) i.2 ∙ c.requires.drew) refl).1 c.if-found-number.false ∙ i.2)
 
 pub loop-preserved : goal.loop-preserved
