@@ -1,6 +1,7 @@
 //! The table that passes step on.
 ghost use Rattle.turnstile.specs.Steps.{Draws, Looks, Counts, Leaves, Learns, note, but_first, first_alone, joined, nobody};
 
+use crate::slot::Slot;
 use crate::world::{EntryOf, World};
 use atomic_table::{Join, Play, Seat, Split, Table, TableRule};
 use std::alloc::Global;
@@ -41,7 +42,7 @@ pub struct TurnRule<W> {
     world: PhantomData<W>,
 }
 
-impl<W: World> TableRule<Option<W::Cell>, View<W::Entry>, Size> for TurnRule<W> {
+impl<W: World> TableRule<Slot<W::Cell>, View<W::Entry>, Size> for TurnRule<W> {
     ghost use Rattle.turnstile.specs.Kept.{Kept};
     ghost use Rattle.turnstile.specs.Steps.{starting};
 
@@ -51,18 +52,18 @@ impl<W: World> TableRule<Option<W::Cell>, View<W::Entry>, Size> for TurnRule<W> 
 }
 
 pub type Board<W> = Table<
-    Option<<W as World>::Cell>,
+    Slot<<W as World>::Cell>,
     View<<W as World>::Entry>,
     Size,
     TurnRule<W>,
     Global,
 >;
 
-pub type Place<W> = Seat<Option<<W as World>::Cell>, View<<W as World>::Entry>>;
+pub type Place<W> = Seat<Slot<<W as World>::Cell>, View<<W as World>::Entry>>;
 
 pub struct Draw;
 
-impl<C, E> Play<Option<C>, View<E>> for Draw {
+impl<C, E> Play<Slot<C>, View<E>> for Draw {
     ghost then = { Draws };
 }
 
@@ -70,7 +71,7 @@ pub struct Look<W> {
     world: PhantomData<W>,
 }
 
-impl<W: World> Play<Option<W::Cell>, View<W::Entry>> for Look<W> {
+impl<W: World> Play<Slot<W::Cell>, View<W::Entry>> for Look<W> {
     ghost then = { Looks W.by W.cell W.stands W.legal };
 }
 
@@ -78,13 +79,13 @@ pub struct Count<W, E> {
     world: PhantomData<(W, E)>,
 }
 
-impl<W: World, E: EntryOf<W, W::Entry>> Play<Option<W::Cell>, View<W::Entry>> for Count<W, E> {
+impl<W: World, E: EntryOf<W, W::Entry>> Play<Slot<W::Cell>, View<W::Entry>> for Count<W, E> {
     ghost then = { λ s m r m'. Counts W.by W.cell W.legal s.slots E.entry m m' };
 }
 
 pub struct Leave;
 
-impl<C, E> Play<Option<C>, View<E>> for Leave {
+impl<C, E> Play<Slot<C>, View<E>> for Leave {
     ghost then = { Leaves };
 }
 
@@ -92,7 +93,7 @@ pub struct Learn<W> {
     world: PhantomData<W>,
 }
 
-impl<W: World> Play<Option<W::Cell>, View<W::Entry>> for Learn<W> {
+impl<W: World> Play<Slot<W::Cell>, View<W::Entry>> for Learn<W> {
     ghost then = { λ s m r m'. Learns W.by W.cell W.legal s.slots m m' };
 }
 

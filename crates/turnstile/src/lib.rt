@@ -20,6 +20,7 @@ mod bells;
 mod board;
 mod life;
 mod pass;
+mod slot;
 mod steps;
 mod turn;
 mod turns;

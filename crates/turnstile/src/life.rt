@@ -7,18 +7,19 @@ ghost use Rattle.turnstile.specs.Values.{AtHome, KeptBy};
 
 use crate::board::{Board, Deal, Gather, Place, Size};
 use crate::pass::Pass;
+use crate::slot::Slot;
 use crate::steps::meet;
 use crate::world::World;
 use atomic_table::Table;
 use std::alloc::{AllocError as NoMemory, Global};
 
 /// The cells, each in a slot of its own.
-pub fn fill<C: Drop>(alloc: Global, cells: Vec<C>) -> Result<Vec<Option<C>>, NoMemory>
+pub fn fill<C: Drop>(alloc: Global, cells: Vec<C>) -> Result<Vec<Slot<C>>, NoMemory>
     ensures { IfOk result (λ slots. slots.items ≡ map Some cells.items) }
 {
     let mut slots = Vec::with_capacity(alloc, cells.len())?;
     for cell in cells {
-        slots.push(Some(cell))?;
+        slots.push(Slot::new(Some(cell)))?;
     }
     Ok(slots)
 }
@@ -38,7 +39,7 @@ fn blank(count: usize) -> &'static [u64]
 pub fn open<W: World>(
     alloc: Global,
     size: &Size,
-    slots: Vec<Option<W::Cell>>,
+    slots: Vec<Slot<W::Cell>>,
 ) -> Result<(Board<W>, Place<W>), NoMemory>
     requires cells { (size.now.cells ≡ length slots.items) × (length slots.items ≤ 65) }
     requires passes { size.now.passes ≤ 64 }
@@ -123,7 +124,7 @@ pub fn take_values<W: World>(table: Board<W>, place: Place<W>, room: Vec<W::Cell
     let mut values = room;
     let mut closed = table.close_with(place);
     for slot in 0..closed.slot_count() {
-        let value = closed.take(slot).unwrap();
+        let value = closed.take(slot).into_inner().unwrap();
         let Ok(()) = values.push(value) else {
             unreachable!()
         };

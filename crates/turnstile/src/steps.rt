@@ -52,7 +52,8 @@ pub fn wait<W: World, R: Wait>(
     for _ in rt.forever() {
         let found = board.shared.load::<Look<W>>(place, word);
         if found == number {
-            return board.shared.exchange(place, cell, None).unwrap();
+            let slot = place.slot_mut(&board.shared, cell);
+            return slot.replace(None).unwrap();
         }
         if looks < LOOKS {
             looks += 1;
@@ -101,7 +102,8 @@ pub fn put_back<W: World>(
     ensures left { place.new.me ≡ (outside place.old.me.0, rest place.old.me.1) }
 {
     let next = number + 1;
-    board.shared.exchange(place, cell, Some(value));
+    let slot = place.slot_mut(&board.shared, cell);
+    slot.replace(Some(value));
     board.shared.store::<Leave>(place, 24 + 16 * cell, next);
     bells.of(cell, next).ring();
 }

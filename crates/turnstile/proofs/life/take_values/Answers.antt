@@ -23,7 +23,7 @@ unwrap-value-requires g c = let W = g.W.World in let n : ℕ = c.args.table.shar
     let i = c.loop-slot.invariant in let len = i.len in let count = c.close_with-closed.ensures.counts.1 in let end = c.slot_count-slot-end.ensures in let test = c.loop-slot-test.true in
     let h = k.4 c.loop-slot.slot (omega arith) in
     let o : c.take.result ≡ Some h.0 = some-injective _ _ (sym c.take.ensures.value ∙ (ap (λ l. get_elem? l c.loop-slot.slot) i.items ∙ h.1)) in
-    subst (λ x. IsSome x) (sym o) (search rules)
+    subst (λ x. IsSome x) (sym (c.into_inner.ensures ∙ o)) (search rules)
 
 pub loop-slot-preserved : goal.loop-slot-preserved
 loop-slot-preserved g c = let i = c.loop-slot.invariant in let t = c.take.ensures in let slot : ℕ = c.loop-slot.slot in let filled : List Bool = slots_filled c.loop-slot.closed.slots in
@@ -36,7 +36,7 @@ loop-slot-preserved g c = let i = c.loop-slot.invariant in let t = c.take.ensure
       count = ap length items ∙ (length_push c.loop-slot.values.items c.unwrap-value.result ∙ ap (λ k. k + 1) count);
       taken = λ k x e. ⊎_elim
           (λ old. i.taken k x old)
-          (λ new. ap (get_elem? (slots_items c.close_with-closed.result.slots)) (new.0 ∙ count) ∙ (sym (ap (λ l. get_elem? l slot) i.items) ∙ (t.value ∙ (ap (λ o. some o) c.unwrap-value.ensures ∙ ap (λ y. some (Some y)) new.1))))
+          (λ new. ap (get_elem? (slots_items c.close_with-closed.result.slots)) (new.0 ∙ count) ∙ (sym (ap (λ l. get_elem? l slot) i.items) ∙ (t.value ∙ (ap (λ o. some o) (sym c.into_inner.ensures ∙ c.unwrap-value.ensures) ∙ ap (λ y. some (Some y)) new.1))))
           (get_push c.loop-slot.values.items c.unwrap-value.result x k (subst (λ l. slice_get l k ≡ Some x) items e));
     }
 

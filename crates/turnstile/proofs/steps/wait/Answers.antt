@@ -13,8 +13,8 @@ load-found-requires g c = let W = g.W.World in let b = c.args.board.now.shared i
   looks W.by W.cell W.stands W.legal b.table_id.slots b.key.passes b.key.cells z.cells _ c.loop.place.me (ticket c.args.cell c.args.number) (ap (λ m. m.0.drew) i.2 ∙ c.requires.drew) _ refl,
 )
 
-pub exchange-requires : goal.exchange-requires
-exchange-requires g c = let i = c.loop.invariant in let l = c.load-found.ensures in
+pub slot_mut-slot-requires : goal.slot_mut-slot-requires
+slot_mut-slot-requires g c = let i = c.loop.invariant in let l = c.load-found.ensures in
     let took = (l.2 (ticket c.args.cell c.args.number) (ap (λ m. m.0.drew) i.2 ∙ c.requires.drew) refl).0 c.if-found-number.true in
     let e = ap (λ m. m.1) took.after in
     (l.0 ∙ (i.0 ∙ c.requires.of), (Some took.value, e ∙ ap (λ r. (c.args.cell, Some took.value) ∷ r) (sym (ap rest e))))
@@ -22,14 +22,15 @@ exchange-requires g c = let i = c.loop.invariant in let l = c.load-found.ensures
 pub unwrap-requires : goal.unwrap-requires
 unwrap-requires g c = let i = c.loop.invariant in let l = c.load-found.ensures in
     let took = (l.2 (ticket c.args.cell c.args.number) (ap (λ m. m.0.drew) i.2 ∙ c.requires.drew) refl).0 c.if-found-number.true in
-    let o = one_value c.args.cell c.exchange.result took.value _ _ (sym c.exchange.ensures.2 ∙ ap (λ m. m.1) took.after) in
-    subst (λ x. IsSome x) (sym o) (search rules)
+    let o = one_value c.args.cell c.slot_mut-slot.result.now took.value _ _ (sym c.slot_mut-slot.ensures.value ∙ ap (λ m. m.1) took.after) in
+    subst (λ x. IsSome x) (sym (c.replace.ensures.was ∙ o)) (search rules)
 
 pub returns-then-found-number-clause-taken : goal.returns-then-found-number-clause-taken
-returns-then-found-number-clause-taken g c = let W = g.W.World in let b = c.args.board.now.shared in let i = c.loop.invariant in let l = c.load-found.ensures in let x = c.exchange.ensures in
+returns-then-found-number-clause-taken g c = let W = g.W.World in let b = c.args.board.now.shared in let i = c.loop.invariant in let l = c.load-found.ensures in let m = c.load-found.new.seat.me in
     let took = (l.2 (ticket c.args.cell c.args.number) (ap (λ m. m.0.drew) i.2 ∙ c.requires.drew) refl).0 c.if-found-number.true in
-    subst (λ m. Taken W.by W.cell W.legal b.table_id.slots W.stands m (ticket c.args.cell c.args.number) c.unwrap.result c.exchange.new.seat.me) i.2
-    (taken_of W.by W.cell W.legal b.table_id.slots W.stands c.loop.place.me c.load-found.new.seat.me c.exchange.new.seat.me (ticket c.args.cell c.args.number) c.exchange.result c.unwrap.result took x.2 x.3 c.unwrap.ensures)
+    subst (λ q. Taken W.by W.cell W.legal b.table_id.slots W.stands q (ticket c.args.cell c.args.number) c.unwrap.result (m.0, (c.args.cell, c.replace.new.self) ∷ rest m.1)) i.2
+    (taken_of W.by W.cell W.legal b.table_id.slots W.stands c.loop.place.me m (m.0, (c.args.cell, c.replace.new.self) ∷ rest m.1) (ticket c.args.cell c.args.number) c.slot_mut-slot.result.now c.unwrap.result took
+        c.slot_mut-slot.ensures.value (ap (λ w. (m.0, (c.args.cell, w) ∷ rest m.1)) c.replace.ensures.is) (sym c.replace.ensures.was ∙ c.unwrap.ensures))
 
 pub loop-preserved-then-looks-lt-LOOKS : goal.loop-preserved-then-looks-lt-LOOKS
 loop-preserved-then-looks-lt-LOOKS g c = let i = c.loop.invariant in let l = c.load-found.ensures in
