@@ -298,15 +298,35 @@ fn four_threads(rt: HostRuntime) -> Result<(), Fail> {
     Ok(())
 }
 
-// How many looks at the flag are waited for.
+// How many looks at a flag are waited for.
 const ROUNDS: u32 = 100_000_000;
 
-// Holds the turn of the cell 0 until the flag is raised. Whether it was within the rounds.
+// Long enough for who waits meanwhile to go to sleep.
+const LONG: u32 = 1_000_000;
+
+// What the holder of a turn and a visitor tell each other.
+struct Flags {
+    held: AtomicBool,
+    done: AtomicBool,
+}
+
+fn is_raised(flag: &AtomicBool, rounds: u32) -> bool {
+    for _ in 0..rounds {
+        if flag.load(Ordering::SeqCst) {
+            return true;
+        }
+        hint::spin_loop();
+    }
+    false
+}
+
+// Holds the turn of the cell 0 until the visitor is done. Whether it was within the rounds.
 fn hold<R: Wait>(
     turnstile: &Turnstile<Counters>,
     pass: Pass<Counters>,
     rt: &R,
-    done: &AtomicBool,
+    flags: &Flags,
+    rounds: u32,
 ) -> bool
     requires of { pass.turnstile ≡ turnstile.now.id }
     requires free { pass.turns ≡ [] }
@@ -316,61 +336,86 @@ fn hold<R: Wait>(
     let Ok(turn) = turnstile.enter(&mut pass, rt, 0) else {
         return false;
     };
-    let mut seen = false;
-    for _ in 0..ROUNDS {
-        if done.load(Ordering::SeqCst) {
-            seen = true;
-            break;
-        }
-        hint::spin_loop();
-    }
+    flags.held.store(true, Ordering::SeqCst);
+    let seen = is_raised(&flags.done, rounds);
     turnstile.leave(&mut pass, rt, turn);
     seen
 }
 
-fn visit<R: Wait>(turnstile: &Turnstile<Counters>, pass: Pass<Counters>, rt: &R, done: &AtomicBool)
+// Adds 1 to the cell, once the turn of the cell 0 is held.
+fn visit<R: Wait>(
+    turnstile: &Turnstile<Counters>,
+    pass: Pass<Counters>,
+    rt: &R,
+    flags: &Flags,
+    cell: u32,
+)
     requires of { pass.turnstile ≡ turnstile.now.id }
     requires free { pass.turns ≡ [] }
-    requires cells { 3 ≤ turnstile.now.id.slots }
+    requires cell { cell < turnstile.now.id.slots }
 {
     let mut pass = pass;
-    if add(turnstile, &mut pass, rt, 1, 1).is_ok() {
-        done.store(true, Ordering::SeqCst);
+    if is_raised(&flags.held, ROUNDS) && add(turnstile, &mut pass, rt, cell, 1).is_ok() {
+        flags.done.store(true, Ordering::SeqCst);
     }
 }
 
-fn apart<R: Wait + Threads + Sync>(
+// Whether the visitor was done within the rounds, and whether it was done in the end.
+fn visited<R: Wait + Threads + Sync>(
     rt: &R,
     turnstile: &Turnstile<Counters>,
     one: Pass<Counters>,
     two: Pass<Counters>,
-) -> bool
+    cell: u32,
+    rounds: u32,
+) -> (bool, bool)
     requires of { (one.turnstile ≡ turnstile.now.id) × (two.turnstile ≡ turnstile.now.id) }
     requires free { (one.turns ≡ []) × (two.turns ≡ []) }
-    requires cells { 3 ≤ turnstile.now.id.slots }
+    requires cells { (3 ≤ turnstile.now.id.slots) × (cell < turnstile.now.id.slots) }
 {
-    let flag = AtomicBool::new(false);
-    let done = &flag;
+    let flags = Flags {
+        held: AtomicBool::new(false),
+        done: AtomicBool::new(false),
+    };
+    let shared = &flags;
     let (seen, ()) = join(
         rt,
         move ||
             requires { (one.turnstile ≡ turnstile.now.id) × (one.turns ≡ []) × (3 ≤ turnstile.now.id.slots) }
-        { hold(turnstile, one, rt, done) },
+        { hold(turnstile, one, rt, shared, rounds) },
         move ||
-            requires { (two.turnstile ≡ turnstile.now.id) × (two.turns ≡ []) × (3 ≤ turnstile.now.id.slots) }
-        { visit(turnstile, two, rt, done) },
+            requires { (two.turnstile ≡ turnstile.now.id) × (two.turns ≡ []) × (cell < turnstile.now.id.slots) }
+        { visit(turnstile, two, rt, shared, cell) },
     );
-    seen
+    (seen, shared.done.load(Ordering::SeqCst))
 }
 
-#[test]
-fn cells_apart(rt: HostRuntime) -> Result<(), Fail> {
-    let alloc = rt.alloc();
+// The visit of a cell while the turn of the cell 0 is held.
+fn visited_of_three<R: Wait + Threads + Sync>(
+    rt: &R,
+    alloc: Global,
+    cell: u32,
+    rounds: u32,
+) -> Result<(bool, bool), Fail>
+    requires { cell < 3 }
+{
     let cells = vec![in alloc; 0, 0, 0]?;
     let (turnstile, passes) = Turnstile::<Counters>::make(alloc, Seq::from(cells), 2)?;
     let mut passes: Vec<Pass<Counters>> = passes.into();
     let two = passes.pop().ok_or("the second pass")?;
     let one = passes.pop().ok_or("the first pass")?;
-    assert!(rt; apart(&rt, &turnstile, one, two));
+    Ok(visited(rt, &turnstile, one, two, cell, rounds))
+}
+
+#[test]
+fn cells_apart(rt: HostRuntime) -> Result<(), Fail> {
+    assert_eq!(rt; visited_of_three(&rt, rt.alloc(), 1, ROUNDS)?, (true, true));
+    Ok(())
+}
+
+// The visitor comes in only when the turn is left, and is woken for it.
+#[test]
+fn turn_waited_for(rt: HostRuntime) -> Result<(), Fail> {
+    assert_eq!(rt; visited_of_three(&rt, rt.alloc(), 0, LONG)?, (false, true));
     Ok(())
 }
