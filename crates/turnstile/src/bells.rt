@@ -5,7 +5,8 @@ use std::alloc::{AllocError as NoMemory, Global};
 use std::sync::Wait;
 use std::sync::atomic::{AtomicU64, Ordering};
 
-/// How many bells there are: as many as passes at most, so that no two tickets of a cell that are out have one bell.
+/// How many bells there are: as many as passes at most, so that no two tickets of a cell that are out
+/// have one bell.
 const BELLS: usize = 64;
 
 /// What rings for a ticket.
@@ -25,23 +26,24 @@ impl Bell {
         }
     }
 
-    /// Counts a thread that is about to sleep, and says how often the bell has rung. The thread then looks once more
-    /// whether it has to wait: who rings after that look either sees it counted or was seen by it.
+    /// Counts a thread that is about to sleep, and says how often the bell has rung. The thread has to
+    /// look once more whether it has to wait: who lets it go on after that look finds it counted.
     pub fn lie_down(&self) -> u32 {
         self.sleepers.fetch_add(1, Ordering::SeqCst);
         (self.rings.load(Ordering::SeqCst) & 0xffff_ffff) as u32
     }
 
-    /// Sleeps until the bell rings again. It may also return for no reason.
+    /// Sleeps until the bell has rung more often than it was heard. It may also return for no reason.
     pub fn sleep<R: Wait>(&self, rt: &R, heard: u32) {
         self.rings.park(rt, heard);
     }
 
+    /// The thread that was counted is up again.
     pub fn get_up(&self) {
         self.sleepers.fetch_sub(1, Ordering::SeqCst);
     }
 
-    /// Wakes who sleeps, and costs one look where nobody does.
+    /// Wakes who sleeps. It costs one look where nobody does.
     pub fn ring(&self) {
         if self.sleepers.load(Ordering::SeqCst) != 0 {
             self.rings.fetch_add(1, Ordering::SeqCst);

@@ -12,8 +12,8 @@
 //! entries of the cell and of its own pass, and the law `goes_on` of the world has to make do with that.
 //!
 //! A turn can't be dropped: it must be left. Nothing is promised of waiting. Who wants a turn that others are after looks
-//! again a little later, draws a ticket at last, looks a hundred times more and then sleeps; who leaves wakes the next
-//! one where it sleeps.
+//! again later and later, draws a ticket in the end, looks a hundred times more and then sleeps; who leaves wakes the
+//! holder of the next ticket where it sleeps.
 #![tactic(auto)]
 
 mod bells;

@@ -5,8 +5,8 @@ use crossbeam_utils::CachePadded;
 use std::marker::Model;
 use std::mem;
 
-/// A value or none, which contracts see as just that. Nothing else lies on its cache lines, so that those who have
-/// turns of different cells do not slow each other.
+/// A value or none, which contracts see as just that. Nothing else lies on its cache lines, so that
+/// threads that have turns of different cells do not slow each other.
 pub struct Slot<C> {
     padded: CachePadded<Option<C>>,
 }

@@ -30,8 +30,8 @@ pub fn draw<W: World>(board: &Board<W>, place: &mut Place<W>, cell: usize) -> u6
     board.shared.fetch_add::<Draw>(place, 16 + 16 * cell, 1)
 }
 
-/// Waits with a ticket until its turn comes, and takes the cell's value. The farther the turn is, the
-/// less often it looks.
+/// Waits with a ticket until its turn comes, and takes the cell's value. The farther off the turn is,
+/// the less often it looks.
 pub fn wait<W: World, R: Wait>(
     board: &Board<W>,
     bells: &Bells,

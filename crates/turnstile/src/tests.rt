@@ -305,6 +305,7 @@ const ROUNDS: u32 = 100_000_000;
 const LONG: u32 = 1_000_000;
 
 // What the holder of a turn and a visitor tell each other.
+#[derive(Drop)]
 struct Flags {
     held: AtomicBool,
     done: AtomicBool,

@@ -18,7 +18,7 @@ const NAPS: u32 = 6;
 /// How long the first nap is, in microseconds. Each is twice as long as the one before.
 const FIRST_NAP: u64 = 50;
 
-/// Leaves the processor's bus alone for a moment.
+/// Spins, some 50 ns a round on the processors of the day.
 pub fn pause(count: u64) {
     for _ in 0..count {
         hint::spin_loop();
@@ -48,10 +48,10 @@ fn hover<W: World>(board: &Board<W>, cell: usize) -> bool
     false
 }
 
-/// Keeps a thread out of the queue of a cell while others are in it, but not for long. Tickets are served in order, so
-/// whoever has drawn one and is not running holds up all behind it: threads that look again a little later, asleep
-/// meanwhile if need be, let those that run take turn after turn. A ticket makes the wait certain to end, so after some
-/// milliseconds a thread draws one all the same.
+/// Keeps a thread out of the queue of a cell while others are in it, for some milliseconds at most.
+/// Tickets are served in order, so one that was drawn by a thread that is not running holds up all
+/// behind it. Threads that come back a little later leave those that run to take turn after turn; and
+/// since others may then come first each time, a thread draws its ticket in the end all the same.
 pub fn approach<W: World, R: Wait>(board: &Board<W>, rt: &R, cell: usize)
     requires sized { IsSized board.now.shared.table_id board.now.shared.key }
     requires cell { cell < board.now.shared.table_id.slots }

@@ -30,7 +30,7 @@ returns-then-found-number-clause-taken g c = let W = g.W.World in let b = c.args
     let took = (l.2 (ticket c.args.cell c.args.number) (ap (λ m. m.0.drew) i.2 ∙ c.requires.drew) refl).0 c.if-found-number.true in
     subst (λ q. Taken W.by W.cell W.legal b.table_id.slots W.stands q (ticket c.args.cell c.args.number) c.unwrap.result (m.0, (c.args.cell, c.replace.new.self) ∷ rest m.1)) i.2
     (taken_of W.by W.cell W.legal b.table_id.slots W.stands c.loop.place.me m (m.0, (c.args.cell, c.replace.new.self) ∷ rest m.1) (ticket c.args.cell c.args.number) c.slot_mut-slot.result.now c.unwrap.result took
-        c.slot_mut-slot.ensures.value (ap (λ w. (m.0, (c.args.cell, w) ∷ rest m.1)) c.replace.ensures.is) (sym c.replace.ensures.was ∙ c.unwrap.ensures))
+    c.slot_mut-slot.ensures.value (ap (λ w. (m.0, (c.args.cell, w) ∷ rest m.1)) c.replace.ensures.is) (sym c.replace.ensures.was ∙ c.unwrap.ensures))
 
 pub loop-preserved-then-looks-lt-LOOKS : goal.loop-preserved-then-looks-lt-LOOKS
 loop-preserved-then-looks-lt-LOOKS g c = let i = c.loop.invariant in let l = c.load-found.ensures in
