@@ -5,8 +5,8 @@ use std::alloc::{AllocError as NoMemory, Global};
 use std::sync::Wait;
 use std::sync::atomic::{AtomicU64, Ordering};
 
-/// How many bells there are: as many as passes at most, so that no two tickets of a cell that are out
-/// have one bell.
+/// How many bells there are: as many as passes at most, so that no two tickets of a cell that are
+/// out have one bell.
 const BELLS: usize = 64;
 
 /// What rings for a ticket.
@@ -26,14 +26,14 @@ impl Bell {
         }
     }
 
-    /// Counts a thread that is about to sleep, and says how often the bell has rung. The thread has to
-    /// look once more whether it has to wait: who lets it go on after that look finds it counted.
+    /// Counts a thread that is about to sleep, and says how often the bell has rung. The thread has
+    /// to look once more whether it must wait: who lets it go on after that look finds it counted.
     pub fn lie_down(&self) -> u32 {
         self.sleepers.fetch_add(1, Ordering::SeqCst);
         (self.rings.load(Ordering::SeqCst) & 0xffff_ffff) as u32
     }
 
-    /// Sleeps until the bell has rung more often than it was heard. It may also return for no reason.
+    /// Sleeps until the bell has rung more often than was heard. It may also wake for no reason.
     pub fn sleep<R: Wait>(&self, rt: &R, heard: u32) {
         self.rings.park(rt, heard);
     }
@@ -65,7 +65,7 @@ impl Bells {
         Ok(Bells { bells })
     }
 
-    /// The bell of a ticket. Tickets of different cells may share one, which then wakes a thread too many.
+    /// The bell of a ticket. Tickets of different cells may share one, which then wakes both.
     pub fn of(&self, cell: usize, number: u64) -> &Bell {
         &self.bells[(number.wrapping_add(cell as u64) % 64) as usize]
     }

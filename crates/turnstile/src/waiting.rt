@@ -50,8 +50,8 @@ fn hover<W: World>(board: &Board<W>, cell: usize) -> bool
 
 /// Keeps a thread out of the queue of a cell while others are in it, for some milliseconds at most.
 /// Tickets are served in order, so one that was drawn by a thread that is not running holds up all
-/// behind it. Threads that come back a little later leave those that run to take turn after turn; and
-/// since others may then come first each time, a thread draws its ticket in the end all the same.
+/// behind it. Threads that come back a little later leave those that run to take turn after turn;
+/// and since others may then come first each time, a thread draws a ticket in the end all the same.
 pub fn approach<W: World, R: Wait>(board: &Board<W>, rt: &R, cell: usize)
     requires sized { IsSized board.now.shared.table_id board.now.shared.key }
     requires cell { cell < board.now.shared.table_id.slots }
