@@ -36,116 +36,117 @@ fn judged(alloc: Global, text: &str) -> Result<Judged, Fail> {
 }
 
 // What a head is by RFC 9112, or by a rule of this server where the RFC leaves a choice.
+static HEADS: [(&str, Judged); 38] = [
+    ("POST / HTTP/1.1\r\nHost: a\r\n\r\n", Ok(Some((0, false)))),
+    // 2.2: empty lines before, and lines that end with LF alone.
+    (
+        "\r\n\nPOST / HTTP/1.1\nContent-Length: 5\n\n",
+        Ok(Some((5, false))),
+    ),
+    // 9.3 and 9.6: who closes the connection.
+    ("POST / HTTP/1.0\r\n\r\n", Ok(Some((0, true)))),
+    (
+        "POST / HTTP/1.1\r\nConnection: close\r\n\r\n",
+        Ok(Some((0, true))),
+    ),
+    (
+        "POST / HTTP/1.1\r\nConnection: keep-alive , \t CLOSE \r\n\r\n",
+        Ok(Some((0, true))),
+    ),
+    (
+        "POST / HTTP/1.1\r\nConnection: te\r\nCONNECTION:close\r\n\r\n",
+        Ok(Some((0, true))),
+    ),
+    (
+        "POST / HTTP/1.1\r\nConnection: closed, not-close,c lose\r\n\r\n",
+        Ok(Some((0, false))),
+    ),
+    // 6.2 and 6.3: the length of the body.
+    (
+        "POST / HTTP/1.1\r\ncontent-LENGTH:\t0000000007 \r\n\r\n",
+        Ok(Some((7, false))),
+    ),
+    (
+        "POST / HTTP/1.1\r\nContent-Length: 16777216\r\n\r\n",
+        Ok(Some((16_777_216, false))),
+    ),
+    (
+        "POST / HTTP/1.1\r\nContent-Length: 16777217\r\n\r\n",
+        Err(HttpFault::TooLarge),
+    ),
+    (
+        "POST / HTTP/1.1\r\nContent-Length: 9999999999\r\n\r\n",
+        Err(HttpFault::TooLarge),
+    ),
+    (
+        "POST / HTTP/1.1\r\nContent-Length: 00000000007\r\n\r\n",
+        Err(HttpFault::BadHead),
+    ),
+    (
+        "POST / HTTP/1.1\r\nContent-Length:\r\n\r\n",
+        Err(HttpFault::BadHead),
+    ),
+    (
+        "POST / HTTP/1.1\r\nContent-Length: +5\r\n\r\n",
+        Err(HttpFault::BadHead),
+    ),
+    (
+        "POST / HTTP/1.1\r\nContent-Length: 5, 5\r\n\r\n",
+        Err(HttpFault::BadHead),
+    ),
+    (
+        "POST / HTTP/1.1\r\nContent-Length: 0x5\r\n\r\n",
+        Err(HttpFault::BadHead),
+    ),
+    (
+        "POST / HTTP/1.1\r\nContent-Length: 5\r\nContent-Length: 5\r\n\r\n",
+        Err(HttpFault::BadHead),
+    ),
+    // 6.1: a transfer coding, whatever else is wrong.
+    (
+        "POST / HTTP/1.1\r\nTransfer-Encoding: chunked\r\n\r\n",
+        Err(HttpFault::Coding),
+    ),
+    (
+        "GET / HTTP/1.1\r\nContent-Length: x\r\ntransfer-encoding:\r\n\r\n",
+        Err(HttpFault::Coding),
+    ),
+    // 3.1 and 3.2: the method, and then the target.
+    ("GET / HTTP/1.1\r\n\r\n", Err(HttpFault::Method)),
+    ("post / HTTP/1.1\r\n\r\n", Err(HttpFault::Method)),
+    ("GET /x HTTP/1.1\r\n\r\n", Err(HttpFault::Method)),
+    (
+        "GET / HTTP/1.1\r\nContent-Length: x\r\n\r\n",
+        Err(HttpFault::BadHead),
+    ),
+    ("POST /x HTTP/1.1\r\n\r\n", Err(HttpFault::Target)),
+    ("POST * HTTP/1.1\r\n\r\n", Err(HttpFault::Target)),
+    (
+        "POST http://127.0.0.1/ HTTP/1.1\r\n\r\n",
+        Err(HttpFault::Target),
+    ),
+    // 3, 5.1 and 5.2: lines that are none of a head are refused as soon as they end.
+    ("POST /\r\n", Err(HttpFault::BadHead)),
+    ("POST / HTTP/2.0\r\n", Err(HttpFault::BadHead)),
+    ("POST  / HTTP/1.1\r\n", Err(HttpFault::BadHead)),
+    ("POST / HTTP/1.1\r\nHost : a\r\n", Err(HttpFault::BadHead)),
+    (
+        "POST / HTTP/1.1\r\nHost: a\r\n b\r\n",
+        Err(HttpFault::BadHead),
+    ),
+    ("POST / HTTP/1.1\r\nHost\r\n", Err(HttpFault::BadHead)),
+    ("{\"TableName\":\"Music\"}\n", Err(HttpFault::BadHead)),
+    // What may go on to a head, or ends inside a line.
+    ("", Ok(None)),
+    ("\r\n", Ok(None)),
+    ("POST / HTTP/1.1\r\nHost: a\r\n", Ok(None)),
+    ("POST / HTTP/2.0", Ok(None)),
+    ("POST / HTTP/1.1\r\nHost : a", Ok(None)),
+];
+
 #[test]
 fn heads_judged(rt: HostRuntime) -> Result<(), Fail> {
-    let table = [
-        ("POST / HTTP/1.1\r\nHost: a\r\n\r\n", Ok(Some((0, false)))),
-        // 2.2: empty lines before, and lines that end with LF alone.
-        (
-            "\r\n\nPOST / HTTP/1.1\nContent-Length: 5\n\n",
-            Ok(Some((5, false))),
-        ),
-        // 9.3 and 9.6: who closes the connection.
-        ("POST / HTTP/1.0\r\n\r\n", Ok(Some((0, true)))),
-        (
-            "POST / HTTP/1.1\r\nConnection: close\r\n\r\n",
-            Ok(Some((0, true))),
-        ),
-        (
-            "POST / HTTP/1.1\r\nConnection: keep-alive , \t CLOSE \r\n\r\n",
-            Ok(Some((0, true))),
-        ),
-        (
-            "POST / HTTP/1.1\r\nConnection: te\r\nCONNECTION:close\r\n\r\n",
-            Ok(Some((0, true))),
-        ),
-        (
-            "POST / HTTP/1.1\r\nConnection: closed, not-close,c lose\r\n\r\n",
-            Ok(Some((0, false))),
-        ),
-        // 6.2 and 6.3: the length of the body.
-        (
-            "POST / HTTP/1.1\r\ncontent-LENGTH:\t0000000007 \r\n\r\n",
-            Ok(Some((7, false))),
-        ),
-        (
-            "POST / HTTP/1.1\r\nContent-Length: 16777216\r\n\r\n",
-            Ok(Some((16_777_216, false))),
-        ),
-        (
-            "POST / HTTP/1.1\r\nContent-Length: 16777217\r\n\r\n",
-            Err(HttpFault::TooLarge),
-        ),
-        (
-            "POST / HTTP/1.1\r\nContent-Length: 9999999999\r\n\r\n",
-            Err(HttpFault::TooLarge),
-        ),
-        (
-            "POST / HTTP/1.1\r\nContent-Length: 00000000007\r\n\r\n",
-            Err(HttpFault::BadHead),
-        ),
-        (
-            "POST / HTTP/1.1\r\nContent-Length:\r\n\r\n",
-            Err(HttpFault::BadHead),
-        ),
-        (
-            "POST / HTTP/1.1\r\nContent-Length: +5\r\n\r\n",
-            Err(HttpFault::BadHead),
-        ),
-        (
-            "POST / HTTP/1.1\r\nContent-Length: 5, 5\r\n\r\n",
-            Err(HttpFault::BadHead),
-        ),
-        (
-            "POST / HTTP/1.1\r\nContent-Length: 0x5\r\n\r\n",
-            Err(HttpFault::BadHead),
-        ),
-        (
-            "POST / HTTP/1.1\r\nContent-Length: 5\r\nContent-Length: 5\r\n\r\n",
-            Err(HttpFault::BadHead),
-        ),
-        // 6.1: a transfer coding, whatever else is wrong.
-        (
-            "POST / HTTP/1.1\r\nTransfer-Encoding: chunked\r\n\r\n",
-            Err(HttpFault::Coding),
-        ),
-        (
-            "GET / HTTP/1.1\r\nContent-Length: x\r\ntransfer-encoding:\r\n\r\n",
-            Err(HttpFault::Coding),
-        ),
-        // 3.1 and 3.2: the method, and then the target.
-        ("GET / HTTP/1.1\r\n\r\n", Err(HttpFault::Method)),
-        ("post / HTTP/1.1\r\n\r\n", Err(HttpFault::Method)),
-        ("GET /x HTTP/1.1\r\n\r\n", Err(HttpFault::Method)),
-        (
-            "GET / HTTP/1.1\r\nContent-Length: x\r\n\r\n",
-            Err(HttpFault::BadHead),
-        ),
-        ("POST /x HTTP/1.1\r\n\r\n", Err(HttpFault::Target)),
-        ("POST * HTTP/1.1\r\n\r\n", Err(HttpFault::Target)),
-        (
-            "POST http://127.0.0.1/ HTTP/1.1\r\n\r\n",
-            Err(HttpFault::Target),
-        ),
-        // 3, 5.1 and 5.2: lines that are none of a head are refused as soon as they end.
-        ("POST /\r\n", Err(HttpFault::BadHead)),
-        ("POST / HTTP/2.0\r\n", Err(HttpFault::BadHead)),
-        ("POST  / HTTP/1.1\r\n", Err(HttpFault::BadHead)),
-        ("POST / HTTP/1.1\r\nHost : a\r\n", Err(HttpFault::BadHead)),
-        (
-            "POST / HTTP/1.1\r\nHost: a\r\n b\r\n",
-            Err(HttpFault::BadHead),
-        ),
-        ("POST / HTTP/1.1\r\nHost\r\n", Err(HttpFault::BadHead)),
-        ("{\"TableName\":\"Music\"}\n", Err(HttpFault::BadHead)),
-        // What may go on to a head, or ends inside a line.
-        ("", Ok(None)),
-        ("\r\n", Ok(None)),
-        ("POST / HTTP/1.1\r\nHost: a\r\n", Ok(None)),
-        ("POST / HTTP/2.0", Ok(None)),
-        ("POST / HTTP/1.1\r\nHost : a", Ok(None)),
-    ];
-    for (text, want) in table {
+    for (text, want) in HEADS {
         assert_eq!(rt; judged(rt.alloc(), text)?, want, "{text:?}");
     }
     Ok(())

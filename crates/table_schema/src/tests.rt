@@ -141,138 +141,144 @@ fn verdict(alloc: Global, schema: &Schema) -> Result<String, Fail> {
     })
 }
 
+/// Schemas with what `check_schema` says of them.
+static VERDICTS: [(&str, &str); 53] = [
+    ("define Artist", "valid"),
+    ("define Artist Song, key Artist Song", "valid"),
+    // Names of tables have 3 to 255 of the allowed bytes.
+    ("define Artist, table a*2", "BadName"),
+    ("define Artist, table a*3", "valid"),
+    ("define Artist, table a*255", "valid"),
+    ("define Artist, table a*256", "BadName"),
+    ("define Artist, table aZ09_.-", "valid"),
+    ("define Artist, table Music!", "BadName"),
+    ("define Artist, table Musée", "BadName"),
+    // One attribute is not both parts of a key.
+    ("define Artist, key Artist Artist", "BadKeySchema"),
+    // Names of attributes have 1 to 255 bytes, and each is defined once.
+    ("define a*0, key a*0", "BadDefinition"),
+    ("define a, key a", "valid"),
+    ("define a*255, key a*255", "valid"),
+    ("define a*256, key a*256", "BadDefinition"),
+    ("define Musée!, key Musée!", "valid"),
+    ("define Artist Artist", "BadDefinition"),
+    (
+        "define Artist Song Artist, key Artist Song",
+        "BadDefinition",
+    ),
+    // What is defined is what the keys name.
+    ("", "DefinitionMismatch"),
+    ("define artist", "DefinitionMismatch"),
+    ("define Artist, key Artist Song", "DefinitionMismatch"),
+    ("define Artist Song", "DefinitionMismatch"),
+    ("define Artist Year, global by_year Year", "valid"),
+    ("define Artist, global by_year Year", "DefinitionMismatch"),
+    (
+        "define Artist, global by_year Artist Year",
+        "DefinitionMismatch",
+    ),
+    (
+        "define Artist Song, key Artist Song, local by_year Artist Year",
+        "DefinitionMismatch",
+    ),
+    // Names of indexes are like those of tables, and no two are the same.
+    ("define Artist, global a*2 Artist", "BadIndexName"),
+    ("define Artist, global a*3 Artist", "valid"),
+    ("define Artist, global a*255 Artist", "valid"),
+    ("define Artist, global a*256 Artist", "BadIndexName"),
+    ("define Artist, global by/artist Artist", "BadIndexName"),
+    ("define Artist, global Music Artist", "valid"),
+    (
+        "define Artist, global one Artist, global one Artist",
+        "BadIndexName",
+    ),
+    (
+        "define Artist Song, key Artist Song, local one Artist Song, local two Artist Song, local one Artist Song",
+        "BadIndexName",
+    ),
+    (
+        "define Artist Song, key Artist Song, local one Artist Song, global one Artist",
+        "BadIndexName",
+    ),
+    // A local index has the table's HASH and a RANGE, on a table with a RANGE.
+    (
+        "define Artist Song Year, key Artist Song, local by_year Artist Year",
+        "valid",
+    ),
+    (
+        "define Artist Year, local by_year Artist Year",
+        "BadIndexKey",
+    ),
+    (
+        "define Artist Song, key Artist Song, local by_year Artist",
+        "BadIndexKey",
+    ),
+    (
+        "define Artist Song, key Artist Song, local by_song Song Artist",
+        "BadIndexKey",
+    ),
+    (
+        "define Artist Song, key Artist Song, local by_artist Artist Artist",
+        "BadIndexKey",
+    ),
+    (
+        "define Artist Song, key Artist Song, global by_song Song Artist",
+        "valid",
+    ),
+    (
+        "define Artist, global by_artist Artist Artist",
+        "BadIndexKey",
+    ),
+    // A projection names 1 to 20 attributes.
+    ("define Artist, global by_artist Artist - keys", "valid"),
+    (
+        "define Artist, global by_artist Artist - 0",
+        "BadProjection",
+    ),
+    ("define Artist, global by_artist Artist - 1", "valid"),
+    ("define Artist, global by_artist Artist - 20", "valid"),
+    (
+        "define Artist, global by_artist Artist - 21",
+        "BadProjection",
+    ),
+    (
+        "define Artist Song, key Artist Song, local by_song Artist Song 21",
+        "BadProjection",
+    ),
+    // Of two faults the one of the lesser number is told.
+    ("define Artist, table ab, key Artist Artist", "BadName"),
+    ("define Artist Artist, key Artist Artist", "BadKeySchema"),
+    ("define Artist Artist Song", "BadDefinition"),
+    ("define Artist Song, global ab Artist", "DefinitionMismatch"),
+    ("define Artist, global ab Artist Artist", "BadIndexName"),
+    (
+        "define Artist, global by_artist Artist Artist 0",
+        "BadIndexKey",
+    ),
+];
+
 #[test]
 fn verdicts(rt: HostRuntime) -> Result<(), Fail> {
     let alloc = rt.alloc();
-    for (text, expected) in [
-        ("define Artist", "valid"),
-        ("define Artist Song, key Artist Song", "valid"),
-        // Names of tables have 3 to 255 of the allowed bytes.
-        ("define Artist, table a*2", "BadName"),
-        ("define Artist, table a*3", "valid"),
-        ("define Artist, table a*255", "valid"),
-        ("define Artist, table a*256", "BadName"),
-        ("define Artist, table aZ09_.-", "valid"),
-        ("define Artist, table Music!", "BadName"),
-        ("define Artist, table Musée", "BadName"),
-        // One attribute is not both parts of a key.
-        ("define Artist, key Artist Artist", "BadKeySchema"),
-        // Names of attributes have 1 to 255 bytes, and each is defined once.
-        ("define a*0, key a*0", "BadDefinition"),
-        ("define a, key a", "valid"),
-        ("define a*255, key a*255", "valid"),
-        ("define a*256, key a*256", "BadDefinition"),
-        ("define Musée!, key Musée!", "valid"),
-        ("define Artist Artist", "BadDefinition"),
-        (
-            "define Artist Song Artist, key Artist Song",
-            "BadDefinition",
-        ),
-        // What is defined is what the keys name.
-        ("", "DefinitionMismatch"),
-        ("define artist", "DefinitionMismatch"),
-        ("define Artist, key Artist Song", "DefinitionMismatch"),
-        ("define Artist Song", "DefinitionMismatch"),
-        ("define Artist Year, global by_year Year", "valid"),
-        ("define Artist, global by_year Year", "DefinitionMismatch"),
-        (
-            "define Artist, global by_year Artist Year",
-            "DefinitionMismatch",
-        ),
-        (
-            "define Artist Song, key Artist Song, local by_year Artist Year",
-            "DefinitionMismatch",
-        ),
-        // Names of indexes are like those of tables, and no two are the same.
-        ("define Artist, global a*2 Artist", "BadIndexName"),
-        ("define Artist, global a*3 Artist", "valid"),
-        ("define Artist, global a*255 Artist", "valid"),
-        ("define Artist, global a*256 Artist", "BadIndexName"),
-        ("define Artist, global by/artist Artist", "BadIndexName"),
-        ("define Artist, global Music Artist", "valid"),
-        (
-            "define Artist, global one Artist, global one Artist",
-            "BadIndexName",
-        ),
-        (
-            "define Artist Song, key Artist Song, local one Artist Song, local two Artist Song, local one Artist Song",
-            "BadIndexName",
-        ),
-        (
-            "define Artist Song, key Artist Song, local one Artist Song, global one Artist",
-            "BadIndexName",
-        ),
-        // A local index has the table's HASH and a RANGE, on a table with a RANGE.
-        (
-            "define Artist Song Year, key Artist Song, local by_year Artist Year",
-            "valid",
-        ),
-        (
-            "define Artist Year, local by_year Artist Year",
-            "BadIndexKey",
-        ),
-        (
-            "define Artist Song, key Artist Song, local by_year Artist",
-            "BadIndexKey",
-        ),
-        (
-            "define Artist Song, key Artist Song, local by_song Song Artist",
-            "BadIndexKey",
-        ),
-        (
-            "define Artist Song, key Artist Song, local by_artist Artist Artist",
-            "BadIndexKey",
-        ),
-        (
-            "define Artist Song, key Artist Song, global by_song Song Artist",
-            "valid",
-        ),
-        (
-            "define Artist, global by_artist Artist Artist",
-            "BadIndexKey",
-        ),
-        // A projection names 1 to 20 attributes.
-        ("define Artist, global by_artist Artist - keys", "valid"),
-        (
-            "define Artist, global by_artist Artist - 0",
-            "BadProjection",
-        ),
-        ("define Artist, global by_artist Artist - 1", "valid"),
-        ("define Artist, global by_artist Artist - 20", "valid"),
-        (
-            "define Artist, global by_artist Artist - 21",
-            "BadProjection",
-        ),
-        (
-            "define Artist Song, key Artist Song, local by_song Artist Song 21",
-            "BadProjection",
-        ),
-        // Of two faults the one of the lesser number is told.
-        ("define Artist, table ab, key Artist Artist", "BadName"),
-        ("define Artist Artist, key Artist Artist", "BadKeySchema"),
-        ("define Artist Artist Song", "BadDefinition"),
-        ("define Artist Song, global ab Artist", "DefinitionMismatch"),
-        ("define Artist, global ab Artist Artist", "BadIndexName"),
-        (
-            "define Artist, global by_artist Artist Artist 0",
-            "BadIndexKey",
-        ),
-    ] {
+    for (text, expected) in VERDICTS {
         let schema = schema_of(alloc, text)?;
         assert_eq!(rt; verdict(alloc, &schema)?.as_str(), expected, "{text}");
     }
     Ok(())
 }
 
+/// Further parts of a schema, how many local and global indexes it has besides, and what `check_schema` says.
+static COUNTS: [(&str, u32, u32, &str); 4] = [
+    ("", 5, 20, "valid"),
+    ("", 6, 0, "TooManyIndexes"),
+    ("", 0, 21, "TooManyIndexes"),
+    (", global by_artist Artist - 21", 6, 0, "BadProjection"),
+];
+
 #[test]
 fn counts_of_indexes(rt: HostRuntime) -> Result<(), Fail> {
     let alloc = rt.alloc();
-    for (text, locals, globals, expected) in [
-        ("", 5, 20, "valid"),
-        ("", 6, 0, "TooManyIndexes"),
-        ("", 0, 21, "TooManyIndexes"),
-        (", global by_artist Artist - 21", 6, 0, "BadProjection"),
-    ] {
+    for (text, locals, globals, expected) in COUNTS {
         let mut schema = schema_of(alloc, "define Artist Song, key Artist Song")?;
         for part in text.split(',') {
             add_part(alloc, &mut schema, part)?;
