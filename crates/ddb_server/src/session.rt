@@ -36,9 +36,9 @@ pub enum SessionEnd {
     NoMemory,
 }
 
-/// Answers the messages of `source` in order, from the empty database on, each by its reply to `sink`, at the greatest moment that
-/// the clock has given, to which it looks once a message. For want of memory a message is answered with
-/// an InternalServerError, and is left out or applied whole.
+/// Answers the messages of `source` in order, from the empty database on, each by its reply to `sink`, at
+/// the greatest moment that the clock has given, to which it looks once a message. For want of memory a
+/// message is answered with an InternalServerError, and is left out or applied whole.
 pub fn serve_session<S: Source, K: Sink, C: Clock>(
     alloc: Global,
     source: &mut S,
