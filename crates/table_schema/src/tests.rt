@@ -267,7 +267,8 @@ fn verdicts(rt: HostRuntime) -> Result<(), Fail> {
     Ok(())
 }
 
-/// Further parts of a schema, how many local and global indexes it has besides, and what `check_schema` says.
+/// Further parts of a schema, how many local and global indexes it has besides, and what `check_schema`
+/// says.
 static COUNTS: [(&str, u32, u32, &str); 4] = [
     ("", 5, 20, "valid"),
     ("", 6, 0, "TooManyIndexes"),
