@@ -40,7 +40,7 @@ where_true b e h = ap (λ x. where_so x e) h
 
 module _ {K V A F C D Q B : Type 0} (S : Service K V A F C D Q B) (law : IsServiceLawful S) where
   module _ (w : World K V A C) where
-    pub may_write : (a : A) (moment : ℕ) (b : Bool) (h : Option ℕ) (o : Outcome V F) → S.core.there w.catalog (S.core.key_of a) ≡ b → holder (w.spot (S.core.key_of a)).pend ≡ h → S.core.act w.catalog a (w.spot (S.core.key_of a)).row ≡ o → May S.core w (where_so (is_written {V = V} {A = A} {F = F} {B = B} (write_answer b h (w.spot (S.core.key_of a)).row o)) (Wrote a moment))
+    pub may_write : (a : A) (moment : ℕ) (b : Bool) (h : Option ℕ) (o : Outcome V F) → S.core.there w.catalog (S.core.key_of a) ≡ b → holder (w.spot (S.core.key_of a)).pend ≡ h → S.core.act w.catalog a (w.spot (S.core.key_of a)).row ≡ o → May S.core w (where_so (is_written {K = K} {V = V} {A = A} {F = F} {B = B} (write_answer b h (w.spot (S.core.key_of a)).row o)) (Wrote a moment))
     may_write a moment false h o is_there is_held is_out = tt
     may_write a moment true (Some n) o is_there is_held is_out = tt
     may_write a moment true None (New v) is_there is_held is_out =
@@ -48,10 +48,10 @@ module _ {K V A F C D Q B : Type 0} (S : Service K V A F C D Q B) (law : IsServi
     may_write a moment true None Unmet is_there is_held is_out = tt
     may_write a moment true None (Fails fault) is_there is_held is_out = tt
 
-    pub may_prepare : (n : ℕ) (stamp : Stamp) (a : A) → n < w.ledger.next → stamp ≡ w.ledger.stamp n → action_on S.core w.ledger n (S.core.key_of a) ≡ Some a → (b : Bool) (h : Option ℕ) (o : Outcome V F) → S.core.there w.catalog (S.core.key_of a) ≡ b → holder (w.spot (S.core.key_of a)).pend ≡ h → S.core.act w.catalog a (w.spot (S.core.key_of a)).row ≡ o → May S.core w (where_so (is_accepted {V = V} {A = A} {F = F} {B = B} (prepare_answer b h n (last (here S.core w (S.core.key_of a)) (w.spot (S.core.key_of a))) stamp (w.spot (S.core.key_of a)).row o)) (Prepared n stamp a))
+    pub may_prepare : (n : ℕ) (stamp : Stamp) (a : A) → n < w.ledger.next → stamp ≡ w.ledger.stamp n → action_on S.core w.ledger n (S.core.key_of a) ≡ Some a → (b : Bool) (h : Option ℕ) (o : Outcome V F) → S.core.there w.catalog (S.core.key_of a) ≡ b → holder (w.spot (S.core.key_of a)).pend ≡ h → S.core.act w.catalog a (w.spot (S.core.key_of a)).row ≡ o → May S.core w (where_so (is_accepted {K = K} {V = V} {A = A} {F = F} {B = B} (prepare_answer b h n (last (here S.core w (S.core.key_of a)) (w.spot (S.core.key_of a))) stamp (w.spot (S.core.key_of a)).row o)) (Prepared n stamp a))
     may_prepare n stamp a begun its_stamp its_action false h o is_there is_held is_out = tt
     may_prepare n stamp a begun its_stamp its_action true (Some m) o is_there is_held is_out =
-        cond_both (nat_eq m n) Answer.Accepted (Answer.Held m) (λ x. May S.core w (where_so (is_accepted {V = V} {A = A} {F = F} {B = B} x) (Prepared n stamp a)))
+        cond_both (nat_eq m n) Answer.Accepted (Answer.Held m) (λ x. May S.core w (where_so (is_accepted {K = K} {V = V} {A = A} {F = F} {B = B} x) (Prepared n stamp a)))
         (λ e.
         let p = held (w.spot (S.core.key_of a)).pend m is_held in
         record { there = is_there; begun = begun; its_stamp = its_stamp; its_action = its_action; ready = subst (λ x. IsReady S.core w n stamp a x) (sym p.1) (p.2 ∙ eqb-true m n e) })
@@ -59,11 +59,11 @@ module _ {K V A F C D Q B : Type 0} (S : Service K V A F C D Q B) (law : IsServi
     may_prepare n stamp a begun its_stamp its_action true None o is_there is_held is_out =
         cond_both (earlier (last (here S.core w (S.core.key_of a)) (w.spot (S.core.key_of a))) stamp)
         (outcome_answer (w.spot (S.core.key_of a)).row o) (Answer.Late (last (here S.core w (S.core.key_of a)) (w.spot (S.core.key_of a))))
-        (λ x. May S.core w (where_so (is_accepted {V = V} {A = A} {F = F} {B = B} x) (Prepared n stamp a)))
+        (λ x. May S.core w (where_so (is_accepted {K = K} {V = V} {A = A} {F = F} {B = B} x) (Prepared n stamp a)))
         (λ e. by_outcome e o is_out)
         (λ e. tt)
       where
-        by_outcome : earlier (last (here S.core w (S.core.key_of a)) (w.spot (S.core.key_of a))) stamp ≡ true → (x : Outcome V F) → S.core.act w.catalog a (w.spot (S.core.key_of a)).row ≡ x → May S.core w (where_so (is_accepted {V = V} {A = A} {F = F} {B = B} (outcome_answer (w.spot (S.core.key_of a)).row x)) (Prepared n stamp a))
+        by_outcome : earlier (last (here S.core w (S.core.key_of a)) (w.spot (S.core.key_of a))) stamp ≡ true → (x : Outcome V F) → S.core.act w.catalog a (w.spot (S.core.key_of a)).row ≡ x → May S.core w (where_so (is_accepted {K = K} {V = V} {A = A} {F = F} {B = B} (outcome_answer (w.spot (S.core.key_of a)).row x)) (Prepared n stamp a))
         by_outcome e (New v) out =
             record {
               there = is_there;
@@ -75,26 +75,26 @@ module _ {K V A F C D Q B : Type 0} (S : Service K V A F C D Q B) (law : IsServi
         by_outcome e Unmet out = tt
         by_outcome e (Fails fault) out = tt
 
-    pub may_apply : (n : ℕ) (k : K) → w.ledger.fate n ≡ Committed → May S.core w (where_so (is_applied {V = V} {A = A} {F = F} {B = B} (apply_answer (holder (w.spot k).pend) n)) (Applied n k))
+    pub may_apply : (n : ℕ) (k : K) → w.ledger.fate n ≡ Committed → May S.core w (where_so (is_applied {K = K} {V = V} {A = A} {F = F} {B = B} (apply_answer (holder (w.spot k).pend) n)) (Applied n k))
     may_apply n k committed =
-        cond_both (is_holder (holder (w.spot k).pend) n) Answer.Applied Answer.Nothing (λ x. May S.core w (where_so (is_applied {V = V} {A = A} {F = F} {B = B} x) (Applied n k)))
+        cond_both (is_holder (holder (w.spot k).pend) n) Answer.Applied Answer.Nothing (λ x. May S.core w (where_so (is_applied {K = K} {V = V} {A = A} {F = F} {B = B} x) (Applied n k)))
         (λ e. (is_holder-true (holder (w.spot k).pend) n e, committed)) (λ e. tt)
 
-    pub may_release : (n : ℕ) (k : K) → (w.ledger.fate n ≡ Cancelled) ⊎ (w.ledger.gone n ≡ true) → May S.core w (where_so (is_released {V = V} {A = A} {F = F} {B = B} (release_answer (holder (w.spot k).pend) n)) (Released n k))
+    pub may_release : (n : ℕ) (k : K) → (w.ledger.fate n ≡ Cancelled) ⊎ (w.ledger.gone n ≡ true) → May S.core w (where_so (is_released {K = K} {V = V} {A = A} {F = F} {B = B} (release_answer (holder (w.spot k).pend) n)) (Released n k))
     may_release n k why =
-        cond_both (is_holder (holder (w.spot k).pend) n) Answer.Released Answer.Nothing (λ x. May S.core w (where_so (is_released {V = V} {A = A} {F = F} {B = B} x) (Released n k)))
+        cond_both (is_holder (holder (w.spot k).pend) n) Answer.Released Answer.Nothing (λ x. May S.core w (where_so (is_released {K = K} {V = V} {A = A} {F = F} {B = B} x) (Released n k)))
         (λ e. (is_holder-true (holder (w.spot k).pend) n e, why)) (λ e. tt)
 
-    pub may_begin : (actions : List A) (moment : ℕ) (b : Bool) (o : Option (KeptToken A)) → May S.core w (begin_effect {D = D} actions (begin_answer {V = V} {F = F} {B = B} S.same_actions b o actions (record { moment = moment; number = w.ledger.next })))
+    pub may_begin : (actions : List A) (moment : ℕ) (b : Bool) (o : Option (KeptToken A)) → May S.core w (begin_effect {D = D} actions (begin_answer {K = K} {V = V} {F = F} {B = B} S.same_actions b o actions (record { moment = moment; number = w.ledger.next })))
     may_begin actions moment false o = tt
     may_begin actions moment true None = refl
     may_begin actions moment true (Some kept) =
         cond_both (S.same_actions kept.actions actions) (if is_some kept.completed then Answer.Repeat kept.number else Answer.Running kept.number) (Answer.Mismatch kept.number)
-        (λ x. May S.core w (begin_effect {V = V} {F = F} {D = D} {B = B} actions x))
-        (λ e. cond_both (is_some kept.completed) (Answer.Repeat kept.number) (Answer.Running kept.number) (λ x. May S.core w (begin_effect {V = V} {F = F} {D = D} {B = B} actions x)) (λ _. tt) (λ _. tt))
+        (λ x. May S.core w (begin_effect {K = K} {V = V} {F = F} {D = D} {B = B} actions x))
+        (λ e. cond_both (is_some kept.completed) (Answer.Repeat kept.number) (Answer.Running kept.number) (λ x. May S.core w (begin_effect {K = K} {V = V} {F = F} {D = D} {B = B} actions x)) (λ _. tt) (λ _. tt))
         (λ e. tt)
 
-    pub may_decide : (n : ℕ) → n < w.ledger.next → (recorded : Bool) (fate : Fate) (commit : Bool) → w.ledger.fate n ≡ fate → (commit ≡ true → (q : K) → touches S.core w.ledger n q ≡ true → (w.spot q).accepted n ≡ true) → May S.core w (decide_effect {K = K} {D = D} n (decide_answer {V = V} {A = A} {F = F} {B = B} recorded fate commit))
+    pub may_decide : (n : ℕ) → n < w.ledger.next → (recorded : Bool) (fate : Fate) (commit : Bool) → w.ledger.fate n ≡ fate → (commit ≡ true → (q : K) → touches S.core w.ledger n q ≡ true → (w.spot q).accepted n ≡ true) → May S.core w (decide_effect {K = K} {D = D} n (decide_answer {K = K} {V = V} {A = A} {F = F} {B = B} recorded fate commit))
     may_decide n begun false fate commit is all_accepted = tt
     may_decide n begun true Undecided true is all_accepted = record { begun = begun; first = is; all_accepted = all_accepted refl }
     may_decide n begun true Undecided false is all_accepted = (begun, is)
@@ -102,11 +102,11 @@ module _ {K V A F C D Q B : Type 0} (S : Service K V A F C D Q B) (law : IsServi
     may_decide n begun true Cancelled commit is all_accepted = tt
     may_decide n begun true Gone commit is all_accepted = tt
 
-    pub may_done : (n : ℕ) (b : Bool) → MayFinish S.core w n → May S.core w (where_so (is_finished {V = V} {A = A} {F = F} {B = B} (done_answer b)) (Finished n))
+    pub may_done : (n : ℕ) (b : Bool) → MayFinish S.core w n → May S.core w (where_so (is_finished {K = K} {V = V} {A = A} {F = F} {B = B} (done_answer b)) (Finished n))
     may_done n true may = may
     may_done n false may = tt
 
-    pub may_forget : (n : ℕ) (b : Bool) → w.ledger.done n ≡ true → May S.core w (where_so (is_forgotten {V = V} {A = A} {F = F} {B = B} (forget_answer b)) (Forgot n))
+    pub may_forget : (n : ℕ) (b : Bool) → w.ledger.done n ≡ true → May S.core w (where_so (is_forgotten {K = K} {V = V} {A = A} {F = F} {B = B} (forget_answer b)) (Forgot n))
     may_forget n true done = done
     may_forget n false done = tt
 
@@ -121,7 +121,7 @@ module _ {K V A F C D Q B : Type 0} (S : Service K V A F C D Q B) (law : IsServi
         unconcerned q p e true h = none_some (w.spot q).pend p (clear q h) e
         unconcerned q p e false h = h
 
-    pub may_command : Good S.core w → (d : D) (moment : ℕ) (a : Answer V A F B) (o : Option B) → S.refuses d w.catalog ≡ o → IsRuled S w d moment o a → May S.core w (where_so (is_changed a) (Changed d moment))
+    pub may_command : Good S.core w → (d : D) (moment : ℕ) (a : Answer K V A F B) (o : Option B) → S.refuses d w.catalog ≡ o → IsRuled S w d moment o a → May S.core w (where_so (is_changed a) (Changed d moment))
     may_command g d moment a (Some told) named is = subst (λ x. May S.core w (where_so (is_changed x) (Changed d moment))) (sym is) tt
     may_command g d moment a None named (inl (n, is, way)) = subst (λ x. May S.core w (where_so (is_changed x) (Changed d moment))) (sym is) tt
     may_command g d moment a None named (inr (is, clear)) = subst (λ x. May S.core w (where_so (is_changed x) (Changed d moment))) (sym is) (by_ruling (S.rules d moment w.catalog))

@@ -17,14 +17,14 @@ use Rattle.txn_core.specs.Answers.{KeptToken, get_answer, write_answer, outcome_
 use Rattle.txn_core.specs.Effects.{Effect}
 use Rattle.txn_core.specs.Runs.{IsRun}
 use Rattle.txn_core.specs.History.{effect, effects, found_kept, reasons_of}
-use Rattle.txn_core.specs.Legal.{ruling_answer, IsRuled, IsInTheWay, IsAnswer, IsLegal}
+use Rattle.txn_core.specs.Legal.{ruling_answer, IsRuled, IsInTheWay, IsPage, IsAnswer, IsLegal}
 use Rattle.txn_core.specs.Laws.{version_of, IsRealHolder, IsRealStamp}
 use Rattle.txn_core.proofs.LegalRuns.{legal_run}
 use Rattle.txn_core.proofs.SerialLaws.{rows_are_shown}
 use Rattle.txn_core.proofs.Versions.{one_point}
 
-module _ {V A F B : Type 0} where
-  abbrev HeldIn : Answer V A F B → ℕ → Type 0
+module _ {K V A F B : Type 0} where
+  abbrev HeldIn : Answer K V A F B → ℕ → Type 0
   HeldIn a n = a ≡ Answer.Held n
 
   write_held : (b : Bool) (h : Option ℕ) (row : Option V) (o : Outcome V F) (n : ℕ) → HeldIn (write_answer b h row o) n → h ≡ Some n
@@ -50,7 +50,7 @@ module _ {V A F B : Type 0} where
       (λ t h. absurd (outcome_held row o n h))
       (λ t h. absurd (cc)) e
 
-  abbrev LateIn : Answer V A F B → Stamp → Type 0
+  abbrev LateIn : Answer K V A F B → Stamp → Type 0
   LateIn a t = a ≡ Answer.Late t
 
   outcome_late : (row : Option V) (o : Outcome V F) (t : Stamp) → LateIn (outcome_answer row o) t → ⊥
@@ -67,12 +67,12 @@ module _ {V A F B : Type 0} where
       (λ is h. absurd (outcome_late row o t h))
       (λ is h. (cc, is)) e
 
-  get_row : (b : Bool) (row v : Option V) → get_answer {V = V} {A = A} {F = F} {B = B} b row ≡ Answer.Row v → v ≡ row
+  get_row : (b : Bool) (row v : Option V) → get_answer {K = K} {V = V} {A = A} {F = F} {B = B} b row ≡ Answer.Row v → v ≡ row
   get_row false row v e = absurd (cc)
   get_row true row v e = cc
 
 -- answers of the other messages, which are neither Held nor Late
-module _ {V A F B : Type 0} (P : Answer V A F B → Type 0) where
+module _ {K V A F B : Type 0} (P : Answer K V A F B → Type 0) where
   begin_other : (same : List A → List A → Bool) (b : Bool) (o : Option (KeptToken A)) (actions : List A) (stamp : Stamp) → P Answer.Stale → ((n : ℕ) (s : Stamp) → P (Answer.Begun n s)) → ((n : ℕ) → P (Answer.Repeat n)) → ((n : ℕ) → P (Answer.Running n)) → ((n : ℕ) → P (Answer.Mismatch n)) → P (begin_answer same b o actions stamp)
   begin_other same false o actions stamp stale begun again running mismatch = stale
   begin_other same true None actions stamp stale begun again running mismatch = begun stamp.number stamp
@@ -90,6 +90,10 @@ module _ {V A F B : Type 0} (P : Answer V A F B → Type 0) where
   decide_other true Gone commit d = d Gone false
 
 module _ {K V A F C D Q B : Type 0} (S : Service K V A F C D Q B) (law : IsServiceLawful S) where
+  page_other : (b : Bool) (n : ℕ) → IsPage S b (Answer.Held n) → ⊥
+  page_other true n is = is
+  page_other false n is = cc
+
   pub real_holder : (es : List (Entry K V A F D Q B)) (moment : ℕ) (m : Message K V A F D Q) (n : ℕ) → IsAnswer S es moment m (Answer.Held n) → IsRealHolder S es m n
   real_holder es moment (Message.Write action) n is =
       let w = world S.core (effects es) in
@@ -109,12 +113,12 @@ module _ {K V A F C D Q B : Type 0} (S : Service K V A F C D Q B) (law : IsServi
           by_ruling (Refuses told) e = absurd (cc)
   real_holder es moment (Message.Get key) n is = get_other (S.core.there (world S.core (effects es)).catalog key) (sym is)
     where
-      get_other : (b : Bool) → HeldIn {V = V} {A = A} {F = F} {B = B} (get_answer b ((world S.core (effects es)).spot key).row) n → ⊥
+      get_other : (b : Bool) → HeldIn {K = K} {V = V} {A = A} {F = F} {B = B} (get_answer b ((world S.core (effects es)).spot key).row) n → ⊥
       get_other true e = cc
       get_other false e = cc
   real_holder es moment (Message.ReadVersion key) n is = version_other (S.core.there (world S.core (effects es)).catalog key) (sym is)
     where
-      version_other : (b : Bool) → HeldIn {V = V} {A = A} {F = F} {B = B} (version_answer b ((world S.core (effects es)).spot key).row ((world S.core (effects es)).spot key).version (here S.core (world S.core (effects es)) key).gone (holder ((world S.core (effects es)).spot key).pend)) n → ⊥
+      version_other : (b : Bool) → HeldIn {K = K} {V = V} {A = A} {F = F} {B = B} (version_answer b ((world S.core (effects es)).spot key).row ((world S.core (effects es)).spot key).version (here S.core (world S.core (effects es)) key).gone (holder ((world S.core (effects es)).spot key).pend)) n → ⊥
       version_other true e = cc
       version_other false e = cc
   real_holder es moment (Message.Apply m key) n is =
@@ -133,11 +137,19 @@ module _ {K V A F C D Q B : Type 0} (S : Service K V A F C D Q B) (law : IsServi
   real_holder es moment (Message.FateOf m) n is = cc
   real_holder es moment (Message.Recall m) n is = recall_other (has_record (world S.core (effects es)).ledger m) (sym is)
     where
-      recall_other : (b : Bool) → HeldIn {V = V} {A = A} {F = F} {B = B} (recall_answer b ((world S.core (effects es)).ledger.fate m) ((world S.core (effects es)).ledger.stamp m) ((world S.core (effects es)).ledger.actions m) (reasons_of es m)) n → ⊥
+      recall_other : (b : Bool) → HeldIn {K = K} {V = V} {A = A} {F = F} {B = B} (recall_answer b ((world S.core (effects es)).ledger.fate m) ((world S.core (effects es)).ledger.stamp m) ((world S.core (effects es)).ledger.actions m) (reasons_of es m)) n → ⊥
       recall_other true e = cc
       recall_other false e = cc
   real_holder es moment Message.Unfinished n is = cc
   real_holder es moment (Message.Ask question) n is = cc
+  real_holder es moment (Message.QueryPage page) n is = page_other (S.serves (world S.core (effects es)).catalog page) n is
+  real_holder es moment (Message.ScanPage page) n is = page_other (S.serves (world S.core (effects es)).catalog page) n is
+  real_holder es moment (Message.Pendings cell) n is = is.1
+  real_holder es moment (Message.PeekOut source) n is = is.1
+  real_holder es moment (Message.ApplyIndex source sequence index row_key after) n (inl is) = cc
+  real_holder es moment (Message.ApplyIndex source sequence index row_key after) n (inr is) = cc
+  real_holder es moment (Message.Ack source sequence) n (far, inl is) = cc
+  real_holder es moment (Message.Ack source sequence) n (far, inr is) = cc
 
   -- a Late, of a Prepare
   pub late_stamp : (es : List (Entry K V A F D Q B)) (moment : ℕ) (n : ℕ) (stamp : Stamp) (action : A) (t : Stamp) → IsAnswer S es moment (Message.Prepare n stamp action) (Answer.Late t) → IsRealStamp S es (Message.Prepare n stamp action) t
@@ -152,7 +164,7 @@ module _ {K V A F C D Q B : Type 0} (S : Service K V A F C D Q B) (law : IsServi
       get_row (S.core.there w.catalog key) (w.spot key).row v (sym is) ∙ rows_are_shown S.core law.core (effects es) (legal_run S law es legal) key
 
 -- a ReadVersion of an item whose table is there
-pub version_is : {V A F B : Type 0} (b : Bool) (row : Option V) (version gone : ℕ) (h : Option ℕ) (item : Option V) (v : ℕ) (k : Option ℕ) → version_answer {V = V} {A = A} {F = F} {B = B} b row version gone h ≡ Answer.Version item v k → (b ≡ true) × (item ≡ row) × ((if is_some row then version else gone) ≡ v) × (h ≡ k)
+pub version_is : {K V A F B : Type 0} (b : Bool) (row : Option V) (version gone : ℕ) (h : Option ℕ) (item : Option V) (v : ℕ) (k : Option ℕ) → version_answer {K = K} {V = V} {A = A} {F = F} {B = B} b row version gone h ≡ Answer.Version item v k → (b ≡ true) × (item ≡ row) × ((if is_some row then version else gone) ≡ v) × (h ≡ k)
 version_is false row version gone h item v k e = absurd (cc)
 version_is true row version gone h item v k e = (refl, cc, cc, cc)
 

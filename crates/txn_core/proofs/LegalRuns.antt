@@ -40,16 +40,16 @@ module _ {K V A F C D Q B : Type 0} (S : Service K V A F C D Q B) (law : IsServi
   -- one step: what the newest entry says of the state after it
   module _ (w : World K V A C) where
     -- a Begin that draws a number draws the next one
-    begin_draws : (actions : List A) (moment : ℕ) (b : Bool) (o : Option (KeptToken A)) (n : ℕ) → is_begun n (begin_answer {V = V} {F = F} {B = B} S.same_actions b o actions (record { moment = moment; number = w.ledger.next })) ≡ true → n < (step S.core w (begin_effect {D = D} actions (begin_answer {V = V} {F = F} {B = B} S.same_actions b o actions (record { moment = moment; number = w.ledger.next })))).ledger.next
+    begin_draws : (actions : List A) (moment : ℕ) (b : Bool) (o : Option (KeptToken A)) (n : ℕ) → is_begun n (begin_answer {K = K} {V = V} {F = F} {B = B} S.same_actions b o actions (record { moment = moment; number = w.ledger.next })) ≡ true → n < (step S.core w (begin_effect {D = D} actions (begin_answer {K = K} {V = V} {F = F} {B = B} S.same_actions b o actions (record { moment = moment; number = w.ledger.next })))).ledger.next
     begin_draws actions moment false o n h = absurd (cc)
     begin_draws actions moment true None n h = let e = eqb-true w.ledger.next n h in omega arith
     begin_draws actions moment true (Some kept) n h =
         cond_both (S.same_actions kept.actions actions) (if is_some kept.completed then Answer.Repeat kept.number else Answer.Running kept.number) (Answer.Mismatch kept.number)
-        (λ x. is_begun n x ≡ true → n < (step S.core w (begin_effect {V = V} {F = F} {D = D} {B = B} actions x)).ledger.next)
-        (λ e. cond_both (is_some kept.completed) (Answer.Repeat kept.number) (Answer.Running kept.number) (λ x. is_begun n x ≡ true → n < (step S.core w (begin_effect {V = V} {F = F} {D = D} {B = B} actions x)).ledger.next) (λ _ k. absurd (cc)) (λ _ k. absurd (cc)))
+        (λ x. is_begun n x ≡ true → n < (step S.core w (begin_effect {K = K} {V = V} {F = F} {D = D} {B = B} actions x)).ledger.next)
+        (λ e. cond_both (is_some kept.completed) (Answer.Repeat kept.number) (Answer.Running kept.number) (λ x. is_begun n x ≡ true → n < (step S.core w (begin_effect {K = K} {V = V} {F = F} {D = D} {B = B} actions x)).ledger.next) (λ _ k. absurd (cc)) (λ _ k. absurd (cc)))
         (λ e k. absurd (cc)) h
 
-    decide_commits : (n m : ℕ) → m ≡ n → (recorded : Bool) (fate : Fate) (commit : Bool) → w.ledger.fate m ≡ fate → tells_commit {V = V} {A = A} {F = F} {B = B} (decide_answer recorded fate commit) ≡ true → (step S.core w (decide_effect {V = V} {A = A} {F = F} {B = B} m (decide_answer recorded fate commit))).ledger.fate n ≡ Committed
+    decide_commits : (n m : ℕ) → m ≡ n → (recorded : Bool) (fate : Fate) (commit : Bool) → w.ledger.fate m ≡ fate → tells_commit {K = K} {V = V} {A = A} {F = F} {B = B} (decide_answer recorded fate commit) ≡ true → (step S.core w (decide_effect {K = K} {V = V} {A = A} {F = F} {B = B} m (decide_answer recorded fate commit))).ledger.fate n ≡ Committed
     decide_commits n m e false fate commit is h = absurd (cc)
     decide_commits n m e true Undecided true is h = at_split w.ledger.fate m Committed n (λ x. x ≡ Committed) (λ _. refl) (λ k. absurd (k e))
     decide_commits n m e true Undecided false is h = absurd (cc)
@@ -57,7 +57,7 @@ module _ {K V A F C D Q B : Type 0} (S : Service K V A F C D Q B) (law : IsServi
     decide_commits n m e true Cancelled commit is h = absurd (cc)
     decide_commits n m e true Gone commit is h = absurd (cc)
 
-    decide_cancels : (n m : ℕ) → m ≡ n → (recorded : Bool) (fate : Fate) (commit : Bool) → w.ledger.fate m ≡ fate → tells_cancel {V = V} {A = A} {F = F} {B = B} (decide_answer recorded fate commit) ≡ true → (step S.core w (decide_effect {V = V} {A = A} {F = F} {B = B} m (decide_answer recorded fate commit))).ledger.fate n ≡ Cancelled
+    decide_cancels : (n m : ℕ) → m ≡ n → (recorded : Bool) (fate : Fate) (commit : Bool) → w.ledger.fate m ≡ fate → tells_cancel {K = K} {V = V} {A = A} {F = F} {B = B} (decide_answer recorded fate commit) ≡ true → (step S.core w (decide_effect {K = K} {V = V} {A = A} {F = F} {B = B} m (decide_answer recorded fate commit))).ledger.fate n ≡ Cancelled
     decide_cancels n m e false fate commit is h = absurd (cc)
     decide_cancels n m e true Undecided true is h = absurd (cc)
     decide_cancels n m e true Undecided false is h = at_split w.ledger.fate m Cancelled n (λ x. x ≡ Cancelled) (λ _. refl) (λ k. absurd (k e))
@@ -72,7 +72,7 @@ module _ {K V A F C D Q B : Type 0} (S : Service K V A F C D Q B) (law : IsServi
         (λ e. true_false (S.core.same (S.core.key_of a) k) same e)
 
     -- an Apply after the commit leaves the transaction applied on the item
-    apply_applies : Good S.core w → (n : ℕ) (key k : K) → w.ledger.fate n ≡ Committed → S.core.same key k ≡ true → touches S.core w.ledger n k ≡ true → (b : Bool) → is_holder (holder (w.spot key).pend) n ≡ b → ((step S.core w (where_so (is_applied {V = V} {A = A} {F = F} {B = B} (if b then Answer.Applied else Answer.Nothing)) (Applied n key))).spot k).applied n ≡ true
+    apply_applies : Good S.core w → (n : ℕ) (key k : K) → w.ledger.fate n ≡ Committed → S.core.same key k ≡ true → touches S.core w.ledger n k ≡ true → (b : Bool) → is_holder (holder (w.spot key).pend) n ≡ b → ((step S.core w (where_so (is_applied {K = K} {V = V} {A = A} {F = F} {B = B} (if b then Answer.Applied else Answer.Nothing)) (Applied n key))).spot k).applied n ≡ true
     apply_applies g n key k committed same touched true is =
         cond_both (S.core.same key k) (spot_applied (here S.core w key) n (w.spot k)) (w.spot k) (λ s. s.applied n ≡ true)
         (λ e. at_split (w.spot k).applied n true n (λ b. b ≡ true) (λ _. refl) (λ ne. absurd (ne refl)))
@@ -124,7 +124,7 @@ module _ {K V A F C D Q B : Type 0} (S : Service K V A F C D Q B) (law : IsServi
     release_cause n (inr h) = inr (facts.gone n h)
 
     -- what the next entry changes may happen
-    may_follow : (pass moment : ℕ) (m : Message K V A F D Q) (a : Answer V A F B) → IsAnswer S es moment m a → Allowed S es pass m → May S.core (world S.core (effects es)) (effect_of moment m a)
+    may_follow : (pass moment : ℕ) (m : Message K V A F D Q) (a : Answer K V A F B) → IsAnswer S es moment m a → Allowed S es pass m → May S.core (world S.core (effects es)) (effect_of moment m a)
     may_follow pass moment (Message.Write action) a is allowed =
         let w = world S.core (effects es) in
         subst (λ x. May S.core w (effect_of {Q = Q} moment (Message.Write action) x)) (sym is)
@@ -164,16 +164,22 @@ module _ {K V A F C D Q B : Type 0} (S : Service K V A F C D Q B) (law : IsServi
     may_follow pass moment (Message.Recall n) a is allowed = tt
     may_follow pass moment Message.Unfinished a is allowed = tt
     may_follow pass moment (Message.Ask question) a is allowed = tt
+    may_follow pass moment (Message.QueryPage page) a is allowed = tt
+    may_follow pass moment (Message.ScanPage page) a is allowed = tt
+    may_follow pass moment (Message.Pendings cell) a is allowed = tt
+    may_follow pass moment (Message.PeekOut source) a is allowed = tt
+    may_follow pass moment (Message.ApplyIndex source sequence index row_key after) a is allowed = tt
+    may_follow pass moment (Message.Ack source sequence) a is allowed = tt
 
     -- what the next entry says of the state after it
-    tells_begun : (moment : ℕ) (m : Message K V A F D Q) (a : Answer V A F B) → IsAnswer S es moment m a → (n : ℕ) → begins n m a ≡ true → n < (step S.core (world S.core (effects es)) (effect_of moment m a)).ledger.next
+    tells_begun : (moment : ℕ) (m : Message K V A F D Q) (a : Answer K V A F B) → IsAnswer S es moment m a → (n : ℕ) → begins n m a ≡ true → n < (step S.core (world S.core (effects es)) (effect_of moment m a)).ledger.next
     tells_begun moment (Message.Begin token actions) a is n h =
         let w = world S.core (effects es) in
         subst (λ x. is_begun n x ≡ true → n < (step S.core w (begin_effect {D = D} actions x)).ledger.next) (sym is)
         (begin_draws w actions moment (list_all (λ x. S.core.there w.catalog (S.core.key_of x)) actions) (found_kept es moment token) n) h
     tells_begun moment _ a is n h = absurd (cc)
 
-    tells_accepted : (moment : ℕ) (m : Message K V A F D Q) (a : Answer V A F B) (n : ℕ) (k : K) → accepts S n k m a ≡ true → ((step S.core (world S.core (effects es)) (effect_of moment m a)).spot k).accepted n ≡ true
+    tells_accepted : (moment : ℕ) (m : Message K V A F D Q) (a : Answer K V A F B) (n : ℕ) (k : K) → accepts S n k m a ≡ true → ((step S.core (world S.core (effects es)) (effect_of moment m a)).spot k).accepted n ≡ true
     tells_accepted moment (Message.Prepare i stamp action) a n k h =
         let w = world S.core (effects es) in
         let p = and_parts (nat_eq i n && S.core.same (S.core.key_of action) k) (is_accepted a) h in
@@ -182,7 +188,7 @@ module _ {K V A F C D Q B : Type 0} (S : Service K V A F C D Q B) (law : IsServi
         (subst (λ j. ((step S.core w (Prepared i stamp action)).spot k).accepted j ≡ true) (eqb-true i n r.0) (prepare_accepts w i stamp action k r.1))
     tells_accepted moment _ a n k h = absurd (cc)
 
-    tells_committed : (moment : ℕ) (m : Message K V A F D Q) (a : Answer V A F B) → IsAnswer S es moment m a → (n : ℕ) → commits n m a ≡ true → (step S.core (world S.core (effects es)) (effect_of moment m a)).ledger.fate n ≡ Committed
+    tells_committed : (moment : ℕ) (m : Message K V A F D Q) (a : Answer K V A F B) → IsAnswer S es moment m a → (n : ℕ) → commits n m a ≡ true → (step S.core (world S.core (effects es)) (effect_of moment m a)).ledger.fate n ≡ Committed
     tells_committed moment (Message.Decide i commit reasons) a is n h =
         let w = world S.core (effects es) in
         let p = and_parts (nat_eq i n) (tells_commit a) h in
@@ -190,7 +196,7 @@ module _ {K V A F C D Q B : Type 0} (S : Service K V A F C D Q B) (law : IsServi
         (decide_commits w n i (eqb-true i n p.0) (has_record w.ledger i) (w.ledger.fate i) commit refl) p.1
     tells_committed moment _ a is n h = absurd (cc)
 
-    tells_cancelled : (moment : ℕ) (m : Message K V A F D Q) (a : Answer V A F B) → IsAnswer S es moment m a → (n : ℕ) → cancels n m a ≡ true → (step S.core (world S.core (effects es)) (effect_of moment m a)).ledger.fate n ≡ Cancelled
+    tells_cancelled : (moment : ℕ) (m : Message K V A F D Q) (a : Answer K V A F B) → IsAnswer S es moment m a → (n : ℕ) → cancels n m a ≡ true → (step S.core (world S.core (effects es)) (effect_of moment m a)).ledger.fate n ≡ Cancelled
     tells_cancelled moment (Message.Decide i commit reasons) a is n h =
         let w = world S.core (effects es) in
         let p = and_parts (nat_eq i n) (tells_cancel a) h in
@@ -198,7 +204,7 @@ module _ {K V A F C D Q B : Type 0} (S : Service K V A F C D Q B) (law : IsServi
         (decide_cancels w n i (eqb-true i n p.0) (has_record w.ledger i) (w.ledger.fate i) commit refl) p.1
     tells_cancelled moment _ a is n h = absurd (cc)
 
-    tells_done : (moment : ℕ) (m : Message K V A F D Q) (a : Answer V A F B) (n : ℕ) → finishes n m a ≡ true → (step S.core (world S.core (effects es)) (effect_of moment m a)).ledger.done n ≡ true
+    tells_done : (moment : ℕ) (m : Message K V A F D Q) (a : Answer K V A F B) (n : ℕ) → finishes n m a ≡ true → (step S.core (world S.core (effects es)) (effect_of moment m a)).ledger.done n ≡ true
     tells_done moment (Message.Done i) a n h =
         let w = world S.core (effects es) in
         let p = and_parts (nat_eq i n) (is_finished a) h in
@@ -206,7 +212,7 @@ module _ {K V A F C D Q B : Type 0} (S : Service K V A F C D Q B) (law : IsServi
         (at_split w.ledger.done i true n (λ b. b ≡ true) (λ _. refl) (λ ne. absurd (ne (eqb-true i n p.0))))
     tells_done moment _ a n h = absurd (cc)
 
-    tells_gone : (moment : ℕ) (m : Message K V A F D Q) (a : Answer V A F B) (n : ℕ) → forgets n m a ≡ true → (step S.core (world S.core (effects es)) (effect_of moment m a)).ledger.gone n ≡ true
+    tells_gone : (moment : ℕ) (m : Message K V A F D Q) (a : Answer K V A F B) (n : ℕ) → forgets n m a ≡ true → (step S.core (world S.core (effects es)) (effect_of moment m a)).ledger.gone n ≡ true
     tells_gone moment (Message.Forget i) a n h =
         let w = world S.core (effects es) in
         let p = and_parts (nat_eq i n) (is_forgotten a) h in
@@ -214,7 +220,7 @@ module _ {K V A F C D Q B : Type 0} (S : Service K V A F C D Q B) (law : IsServi
         (at_split w.ledger.gone i true n (λ b. b ≡ true) (λ _. refl) (λ ne. absurd (ne (eqb-true i n p.0))))
     tells_gone moment _ a n h = absurd (cc)
 
-    tells_applied : (pass moment : ℕ) (m : Message K V A F D Q) (a : Answer V A F B) → IsAnswer S es moment m a → Allowed S es pass m → (n : ℕ) (k : K) → applies S n k m a ≡ true → ((step S.core (world S.core (effects es)) (effect_of moment m a)).ledger.fate n ≡ Committed) × (touches S.core (step S.core (world S.core (effects es)) (effect_of moment m a)).ledger n k ≡ true → ((step S.core (world S.core (effects es)) (effect_of moment m a)).spot k).applied n ≡ true)
+    tells_applied : (pass moment : ℕ) (m : Message K V A F D Q) (a : Answer K V A F B) → IsAnswer S es moment m a → Allowed S es pass m → (n : ℕ) (k : K) → applies S n k m a ≡ true → ((step S.core (world S.core (effects es)) (effect_of moment m a)).ledger.fate n ≡ Committed) × (touches S.core (step S.core (world S.core (effects es)) (effect_of moment m a)).ledger n k ≡ true → ((step S.core (world S.core (effects es)) (effect_of moment m a)).spot k).applied n ≡ true)
     tells_applied pass moment (Message.Apply i key) a is allowed n k h =
         let w = world S.core (effects es) in
         let p = and_parts (nat_eq i n) (S.core.same key k) h in

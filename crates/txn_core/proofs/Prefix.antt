@@ -11,13 +11,13 @@ use Rattle.txn_core.specs.Service.{Service, IsServiceLawful}
 use Rattle.txn_core.specs.World.{on_item, world}
 use Rattle.txn_core.specs.Serial.{begun_stamp, begun_actions}
 use Rattle.txn_core.specs.History.{effect, effects, Had, begins, commits, cancels, finishes, forgets, finds_no_table, is_own_begin}
-use Rattle.txn_core.specs.Legal.{accepts, applies, releases, AreTold, HasCause, HasGround, Allowed, IsLegal}
+use Rattle.txn_core.specs.Legal.{accepts, applies, releases, feeds, AreTold, HasCause, HasGround, Allowed, IsLegal}
 use Rattle.txn_core.proofs.Readings.{actions_read, stamp_read}
 use Rattle.txn_core.proofs.Grows.{grows}
 use Rattle.txn_core.proofs.LegalRuns.{legal_facts, legal_run}
 
 -- what was had is had later
-pub had_more : {K V A F D Q B : Type 0} (test : Message K V A F D Q → Answer V A F B → Bool) (e : Entry K V A F D Q B) (es : List (Entry K V A F D Q B)) → Had test es → Had test (e ∷ es)
+pub had_more : {K V A F D Q B : Type 0} (test : Message K V A F D Q → Answer K V A F B → Bool) (e : Entry K V A F D Q B) (es : List (Entry K V A F D Q B)) → Had test es → Had test (e ∷ es)
 had_more test e es h = or_right (test e.message e.answer) (list_any (λ x. test x.message x.answer) es) h
 
 any_more : {X : Type 0} (Q : X → Type 0) (x : X) (xs : List X) → Any Q xs → Any Q (x ∷ xs)
@@ -80,6 +80,12 @@ module _ {K V A F C D Q B : Type 0} (S : Service K V A F C D Q B) (law : IsServi
                 (λ k d lt. had_more (releases S n (S.core.key_of (slice_index_or (begun_actions (effects es) n) k d))) e es (each k d lt)),
           )
   allowed_more pass (Message.Forget n) h = (had_more (finishes n) e es h.0, or_right (is_own_begin pass n e) (list_any (is_own_begin pass n) es) h.1)
+  allowed_more pass (Message.ApplyIndex source sequence index row_key after) h = any_more (λ x. _) e es h
+  allowed_more pass (Message.Ack source sequence) h = had_more (feeds S source sequence) e es h
+  allowed_more pass (Message.QueryPage page) h = h
+  allowed_more pass (Message.ScanPage page) h = h
+  allowed_more pass (Message.Pendings cell) h = h
+  allowed_more pass (Message.PeekOut source) h = h
   allowed_more pass (Message.Begin token actions) h = h
   allowed_more pass (Message.Get key) h = h
   allowed_more pass (Message.Write action) h = h

@@ -20,7 +20,7 @@ abbrev Ask : Type 0
 Ask = Message ℕ ℕ (ℕ × ℕ) ℕ ℕ ℕ
 
 abbrev Say : Type 0
-Say = Answer ℕ (ℕ × ℕ) ℕ ℕ
+Say = Answer ℕ ℕ (ℕ × ℕ) ℕ ℕ
 
 abbrev at_cell : ℕ → ℕ → ℕ → Ask → Say → Row
 at_cell pass moment cell m a = record { pass = pass; cell = Some cell; message = m; answer = a; moment = moment }

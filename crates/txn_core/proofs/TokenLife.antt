@@ -16,23 +16,23 @@ use Rattle.txn_core.specs.Legal.{IsAnswer, IsLegal}
 use Rattle.txn_core.specs.Tokens.{done_by, draws, cancels_first, is_begin, first_done, LivesOn, Names}
 use Rattle.txn_core.proofs.Basics.{true_false}
 
-module _ {V A F B : Type 0} where
+module _ {K V A F B : Type 0} where
   -- a Begin that finds its token kept draws no number, and names the kept one
-  kept_names : (same : List A → List A → Bool) (b : Bool) (k : KeptToken A) (actions : List A) (stamp : Stamp) → Names {V = V} {A = A} {F = F} {B = B} k.number (begin_answer same b (Some k) actions stamp)
+  kept_names : (same : List A → List A → Bool) (b : Bool) (k : KeptToken A) (actions : List A) (stamp : Stamp) → Names {K = K} {V = V} {A = A} {F = F} {B = B} k.number (begin_answer same b (Some k) actions stamp)
   kept_names same false k actions stamp = inl refl
   kept_names same true k actions stamp =
       cond_both (same k.actions actions) (if is_some k.completed then Answer.Repeat k.number else Answer.Running k.number) (Answer.Mismatch k.number) (λ x. Names k.number x)
       (λ _. cond_both (is_some k.completed) (Answer.Repeat k.number) (Answer.Running k.number) (λ x. Names k.number x) (λ _. inr (inl refl)) (λ _. inr (inr (inl refl))))
       (λ _. inr (inr (inr refl)))
 
-  names_no_new : (n m : ℕ) (a : Answer V A F B) → Names n a → is_begun m a ≡ false
+  names_no_new : (n m : ℕ) (a : Answer K V A F B) → Names n a → is_begun m a ≡ false
   names_no_new n m a (inl e) = ap (λ x. is_begun m x) e
   names_no_new n m a (inr (inl e)) = ap (λ x. is_begun m x) e
   names_no_new n m a (inr (inr (inl e))) = ap (λ x. is_begun m x) e
   names_no_new n m a (inr (inr (inr e))) = ap (λ x. is_begun m x) e
 
   -- a Begin that draws no number leaves what is kept
-  begun_leaves : (token : Option (List ℕ)) (t : List ℕ) (actions : List A) (a : Answer V A F B) (old : Option (KeptToken A)) → ((u : List ℕ) → token ≡ Some u → bytes_eq u t ≡ true → (m : ℕ) → is_begun m a ≡ false) → begun_with token t actions a old ≡ old
+  begun_leaves : (token : Option (List ℕ)) (t : List ℕ) (actions : List A) (a : Answer K V A F B) (old : Option (KeptToken A)) → ((u : List ℕ) → token ≡ Some u → bytes_eq u t ≡ true → (m : ℕ) → is_begun m a ≡ false) → begun_with token t actions a old ≡ old
   begun_leaves None t actions a old no' = refl
   begun_leaves (Some u) t actions (Answer.Begun m stamp) old no' =
       cond_both (bytes_eq u t) (Some (record { number = m; actions = actions; completed = None })) old (λ x. x ≡ old)
@@ -68,7 +68,7 @@ eq_comm n m = cond_cases (nat_eq n m) (nat_eq m n) refl refl
 
 module _ {K V A F C D Q B : Type 0} (S : Service K V A F C D Q B) (t : List ℕ) (n : ℕ) (actions : List A) where
   -- a Begin with the token, while it is kept and its life goes on
-  finds : (es : List (Entry K V A F D Q B)) (d : Option ℕ) → kept es t ≡ Some (token_of n actions d) → (moment : ℕ) → is_over d moment ≡ false → (asked : List A) (a : Answer V A F B) (u : List ℕ) → bytes_eq u t ≡ true → IsAnswer S es moment (Message.Begin (Some u) asked) a → Names n a
+  finds : (es : List (Entry K V A F D Q B)) (d : Option ℕ) → kept es t ≡ Some (token_of n actions d) → (moment : ℕ) → is_over d moment ≡ false → (asked : List A) (a : Answer K V A F B) (u : List ℕ) → bytes_eq u t ≡ true → IsAnswer S es moment (Message.Begin (Some u) asked) a → Names n a
   finds es d is moment live asked a u same answer =
       let w = world S.core (effects es) in
       let here' : found_kept es moment (Some u) ≡ Some (token_of n actions d) =
@@ -77,7 +77,7 @@ module _ {K V A F C D Q B : Type 0} (S : Service K V A F C D Q B) (t : List ℕ)
       (kept_names S.same_actions (list_all (λ x. S.core.there w.catalog (S.core.key_of x)) asked) (token_of n actions d) asked (record { moment = moment; number = w.ledger.next }))
 
   -- an entry that doesn't end the life leaves the token kept
-  kept_step : (es since : List (Entry K V A F D Q B)) (moment : ℕ) (m : Message K V A F D Q) (a : Answer V A F B) → kept es t ≡ Some (token_of n actions (first_done since n)) → IsAnswer S es moment m a → (cancels_first n m a || (is_begin m && is_over (first_done since n) moment)) ≡ false → kept_after moment m a t (kept es t) ≡ Some (token_of n actions (done_by (finishes n m a) moment (first_done since n)))
+  kept_step : (es since : List (Entry K V A F D Q B)) (moment : ℕ) (m : Message K V A F D Q) (a : Answer K V A F B) → kept es t ≡ Some (token_of n actions (first_done since n)) → IsAnswer S es moment m a → (cancels_first n m a || (is_begin m && is_over (first_done since n) moment)) ≡ false → kept_after moment m a t (kept es t) ≡ Some (token_of n actions (done_by (finishes n m a) moment (first_done since n)))
   kept_step es since moment (Message.Begin token asked) a is answer on =
       let live = (or_parts false (is_over (first_done since n) moment) on).1 in
       ap (λ k. begun_with token t asked a (purged moment k)) is
@@ -150,7 +150,7 @@ module _ {K V A F C D Q B : Type 0} (S : Service K V A F C D Q B) (t : List ℕ)
         | inr k ↦ none_drawn since older is legal.0 on.0 m k
       ]
     where
-      newest : (moment : ℕ) (x : Message K V A F D Q) (a : Answer V A F B) → IsAnswer S (since ++ older) moment x a → (cancels_first n x a || (is_begin x && is_over (first_done since n) moment)) ≡ false → draws t m x a ≡ true → kept (since ++ older) t ≡ Some (token_of n actions (first_done since n)) → ⊥
+      newest : (moment : ℕ) (x : Message K V A F D Q) (a : Answer K V A F B) → IsAnswer S (since ++ older) moment x a → (cancels_first n x a || (is_begin x && is_over (first_done since n) moment)) ≡ false → draws t m x a ≡ true → kept (since ++ older) t ≡ Some (token_of n actions (first_done since n)) → ⊥
       newest moment (Message.Begin (Some u) asked) a answer off k living =
           let p = and_parts (bytes_eq u t) (is_begun m a) k in
           let live = (or_parts false (is_over (first_done since n) moment) off).1 in
@@ -163,13 +163,13 @@ module _ {K V A F C D Q B : Type 0} (S : Service K V A F C D Q B) (t : List ℕ)
 started : {K V A F D Q B : Type 0} (t : List ℕ) (n : ℕ) (start : Entry K V A F D Q B) (older : List (Entry K V A F D Q B)) → draws t n start.message start.answer ≡ true → (actions : List A) × (kept (start ∷ older) t ≡ Some (token_of n actions None))
 started {K} {V} {A} {F} {D} {Q} {B} t n start older h = go start.message start.answer h
   where
-    drawn : (u : List ℕ) (asked : List A) (a : Answer V A F B) (old : Option (KeptToken A)) → bytes_eq u t ≡ true → is_begun n a ≡ true → begun_with (Some u) t asked a old ≡ Some (token_of n asked None)
+    drawn : (u : List ℕ) (asked : List A) (a : Answer K V A F B) (old : Option (KeptToken A)) → bytes_eq u t ≡ true → is_begun n a ≡ true → begun_with (Some u) t asked a old ≡ Some (token_of n asked None)
     drawn u asked (Answer.Begun m stamp) old same is =
         ap (λ b. if b then Some (token_of m asked None) else old) same ∙ ap (λ j. Some (token_of j asked None)) (eqb-true m n is)
     drawn u asked Answer.Stale old same is = absurd (cc)
     drawn u asked _ old same is = absurd (cc)
 
-    go : (m : Message K V A F D Q) (a : Answer V A F B) → draws t n m a ≡ true → (actions : List A) × (kept_after start.moment m a t (kept older t) ≡ Some (token_of n actions None))
+    go : (m : Message K V A F D Q) (a : Answer K V A F B) → draws t n m a ≡ true → (actions : List A) × (kept_after start.moment m a t (kept older t) ≡ Some (token_of n actions None))
     go (Message.Begin (Some u) asked) a k =
         let p = and_parts (bytes_eq u t) (is_begun n a) k in
         (asked, drawn u asked a (purged start.moment (kept older t)) p.0 p.1)
@@ -181,7 +181,7 @@ module _ {K V A F C D Q B : Type 0} (S : Service K V A F C D Q B) (since older :
   pub drawn_once : (m : ℕ) → Had (draws t m) since → ⊥
   drawn_once m h = let s = started t n start older drawn in none_drawn S t n s.0 since (start ∷ older) s.1 legal on m h
 
-  pub later_begins : (moment : ℕ) (asked : List A) (a : Answer V A F B) → is_over (first_done since n) moment ≡ false → IsAnswer S (since ++ (start ∷ older)) moment (Message.Begin (Some t) asked) a → Names n a
+  pub later_begins : (moment : ℕ) (asked : List A) (a : Answer K V A F B) → is_over (first_done since n) moment ≡ false → IsAnswer S (since ++ (start ∷ older)) moment (Message.Begin (Some t) asked) a → Names n a
   later_begins moment asked a live answer =
       let s = started t n start older drawn in
       finds S t n s.0 (since ++ (start ∷ older)) (first_done since n) (lives S t n s.0 since (start ∷ older) s.1 legal on) moment live asked a t ((bytes_eq-Decides t t).1 refl) answer

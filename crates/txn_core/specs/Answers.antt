@@ -33,65 +33,65 @@ numbers_below (suc n) = numbers_below n ++ n ∷ []
 abbrev pub unfinished : {A : Type 0} → Ledger A → List ℕ
 unfinished l = filter (λ n. nat_le 1 n && not (l.done n)) (numbers_below l.next)
 
-module _ {V A F B : Type 0} where
+module _ {K V A F B : Type 0} where
   -- a Get; of a table that is gone, Stale
-  abbrev pub get_answer : Bool → Option V → Answer V A F B
+  abbrev pub get_answer : Bool → Option V → Answer K V A F B
   get_answer false row = Answer.Stale
   get_answer true row = Answer.Row row
 
   -- a Write, by whether the table is there, who holds the item, the row, and the action's outcome on it
-  abbrev pub write_answer : Bool → Option ℕ → Option V → Outcome V F → Answer V A F B
+  abbrev pub write_answer : Bool → Option ℕ → Option V → Outcome V F → Answer K V A F B
   write_answer false holding row outcome = Answer.Stale
   write_answer true (Some n) row outcome = Answer.Held n
   write_answer true None row (New v) = Answer.Written row v
   write_answer true None row Unmet = Answer.CondFalse row
   write_answer true None row (Fails fault) = Answer.Invalid fault
 
-  abbrev pub outcome_answer : Option V → Outcome V F → Answer V A F B
+  abbrev pub outcome_answer : Option V → Outcome V F → Answer K V A F B
   outcome_answer row (New v) = Answer.Accepted
   outcome_answer row Unmet = Answer.CondFalse row
   outcome_answer row (Fails fault) = Answer.Invalid fault
 
   -- a Prepare of n with its stamp: also by the stamp at which the item was changed last
-  abbrev pub prepare_answer : Bool → Option ℕ → ℕ → Stamp → Stamp → Option V → Outcome V F → Answer V A F B
+  abbrev pub prepare_answer : Bool → Option ℕ → ℕ → Stamp → Stamp → Option V → Outcome V F → Answer K V A F B
   prepare_answer false holding n last stamp row outcome = Answer.Stale
   prepare_answer true (Some m) n last stamp row outcome = if nat_eq m n then Answer.Accepted else Answer.Held m
   prepare_answer true None n last stamp row outcome = if earlier last stamp then outcome_answer row outcome else Answer.Late last
 
-  abbrev pub apply_answer : Option ℕ → ℕ → Answer V A F B
+  abbrev pub apply_answer : Option ℕ → ℕ → Answer K V A F B
   apply_answer holding n = if is_holder holding n then Answer.Applied else Answer.Nothing
 
-  abbrev pub release_answer : Option ℕ → ℕ → Answer V A F B
+  abbrev pub release_answer : Option ℕ → ℕ → Answer K V A F B
   release_answer holding n = if is_holder holding n then Answer.Released else Answer.Nothing
 
   -- the version of an absent item is that of its cell's last change which left an item absent
-  abbrev pub version_answer : Bool → Option V → ℕ → ℕ → Option ℕ → Answer V A F B
+  abbrev pub version_answer : Bool → Option V → ℕ → ℕ → Option ℕ → Answer K V A F B
   version_answer false row version gone holding = Answer.Stale
   version_answer true row version gone holding = Answer.Version row (if is_some row then version else gone) holding
 
   -- a Begin, by whether the tables are there, what its token is kept with, and the stamp that would be drawn
-  abbrev pub begin_answer : (List A → List A → Bool) → Bool → Option (KeptToken A) → List A → Stamp → Answer V A F B
+  abbrev pub begin_answer : (List A → List A → Bool) → Bool → Option (KeptToken A) → List A → Stamp → Answer K V A F B
   begin_answer same false kept actions stamp = Answer.Stale
   begin_answer same true None actions stamp = Answer.Begun stamp.number stamp
   begin_answer same true (Some kept) actions stamp =
       if same kept.actions actions then (if is_some kept.completed then Answer.Repeat kept.number else Answer.Running kept.number) else Answer.Mismatch kept.number
 
   -- a Decide: the first one sets the fate
-  abbrev pub decide_answer : Bool → Fate → Bool → Answer V A F B
+  abbrev pub decide_answer : Bool → Fate → Bool → Answer K V A F B
   decide_answer false fate commit = Answer.Decided Fate.Gone false
   decide_answer true Fate.Undecided true = Answer.Decided Fate.Committed true
   decide_answer true Fate.Undecided false = Answer.Decided Fate.Cancelled true
   decide_answer true fate commit = Answer.Decided fate false
 
-  abbrev pub done_answer : Bool → Answer V A F B
+  abbrev pub done_answer : Bool → Answer K V A F B
   done_answer recorded = if recorded then Answer.Finished else Answer.Nothing
 
-  abbrev pub forget_answer : Bool → Answer V A F B
+  abbrev pub forget_answer : Bool → Answer K V A F B
   forget_answer recorded = if recorded then Answer.Forgotten else Answer.Nothing
 
-  abbrev pub fate_answer : Bool → Fate → Answer V A F B
+  abbrev pub fate_answer : Bool → Fate → Answer K V A F B
   fate_answer recorded fate = Answer.Is (if recorded then fate else Fate.Gone)
 
-  abbrev pub recall_answer : Bool → Fate → Stamp → List A → List (Reason V F) → Answer V A F B
+  abbrev pub recall_answer : Bool → Fate → Stamp → List A → List (Reason V F) → Answer K V A F B
   recall_answer false fate stamp actions reasons = Answer.Unknown
   recall_answer true fate stamp actions reasons = Answer.Known fate stamp actions reasons

@@ -11,59 +11,59 @@ use Rattle.txn_core.specs.Effects.{Effect, Wrote, Begun, Prepared, Commits, Canc
 use Rattle.txn_core.specs.Answers.{KeptToken}
 
 -- what an answer says
-module _ {V A F B : Type 0} where
-  abbrev pub is_written : Answer V A F B → Bool
+module _ {K V A F B : Type 0} where
+  abbrev pub is_written : Answer K V A F B → Bool
   is_written (Answer.Written old new) = true
   is_written _ = false
 
-  abbrev pub is_accepted : Answer V A F B → Bool
+  abbrev pub is_accepted : Answer K V A F B → Bool
   is_accepted Answer.Accepted = true
   is_accepted _ = false
 
-  abbrev pub is_stale : Answer V A F B → Bool
+  abbrev pub is_stale : Answer K V A F B → Bool
   is_stale Answer.Stale = true
   is_stale _ = false
 
-  abbrev pub is_applied : Answer V A F B → Bool
+  abbrev pub is_applied : Answer K V A F B → Bool
   is_applied Answer.Applied = true
   is_applied _ = false
 
-  abbrev pub is_released : Answer V A F B → Bool
+  abbrev pub is_released : Answer K V A F B → Bool
   is_released Answer.Released = true
   is_released _ = false
 
-  abbrev pub is_finished : Answer V A F B → Bool
+  abbrev pub is_finished : Answer K V A F B → Bool
   is_finished Answer.Finished = true
   is_finished _ = false
 
-  abbrev pub is_forgotten : Answer V A F B → Bool
+  abbrev pub is_forgotten : Answer K V A F B → Bool
   is_forgotten Answer.Forgotten = true
   is_forgotten _ = false
 
-  abbrev pub is_changed : Answer V A F B → Bool
+  abbrev pub is_changed : Answer K V A F B → Bool
   is_changed (Answer.Changed told) = true
   is_changed _ = false
 
   -- it drew this number
-  abbrev pub is_begun : ℕ → Answer V A F B → Bool
+  abbrev pub is_begun : ℕ → Answer K V A F B → Bool
   is_begun n (Answer.Begun m stamp) = nat_eq m n
   is_begun n _ = false
 
-  abbrev pub tells_commit : Answer V A F B → Bool
+  abbrev pub tells_commit : Answer K V A F B → Bool
   tells_commit (Answer.Decided Fate.Committed first) = true
   tells_commit _ = false
 
-  abbrev pub tells_cancel : Answer V A F B → Bool
+  abbrev pub tells_cancel : Answer K V A F B → Bool
   tells_cancel (Answer.Decided Fate.Cancelled first) = true
   tells_cancel _ = false
 
   -- it set the fate
-  abbrev pub is_first : Answer V A F B → Bool
+  abbrev pub is_first : Answer K V A F B → Bool
   is_first (Answer.Decided fate first) = first
   is_first _ = false
 
   -- the reason that a Prepare's answer gives
-  abbrev pub reason_of : Answer V A F B → Option (Reason V F)
+  abbrev pub reason_of : Answer K V A F B → Option (Reason V F)
   reason_of Answer.Accepted = Some Reason.None
   reason_of (Answer.Held n) = Some (Reason.Held n)
   reason_of (Answer.Late stamp) = Some (Reason.Late stamp)
@@ -76,19 +76,19 @@ abbrev pub where_so : {K A D : Type 0} → Bool → Effect K A D → Effect K A 
 where_so is e = if is then e else Quiet
 
 module _ {K V A F D B : Type 0} where
-  abbrev pub begin_effect : List A → Answer V A F B → Effect K A D
+  abbrev pub begin_effect : List A → Answer K V A F B → Effect K A D
   begin_effect actions (Answer.Begun n stamp) = Begun stamp actions
   begin_effect actions _ = Quiet
 
   -- the first decision counts
-  abbrev pub decide_effect : ℕ → Answer V A F B → Effect K A D
+  abbrev pub decide_effect : ℕ → Answer K V A F B → Effect K A D
   decide_effect n (Answer.Decided Fate.Committed true) = Commits n
   decide_effect n (Answer.Decided Fate.Cancelled true) = Cancels n
   decide_effect n _ = Quiet
 
 module _ {K V A F D Q B : Type 0} where
   -- what an entry changes, by its moment, its message and its answer
-  abbrev pub effect_of : ℕ → Message K V A F D Q → Answer V A F B → Effect K A D
+  abbrev pub effect_of : ℕ → Message K V A F D Q → Answer K V A F B → Effect K A D
   effect_of moment (Message.Write action) a = where_so (is_written a) (Wrote action moment)
   effect_of moment (Message.Prepare n stamp action) a = where_so (is_accepted a) (Prepared n stamp action)
   effect_of moment (Message.Apply n key) a = where_so (is_applied a) (Applied n key)
@@ -108,34 +108,34 @@ module _ {K V A F D Q B : Type 0} where
   effects (e ∷ es) = effect e ∷ effects es
 
   -- the history has an entry whose message and answer pass the test
-  abbrev pub Had : (Message K V A F D Q → Answer V A F B → Bool) → List (Entry K V A F D Q B) → Type 0
+  abbrev pub Had : (Message K V A F D Q → Answer K V A F B → Bool) → List (Entry K V A F D Q B) → Type 0
   Had test es = list_any (λ e. test e.message e.answer) es ≡ true
 
   -- a Begin drew the number
-  abbrev pub begins : ℕ → Message K V A F D Q → Answer V A F B → Bool
+  abbrev pub begins : ℕ → Message K V A F D Q → Answer K V A F B → Bool
   begins n (Message.Begin token actions) a = is_begun n a
   begins n _ a = false
 
   -- a Decide of the number was answered Committed, or Cancelled
-  abbrev pub commits : ℕ → Message K V A F D Q → Answer V A F B → Bool
+  abbrev pub commits : ℕ → Message K V A F D Q → Answer K V A F B → Bool
   commits n (Message.Decide m commit reasons) a = nat_eq m n && tells_commit a
   commits n _ a = false
 
-  abbrev pub cancels : ℕ → Message K V A F D Q → Answer V A F B → Bool
+  abbrev pub cancels : ℕ → Message K V A F D Q → Answer K V A F B → Bool
   cancels n (Message.Decide m commit reasons) a = nat_eq m n && tells_cancel a
   cancels n _ a = false
 
   -- the number's Done, and that its record was forgotten
-  abbrev pub finishes : ℕ → Message K V A F D Q → Answer V A F B → Bool
+  abbrev pub finishes : ℕ → Message K V A F D Q → Answer K V A F B → Bool
   finishes n (Message.Done m) a = nat_eq m n && is_finished a
   finishes n _ a = false
 
-  abbrev pub forgets : ℕ → Message K V A F D Q → Answer V A F B → Bool
+  abbrev pub forgets : ℕ → Message K V A F D Q → Answer K V A F B → Bool
   forgets n (Message.Forget m) a = nat_eq m n && is_forgotten a
   forgets n _ a = false
 
   -- a Prepare of the number was answered Stale
-  abbrev pub finds_no_table : ℕ → Message K V A F D Q → Answer V A F B → Bool
+  abbrev pub finds_no_table : ℕ → Message K V A F D Q → Answer K V A F B → Bool
   finds_no_table n (Message.Prepare m stamp action) a = nat_eq m n && is_stale a
   finds_no_table n _ a = false
 
@@ -144,7 +144,7 @@ module _ {K V A F D Q B : Type 0} where
   is_own_begin pass n e = nat_eq e.pass pass && begins n e.message e.answer
 
   -- the reasons that the number's decision carried
-  abbrev pub reasons_in : ℕ → Message K V A F D Q → Answer V A F B → List (Reason V F) → List (Reason V F)
+  abbrev pub reasons_in : ℕ → Message K V A F D Q → Answer K V A F B → List (Reason V F) → List (Reason V F)
   reasons_in n (Message.Decide m commit reasons) a older = if nat_eq m n && is_first a then reasons else older
   reasons_in n _ a older = older
 
@@ -181,14 +181,14 @@ module _ {A : Type 0} where
   freed n None = None
   freed n (Some kept) = if nat_eq kept.number n then None else Some kept
 
-module _ {V A F B : Type 0} where
+module _ {K V A F B : Type 0} where
   -- the token is kept where its Begin drew a number
-  abbrev pub begun_with : Option (List ℕ) → List ℕ → List A → Answer V A F B → Option (KeptToken A) → Option (KeptToken A)
+  abbrev pub begun_with : Option (List ℕ) → List ℕ → List A → Answer K V A F B → Option (KeptToken A) → Option (KeptToken A)
   begun_with (Some token) t actions (Answer.Begun n stamp) old = if bytes_eq token t then Some (record { number = n; actions = actions; completed = None }) else old
   begun_with _ t actions _ old = old
 
 module _ {K V A F D Q B : Type 0} where
-  abbrev pub kept_after : ℕ → Message K V A F D Q → Answer V A F B → List ℕ → Option (KeptToken A) → Option (KeptToken A)
+  abbrev pub kept_after : ℕ → Message K V A F D Q → Answer K V A F B → List ℕ → Option (KeptToken A) → Option (KeptToken A)
   kept_after moment (Message.Begin token actions) a t old = begun_with token t actions a (purged moment old)
   kept_after moment (Message.Done n) a t old = if is_finished a then completed n moment old else old
   kept_after moment (Message.Decide n commit reasons) a t old = if is_first a && tells_cancel a then freed n old else old

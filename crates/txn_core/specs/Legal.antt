@@ -4,6 +4,7 @@ use Rattle.std.specs.List.{list_any, list_all}
 use Rattle.txn_core.specs.declared.reason.Reason.{Reason}
 use Rattle.txn_core.specs.declared.message.Message.{Message}
 use Rattle.txn_core.specs.declared.answer.Answer.{Answer}
+use Rattle.txn_core.specs.declared.answer.HeldItem.{HeldItem}
 use Rattle.txn_core.specs.declared.entry.Entry.{Entry}
 use Rattle.txn_core.specs.Service.{Ruling, Carries, Refuses, Service}
 use Rattle.txn_core.specs.World.{World, holder, last, on_item, here, world}
@@ -23,19 +24,41 @@ module _ {K V A F C D Q B : Type 0} (S : Service K V A F C D Q B) where
   abbrev pub IsClear : World K V A C → D → Type 0
   IsClear w d = (q : K) → S.concerns d w.catalog q ≡ true → (w.spot q).pend ≡ None
 
-  abbrev pub ruling_answer : Ruling B → Answer V A F B
+  abbrev pub ruling_answer : Ruling B → Answer K V A F B
   ruling_answer (Carries told) = Answer.Changed told
   ruling_answer (Refuses told) = Answer.Refused told
 
   -- a command's answer: the refusal of the name or number; else Held; else what the catalog says
-  abbrev pub IsRuled : World K V A C → D → ℕ → Option B → Answer V A F B → Type 0
+  abbrev pub IsRuled : World K V A C → D → ℕ → Option B → Answer K V A F B → Type 0
   IsRuled w d moment (Some told) a = a ≡ Answer.Refused told
   IsRuled w d moment None a =
       ((n : ℕ) × (a ≡ Answer.Held n) × IsInTheWay w d n)
       ⊎ ((a ≡ ruling_answer (S.rules d moment w.catalog)) × IsClear w d)
 
+  -- the items of a cell that transactions hold, each once, with its holder
+  pub record ArePendings (w : World K V A C) (cell : ℕ) (pendings : List (HeldItem K)) : Type 0 where
+    pub each : All (λ p. (S.core.cell_of p.key ≡ cell) × (holder (w.spot p.key).pend ≡ Some p.number)) pendings
+    pub all : (q : K) (n : ℕ) → S.core.cell_of q ≡ cell → holder (w.spot q).pend ≡ Some n → list_any (λ p. S.core.same p.key q) pendings ≡ true
+    pub once : AllPairs (λ x y. S.core.same x.key y.key ≡ false) pendings
+
+  abbrev pub IsPendingList : World K V A C → ℕ → Answer K V A F B → Type 0
+  IsPendingList w cell (Answer.PendingList pendings) = ArePendings w cell pendings
+  IsPendingList w cell _ = ⊥
+
+  -- a page, by whether its table and index are there: its rows are left open
+  abbrev pub IsPage : Bool → Answer K V A F B → Type 0
+  IsPage true (Answer.Part told) = Unit {0}
+  IsPage true _ = ⊥
+  IsPage false a = a ≡ Answer.Stale
+
+  -- the first change of an outbox, for the cell of its row, or none
+  abbrev pub IsOut : Answer K V A F B → Type 0
+  IsOut (Answer.Out sequence index target row_key after) = target ≡ S.core.cell_of row_key
+  IsOut Answer.Empty = Unit {0}
+  IsOut _ = ⊥
+
   -- the answer that the cells give after the history
-  abbrev pub IsAnswer : List (Entry K V A F D Q B) → ℕ → Message K V A F D Q → Answer V A F B → Type 0
+  abbrev pub IsAnswer : List (Entry K V A F D Q B) → ℕ → Message K V A F D Q → Answer K V A F B → Type 0
   IsAnswer es moment (Message.Get key) a =
       let w = world S.core (effects es) in a ≡ get_answer (S.core.there w.catalog key) (w.spot key).row
   IsAnswer es moment (Message.Write action) a =
@@ -65,6 +88,12 @@ module _ {K V A F C D Q B : Type 0} (S : Service K V A F C D Q B) where
       let l = (world S.core (effects es)).ledger in a ≡ recall_answer (has_record l n) (l.fate n) (l.stamp n) (l.actions n) (reasons_of es n)
   IsAnswer es moment Message.Unfinished a = a ≡ Answer.Numbers (unfinished (world S.core (effects es)).ledger)
   IsAnswer es moment (Message.Ask question) a = a ≡ Answer.Told (S.tell (world S.core (effects es)).catalog question)
+  IsAnswer es moment (Message.QueryPage page) a = IsPage (S.serves (world S.core (effects es)).catalog page) a
+  IsAnswer es moment (Message.ScanPage page) a = IsPage (S.serves (world S.core (effects es)).catalog page) a
+  IsAnswer es moment (Message.Pendings cell) a = (cell < S.control) × IsPendingList (world S.core (effects es)) cell a
+  IsAnswer es moment (Message.PeekOut source) a = (source < S.control) × IsOut a
+  IsAnswer es moment (Message.ApplyIndex source sequence index row_key after) a = (a ≡ Answer.Fed) ⊎ (a ≡ Answer.Already)
+  IsAnswer es moment (Message.Ack source sequence) a = (source < S.control) × ((a ≡ Answer.Acked) ⊎ (a ≡ Answer.Nothing))
   IsAnswer es moment (Message.Command d) a =
       let w = world S.core (effects es) in IsRuled w d moment (S.refuses d w.catalog) a
 
@@ -73,16 +102,26 @@ module _ {K V A F C D Q B : Type 0} (S : Service K V A F C D Q B) where
   prepares n k (Message.Prepare m stamp action) = nat_eq m n && S.core.same (S.core.key_of action) k
   prepares n k _ = false
 
-  abbrev pub accepts : ℕ → K → Message K V A F D Q → Answer V A F B → Bool
+  abbrev pub accepts : ℕ → K → Message K V A F D Q → Answer K V A F B → Bool
   accepts n k m a = prepares n k m && is_accepted a
 
-  abbrev pub applies : ℕ → K → Message K V A F D Q → Answer V A F B → Bool
+  abbrev pub applies : ℕ → K → Message K V A F D Q → Answer K V A F B → Bool
   applies n k (Message.Apply m key) a = nat_eq m n && S.core.same key k
   applies n k _ a = false
 
-  abbrev pub releases : ℕ → K → Message K V A F D Q → Answer V A F B → Bool
+  abbrev pub releases : ℕ → K → Message K V A F D Q → Answer K V A F B → Bool
   releases n k (Message.Release m key) a = nat_eq m n && S.core.same key k
   releases n k _ a = false
+
+  -- an ApplyIndex of this change in a source's outbox
+  abbrev pub feeds : ℕ → ℕ → Message K V A F D Q → Answer K V A F B → Bool
+  feeds source sequence (Message.ApplyIndex s n index row_key after) a = nat_eq s source && nat_eq n sequence
+  feeds source sequence _ a = false
+
+  -- a PeekOut of the source was answered with exactly this change
+  abbrev pub WasPeeked : List (Entry K V A F D Q B) → ℕ → ℕ → ℕ → K → Option V → Type 0
+  WasPeeked es source sequence index row_key after =
+      Any (λ e. (e.message ≡ Message.PeekOut source) × (e.answer ≡ Answer.Out sequence index (S.core.cell_of row_key) row_key after)) es
 
   -- a Prepare of the action in the history was answered with this reason
   abbrev pub WasTold : List (Entry K V A F D Q B) → ℕ → A → Reason V F → Type 0
@@ -123,9 +162,13 @@ module _ {K V A F C D Q B : Type 0} (S : Service K V A F C D Q B) where
       Had (begins n) es × ((Had (commits n) es × All (λ x. Had (applies n (S.core.key_of x)) es) (begun_actions (effects es) n)) ⊎ (Had (cancels n) es × All (λ x. Had (releases n (S.core.key_of x)) es) (begun_actions (effects es) n)))
   -- after its Done, by the pass whose Begin drew it
   Allowed es pass (Message.Forget n) = Had (finishes n) es × (list_any (is_own_begin pass n) es ≡ true)
+  -- after a PeekOut that showed this very change; after an ApplyIndex of it
+  Allowed es pass (Message.ApplyIndex source sequence index row_key after) = WasPeeked es source sequence index row_key after
+  Allowed es pass (Message.Ack source sequence) = Had (feeds source sequence) es
   Allowed es pass _ = Unit {0}
 
-  -- where a message goes: to the cell of its key, to the control cell, or to all cells
+  -- where a message goes: to the cell of its key or its page, to the partition that it names, to the control cell, or to
+  -- all cells
   abbrev pub sent_to : Message K V A F D Q → Option ℕ
   sent_to (Message.Get key) = Some (S.core.cell_of key)
   sent_to (Message.Write action) = Some (S.core.cell_of (S.core.key_of action))
@@ -133,6 +176,12 @@ module _ {K V A F C D Q B : Type 0} (S : Service K V A F C D Q B) where
   sent_to (Message.Apply n key) = Some (S.core.cell_of key)
   sent_to (Message.Release n key) = Some (S.core.cell_of key)
   sent_to (Message.ReadVersion key) = Some (S.core.cell_of key)
+  sent_to (Message.QueryPage page) = Some (S.page_cell page)
+  sent_to (Message.ScanPage page) = Some (S.page_cell page)
+  sent_to (Message.Pendings cell) = Some cell
+  sent_to (Message.PeekOut source) = Some source
+  sent_to (Message.ApplyIndex source sequence index row_key after) = Some (S.core.cell_of row_key)
+  sent_to (Message.Ack source sequence) = Some source
   sent_to (Message.Command d) = None
   sent_to _ = Some S.control
 

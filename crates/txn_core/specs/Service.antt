@@ -7,15 +7,18 @@ pub data Ruling (B : Type 0) : Type 0 where
   Carries : B → Ruling B
   Refuses : B → Ruling B
 
--- Q: a question about the catalog; B: what is told of it
+-- Q: a question about the catalog or a page; B: what is told of it
 pub record Service (K V A F C D Q B : Type 0) : Type 0 where
   pub core : Protocol K V A F C D
-  -- the cell of the catalog's answers, of transactions and of tokens
+  -- the cell of the catalog's answers, of transactions and of tokens; the partitions are the cells below it
   pub control : ℕ
   -- whether two transactions have the same parameters
   pub same_actions : List A → List A → Bool
   -- the answer to a question
   pub tell : C → Q → B
+  -- the partition of a page of rows, and whether the catalog has the page's table and index
+  pub page_cell : Q → ℕ
+  pub serves : C → Q → Bool
   -- the refusal of a command's name or number, which comes before all else
   pub refuses : D → C → Option B
   -- whether an item is of the command's table, so that a pending on it stands in the command's way

@@ -18,12 +18,12 @@ is_begin _ = false
 
 module _ {K V A F D Q B : Type 0} where
   -- a Begin with the token drew the number
-  abbrev pub draws : List ℕ → ℕ → Message K V A F D Q → Answer V A F B → Bool
+  abbrev pub draws : List ℕ → ℕ → Message K V A F D Q → Answer K V A F B → Bool
   draws t n (Message.Begin (Some token) actions) a = bytes_eq token t && is_begun n a
   draws t n _ a = false
 
   -- the number's cancel
-  abbrev pub cancels_first : ℕ → Message K V A F D Q → Answer V A F B → Bool
+  abbrev pub cancels_first : ℕ → Message K V A F D Q → Answer K V A F B → Bool
   cancels_first n (Message.Decide m commit reasons) a = nat_eq m n && (is_first a && tells_cancel a)
   cancels_first n _ a = false
 
@@ -42,5 +42,5 @@ module _ {K V A F D Q B : Type 0} where
   LivesOn n (e ∷ since) = LivesOn n since × (ends_life n e since ≡ false)
 
 -- the answer names the number, or a table is gone
-abbrev pub Names : {V A F B : Type 0} → ℕ → Answer V A F B → Type 0
+abbrev pub Names : {K V A F B : Type 0} → ℕ → Answer K V A F B → Type 0
 Names n a = (a ≡ Answer.Stale) ⊎ ((a ≡ Answer.Repeat n) ⊎ ((a ≡ Answer.Running n) ⊎ (a ≡ Answer.Mismatch n)))

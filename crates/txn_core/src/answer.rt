@@ -3,11 +3,20 @@ use crate::reason::Reason;
 use crate::stamp::Stamp;
 use expr_lexer::Seq;
 
-/// What a cell answers. `V` is what an item holds, `A` an action on one item, `F` why an action can't be evaluated, and
-/// `B` what is told of the catalog.
+/// An item that a transaction holds.
 #[derive(Drop)]
-pub enum Answer<V, A, F, B> {
-    /// The item's table is gone; of a Begin, the table of one of its actions.
+pub struct HeldItem<K> {
+    /// Which item.
+    pub key: K,
+    /// The number of the transaction.
+    pub number: u64,
+}
+
+/// What a cell answers. `K` says which item or which row of an index, `V` what an item or a row holds, `A` is an action on
+/// one item, `F` why an action can't be evaluated, and `B` what is told of the catalog, or a page of rows.
+#[derive(Drop)]
+pub enum Answer<K, V, A, F, B> {
+    /// The item's table is gone; of a Begin, the table of one of its actions; of a page, its table or its index.
     Stale,
     /// A Get: the committed item.
     Row {
@@ -47,7 +56,7 @@ pub enum Answer<V, A, F, B> {
     Applied,
     /// A Release: the item is let go.
     Released,
-    /// The transaction doesn't hold the item, or its record is gone.
+    /// The transaction doesn't hold the item, or its record is gone; of an Ack, the change isn't the outbox's first.
     Nothing,
     /// A ReadVersion.
     Version {
@@ -58,6 +67,37 @@ pub enum Answer<V, A, F, B> {
         /// The number of the transaction that holds it, if one does.
         held: Option<u64>,
     },
+    /// A QueryPage or a ScanPage: the cell's part of the page.
+    Part {
+        /// The rows, and where to go on.
+        told: B,
+    },
+    /// A Pendings: the items of the cell that a transaction holds, each once.
+    PendingList {
+        /// The items, each with who holds it.
+        pendings: Seq<HeldItem<K>>,
+    },
+    /// A PeekOut: the first change in the outbox.
+    Out {
+        /// Its number in the outbox.
+        sequence: u64,
+        /// The index that it is for.
+        index: u64,
+        /// The cell in which the index row lives.
+        target: u32,
+        /// Which row of the index.
+        row_key: K,
+        /// The row afterwards, or none where it is removed.
+        after: Option<V>,
+    },
+    /// A PeekOut of an empty outbox.
+    Empty,
+    /// An ApplyIndex: the row was changed.
+    Fed,
+    /// An ApplyIndex that was carried out before, or whose index is gone.
+    Already,
+    /// An Ack: the change has left the outbox.
+    Acked,
     /// A Begin: the token stands for a transaction with other actions.
     Mismatch {
         /// That transaction's number.

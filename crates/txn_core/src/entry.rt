@@ -11,7 +11,7 @@ pub struct Entry<K, V, A, F, D, Q, B> {
     /// What was asked.
     pub message: Message<K, V, A, F, D, Q>,
     /// What was answered.
-    pub answer: Answer<V, A, F, B>,
+    pub answer: Answer<K, V, A, F, B>,
     /// Microseconds since 1970-01-01T00:00:00Z.
     pub moment: u64,
 }

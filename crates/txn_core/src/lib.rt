@@ -14,8 +14,9 @@
 //! `Answers`, `History` and `Legal` (legal histories), `Tokens`, `Course` and `Driver`, and `Laws`. `Simple` is one table
 //! of numbers on which they are tried; `proofs/Rows.antt` has worked histories, legal and not.
 //!
-//! Messages here are those of items, of transactions and of the catalog. Pages, lists of pendings and the feed of
-//! indexes are not among them yet; they change nothing that the laws speak of.
+//! Pages of rows and the feed of indexes change nothing that the laws speak of, and index rows and outboxes are no part
+//! of the state here: of a page it is said when it is Stale, of a feed message what it may be answered and what must
+//! have come before it, and nothing of the rows themselves.
 #![tactic(auto)]
 
 mod answer;
@@ -29,7 +30,7 @@ mod rules;
 mod stamp;
 mod verdict;
 
-pub use answer::Answer;
+pub use answer::{Answer, HeldItem};
 pub use course::{Course, Move};
 pub use entry::Entry;
 pub use fate::Fate;

@@ -2,8 +2,11 @@ use crate::reason::Reason;
 use crate::stamp::Stamp;
 use expr_lexer::{Seq, Text};
 
-/// What is asked of a cell. `K` says which item, `V` what an item holds, `A` is an action on one item, `F` why an action
-/// can't be evaluated, `D` a command that changes the catalog, and `Q` a question about it.
+/// What is asked of a cell. `K` says which item or which row of an index, `V` what an item or a row holds, `A` is an
+/// action on one item, `F` why an action can't be evaluated, `D` a command that changes the catalog, and `Q` a question
+/// about it, or about a page of rows.
+///
+/// A message that has neither a key nor a page names the cell that it goes to, where there are several.
 #[derive(Drop)]
 pub enum Message<K, V, A, F, D, Q> {
     /// The committed item.
@@ -43,6 +46,46 @@ pub enum Message<K, V, A, F, D, Q> {
     ReadVersion {
         /// Which item.
         key: K,
+    },
+    /// A page of the rows with one partition key, of a table or of an index.
+    QueryPage {
+        /// Which page: of which table and index, in which range, from where on.
+        page: Q,
+    },
+    /// A page of all rows of a cell, of a table or of an index.
+    ScanPage {
+        /// Which page: of which table and index, in which places, from where on.
+        page: Q,
+    },
+    /// The items of a partition that a transaction holds.
+    Pendings {
+        /// Which partition.
+        cell: u32,
+    },
+    /// The first change in a partition's outbox, which waits for its index.
+    PeekOut {
+        /// The partition whose outbox it is.
+        source: u32,
+    },
+    /// Carries out a change of an index row.
+    ApplyIndex {
+        /// The partition in whose outbox the change waits.
+        source: u32,
+        /// Its number in that outbox.
+        sequence: u64,
+        /// The index.
+        index: u64,
+        /// Which row of it.
+        row_key: K,
+        /// The row afterwards, or none where it is removed.
+        after: Option<V>,
+    },
+    /// Takes a change that was carried out from its outbox.
+    Ack {
+        /// The partition whose outbox it is.
+        source: u32,
+        /// The change's number there.
+        sequence: u64,
     },
     /// Draws a number for a transaction, or finds the one that its token stands for.
     Begin {
