@@ -1,7 +1,9 @@
 -- Small facts on options, outcomes and changed functions.
 use Rattle.std.proofs.Common.{◌≡◌, ℕ, Bool, true, false, nat_eq, Option, None, Some, is_some, refl, ap}
 use Rattle.std.proofs.lemmas.Bool.{cond_both, eqb-true, eqb-false}
-use Rattle.txn_core.specs.Protocol.{Outcome, New, Unmet, Fails, after, IsNew}
+use Rattle.txn_core.specs.declared.outcome.Outcome.{Outcome}
+use Rattle.txn_core.specs.declared.outcome.Outcome.TheVariants.{New, Unmet, Fails}
+use Rattle.txn_core.specs.Protocol.{after, IsNew}
 use Rattle.txn_core.specs.World.{Pending, at, holder}
 
 pub none_some : {X Q : Type 0} (o : Option X) (x : X) → o ≡ None → o ≡ Some x → Q

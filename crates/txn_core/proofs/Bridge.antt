@@ -8,8 +8,12 @@ use Rattle.txn_core.specs.declared.fate.Fate.{Fate}
 use Rattle.txn_core.specs.declared.fate.Fate.TheVariants.{Undecided, Committed, Cancelled, Gone}
 use Rattle.txn_core.specs.declared.answer.Answer.{Answer}
 use Rattle.txn_core.specs.Stamps.{earlier}
-use Rattle.txn_core.specs.Protocol.{Outcome, New, Unmet, Fails, IsNew}
-use Rattle.txn_core.specs.Service.{Ruling, Carries, Refuses, Service, IsServiceLawful}
+use Rattle.txn_core.specs.declared.outcome.Outcome.{Outcome}
+use Rattle.txn_core.specs.declared.outcome.Outcome.TheVariants.{New, Unmet, Fails}
+use Rattle.txn_core.specs.Protocol.{IsNew}
+use Rattle.txn_core.specs.declared.ruling.Ruling.{Ruling}
+use Rattle.txn_core.specs.declared.ruling.Ruling.TheVariants.{Carries, Refuses}
+use Rattle.txn_core.specs.Service.{Service, IsServiceLawful}
 use Rattle.txn_core.specs.Effects.{Effect, Wrote, Prepared, Applied, Released, Finished, Forgot, Changed}
 use Rattle.txn_core.specs.World.{Pending, World, holder, last, action_on, touches, here}
 use Rattle.txn_core.specs.Runs.{May, IsReady, MayFinish, MayChange}

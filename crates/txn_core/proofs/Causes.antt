@@ -9,8 +9,11 @@ use Rattle.txn_core.specs.declared.message.Message.{Message}
 use Rattle.txn_core.specs.declared.answer.Answer.{Answer}
 use Rattle.txn_core.specs.declared.entry.Entry.{Entry}
 use Rattle.txn_core.specs.Stamps.{earlier, IsBy}
-use Rattle.txn_core.specs.Protocol.{Outcome, New, Unmet, Fails}
-use Rattle.txn_core.specs.Service.{Ruling, Carries, Refuses, Service, IsServiceLawful}
+use Rattle.txn_core.specs.declared.outcome.Outcome.{Outcome}
+use Rattle.txn_core.specs.declared.outcome.Outcome.TheVariants.{New, Unmet, Fails}
+use Rattle.txn_core.specs.declared.ruling.Ruling.{Ruling}
+use Rattle.txn_core.specs.declared.ruling.Ruling.TheVariants.{Carries, Refuses}
+use Rattle.txn_core.specs.Service.{Service, IsServiceLawful}
 use Rattle.txn_core.specs.World.{holder, last, here, world}
 use Rattle.txn_core.specs.Serial.{serial, tables, shown}
 use Rattle.txn_core.specs.Answers.{KeptToken, get_answer, write_answer, outcome_answer, prepare_answer, is_holder, version_answer, begin_answer, has_record, decide_answer, recall_answer}

@@ -5,7 +5,8 @@ use Rattle.std.proofs.lemmas.Bool.{cond_both}
 use Rattle.txn_core.specs.declared.stamp.Stamp.{Stamp}
 use Rattle.txn_core.specs.declared.fate.Fate.TheVariants.{Undecided, Committed, Cancelled}
 use Rattle.txn_core.specs.Stamps.{earlier, IsBy}
-use Rattle.txn_core.specs.Protocol.{New, after, Protocol, IsLawful}
+use Rattle.txn_core.specs.declared.outcome.Outcome.TheVariants.{New}
+use Rattle.txn_core.specs.Protocol.{after, Protocol, IsLawful}
 use Rattle.txn_core.specs.World.{Pending, Spot, Cell, Ledger, holder, last, on_item, action_on, after_action, touches, at, kept_or, ledger_begun, ledger_decided, ledger_finished, ledger_forgot, spot_commits, spot_changed}
 use Rattle.txn_core.proofs.Basics.{none_some, some_is, true_false, at_split, holder_is, none_of}
 use Rattle.txn_core.proofs.Invariant.{GoodSpot}

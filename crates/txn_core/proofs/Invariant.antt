@@ -2,7 +2,8 @@
 use Rattle.std.proofs.Common.{◌≡◌, ◌≢◌, ℕ, ◌<◌, ◌≤◌, true, false, None, Some}
 use Rattle.txn_core.specs.declared.fate.Fate.TheVariants.{Undecided, Committed}
 use Rattle.txn_core.specs.Stamps.{earlier, IsBy}
-use Rattle.txn_core.specs.Protocol.{New, Protocol}
+use Rattle.txn_core.specs.declared.outcome.Outcome.TheVariants.{New}
+use Rattle.txn_core.specs.Protocol.{Protocol}
 use Rattle.txn_core.specs.World.{Pending, Spot, Cell, Ledger, World, holder, last, action_on, touches}
 
 pub record GoodSpot {K V A F C D : Type 0} (P : Protocol K V A F C D) (l : Ledger A) (cat : C) (c : Cell) (q : K) (s : Spot V) : Type 0 where

@@ -3,7 +3,8 @@ use Rattle.std.proofs.Common.{◌≡◌, ◌≢◌, ℕ, ◌<◌, Bool, true, fa
 use Rattle.txn_core.specs.declared.stamp.Stamp.{Stamp}
 use Rattle.txn_core.specs.declared.fate.Fate.TheVariants.{Undecided, Committed}
 use Rattle.txn_core.specs.Stamps.{earlier, later, IsBy, single}
-use Rattle.txn_core.specs.Protocol.{New, after, IsNew, Protocol, IsLawful}
+use Rattle.txn_core.specs.declared.outcome.Outcome.TheVariants.{New}
+use Rattle.txn_core.specs.Protocol.{after, IsNew, Protocol, IsLawful}
 use Rattle.txn_core.specs.World.{Pending, Spot, Cell, Ledger, holder, last, action_on, touches, at, hold, image_or, stamp_or, cell_after, spot_wrote, spot_prepared, spot_applied, spot_released}
 use Rattle.txn_core.proofs.Basics.{none_some, some_is, true_false, at_split, holder_is, is_some_of, new_is}
 use Rattle.txn_core.proofs.StampLaws.{by_itself, by_earlier, by_left, by_right, by_before}

@@ -6,7 +6,8 @@ use Rattle.txn_core.specs.declared.fate.Fate.{Fate}
 use Rattle.txn_core.specs.declared.reason.Reason.{Reason}
 use Rattle.txn_core.specs.declared.answer.Answer.{Answer}
 use Rattle.txn_core.specs.Stamps.{earlier}
-use Rattle.txn_core.specs.Protocol.{Outcome, New, Unmet, Fails}
+use Rattle.txn_core.specs.declared.outcome.Outcome.{Outcome}
+use Rattle.txn_core.specs.declared.outcome.Outcome.TheVariants.{New, Unmet, Fails}
 use Rattle.txn_core.specs.World.{Ledger}
 
 -- what is kept with a token: the number and the actions of its transaction, and the moment of its first Done

@@ -4,7 +4,8 @@ use Rattle.txn_core.specs.declared.stamp.Stamp.{Stamp}
 use Rattle.txn_core.specs.declared.message.Message.{Message}
 use Rattle.txn_core.specs.declared.entry.Entry.{Entry}
 use Rattle.txn_core.specs.Stamps.{IsBy}
-use Rattle.txn_core.specs.Protocol.{New, Protocol}
+use Rattle.txn_core.specs.declared.outcome.Outcome.TheVariants.{New}
+use Rattle.txn_core.specs.Protocol.{Protocol}
 use Rattle.txn_core.specs.Service.{Service}
 use Rattle.txn_core.specs.Effects.{Effect}
 use Rattle.txn_core.specs.World.{Pending, World, holder, last, here, world}

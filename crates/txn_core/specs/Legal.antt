@@ -6,7 +6,9 @@ use Rattle.txn_core.specs.declared.message.Message.{Message}
 use Rattle.txn_core.specs.declared.answer.Answer.{Answer}
 use Rattle.txn_core.specs.declared.answer.HeldItem.{HeldItem}
 use Rattle.txn_core.specs.declared.entry.Entry.{Entry}
-use Rattle.txn_core.specs.Service.{Ruling, Carries, Refuses, Service}
+use Rattle.txn_core.specs.declared.ruling.Ruling.{Ruling}
+use Rattle.txn_core.specs.declared.ruling.Ruling.TheVariants.{Carries, Refuses}
+use Rattle.txn_core.specs.Service.{Service}
 use Rattle.txn_core.specs.World.{World, holder, last, on_item, here, world}
 use Rattle.txn_core.specs.Serial.{begun_stamp, begun_actions}
 use Rattle.txn_core.specs.Answers.{get_answer, write_answer, prepare_answer, apply_answer, release_answer, version_answer, begin_answer, has_record, decide_answer, done_answer, forget_answer, fate_answer, recall_answer, unfinished}

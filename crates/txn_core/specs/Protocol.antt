@@ -1,11 +1,7 @@
 -- What the protocol needs to know of tables: items, actions and catalogs.
 use Rattle.std.specs.Prelude.{◌≡◌, ◌⊎◌, ℕ, ◌<◌, ◌≤◌, Bool, true, Option}
-
--- what an action makes of an item, which may be absent: a new item or none, a false condition, or a fault
-pub data Outcome (V F : Type 0) : Type 0 where
-  New : Option V → Outcome V F
-  Unmet : Outcome V F
-  Fails : F → Outcome V F
+use Rattle.txn_core.specs.declared.outcome.Outcome.{Outcome}
+use Rattle.txn_core.specs.declared.outcome.Outcome.TheVariants.{New, Unmet, Fails}
 
 -- the item afterwards
 abbrev pub after : {V F : Type 0} → Outcome V F → Option V → Option V

@@ -1,11 +1,7 @@
 -- What the messages need to know beside the protocol: tokens, the catalog's own answers, and the cells' numbers.
 use Rattle.std.specs.Prelude.{◌≡◌, ℕ, Bool, true, false, List, Option, None}
+use Rattle.txn_core.specs.declared.ruling.Ruling.{Ruling}
 use Rattle.txn_core.specs.Protocol.{Protocol, IsLawful}
-
--- what the catalog says of a command: it is carried out, or refused
-pub data Ruling (B : Type 0) : Type 0 where
-  Carries : B → Ruling B
-  Refuses : B → Ruling B
 
 -- Q: a question about the catalog or a page; B: what is told of it
 pub record Service (K V A F C D Q B : Type 0) : Type 0 where

@@ -1,7 +1,10 @@
 -- One table of numbers under numbers, on which the definitions are tried: the item of a key is in the partition of its rest.
 use Rattle.std.specs.Prelude.{ℕ, ◌%◌, true, false, nat_eq, nat_le, Option, None, Some, is_some, if◌then◌else◌}
-use Rattle.txn_core.specs.Protocol.{Outcome, New, Unmet, Protocol}
-use Rattle.txn_core.specs.Service.{Carries, Service}
+use Rattle.txn_core.specs.declared.outcome.Outcome.{Outcome}
+use Rattle.txn_core.specs.declared.outcome.Outcome.TheVariants.{New, Unmet}
+use Rattle.txn_core.specs.Protocol.{Protocol}
+use Rattle.txn_core.specs.declared.ruling.Ruling.TheVariants.{Carries}
+use Rattle.txn_core.specs.Service.{Service}
 
 -- an action is a key and a number: 0 deletes the item, 1 checks that it is there, any other number is put
 abbrev pub act : (ℕ × ℕ) → Option ℕ → Outcome ℕ ℕ

@@ -25,8 +25,10 @@ mod entry;
 mod fate;
 pub mod laws;
 mod message;
+mod outcome;
 mod reason;
 mod rules;
+mod ruling;
 mod stamp;
 mod verdict;
 
@@ -35,8 +37,10 @@ pub use course::{Course, Move};
 pub use entry::Entry;
 pub use fate::Fate;
 pub use message::Message;
+pub use outcome::Outcome;
 pub use reason::Reason;
 pub use rules::Rules;
+pub use ruling::Ruling;
 pub use stamp::Stamp;
 pub use verdict::Verdict;
 
