@@ -16,3 +16,4 @@ pub mod Versions
 pub mod TokenLife
 mod Rows
 pub mod Drives
+pub mod Reversed

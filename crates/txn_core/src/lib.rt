@@ -21,11 +21,13 @@
 
 mod answer;
 mod course;
+mod deed;
 mod entry;
 mod fate;
 pub mod laws;
 mod message;
 mod outcome;
+mod past;
 mod reason;
 mod rules;
 mod ruling;
@@ -34,7 +36,7 @@ mod verdict;
 
 pub use answer::{Answer, HeldItem};
 pub use course::{Course, Move};
-pub use entry::Entry;
+pub use entry::{Entry, Event};
 pub use fate::Fate;
 pub use message::Message;
 pub use outcome::Outcome;

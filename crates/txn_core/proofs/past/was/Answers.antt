@@ -1,0 +1,18 @@
+use Rattle.std.proofs.Common.{sym, subst, ◌≡◌, ◌∙◌, false, true, reverse, take, arith}
+use Rattle.std.specs.List.{list_any}
+use Rattle.txn_core.specs.Serial.{begun_stamp, begun_actions}
+use Rattle.txn_core.specs.History.{effects, is_own_begin, reasons_of}
+use Rattle.txn_core.specs.Legal.{feeds}
+use Rattle.txn_core.specs.Replay.{tells, tells_on}
+use Rattle.txn_core.proofs.Reversed.{one_passes, none_more, none_all, whole, stamp_more, actions_more, reasons_more}
+use Rattle.txn_core.proofs.past.was.Goals as goal
+
+pub returns-then-tells : goal.returns-then-tells
+returns-then-tells g c = sym (one_passes (λ e. tells c.args.deed c.args.number e.message e.answer) c.args.past.now c.loop-entry.entry-index c.entry-item.result c.loop-entry-test.true c.entry-item.is (sym (c.tells.ensures) ∙ c.if-tells.true))
+
+pub loop-entry-preserved : goal.loop-entry-preserved
+loop-entry-preserved g c =
+    none_more (λ e. tells c.args.deed c.args.number e.message e.answer) c.args.past.now c.loop-entry.entry-index c.entry-item.result c.loop-entry-test.true c.entry-item.is (c.loop-entry.invariant) (sym (c.tells.ensures) ∙ c.if-tells.false)
+
+pub returns : goal.returns
+returns g c = none_all (λ e. tells c.args.deed c.args.number e.message e.answer) c.args.past.now c.loop-entry.entry-index (omega arith) (omega arith) (c.loop-entry.invariant)
