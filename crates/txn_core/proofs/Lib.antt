@@ -17,3 +17,5 @@ pub mod TokenLife
 mod Rows
 pub mod Drives
 pub mod Reversed
+pub mod Locality
+pub mod CellAnswers

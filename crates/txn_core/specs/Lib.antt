@@ -12,6 +12,7 @@ pub mod Replay
 pub mod Tokens
 pub mod Course
 pub mod Driver
+pub mod Cells
 pub mod Laws
 pub mod Simple
 pub mod SimpleLaws

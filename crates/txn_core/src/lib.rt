@@ -20,6 +20,7 @@
 #![tactic(auto)]
 
 mod answer;
+pub mod cells;
 mod course;
 mod deed;
 mod entry;

@@ -1,7 +1,7 @@
 ghost use Rattle.txn_core.specs.Simple.{service};
 ghost use Rattle.txn_core.specs.SimpleLaws.{service_lawful};
 
-use crate::{Course, Fate, Move, Outcome, Rules, Ruling, Stamp, Verdict, laws};
+use crate::{Course, Fate, Move, Outcome, Rules, Ruling, Stamp, Verdict, cells, laws};
 use std::alloc::{AllocError as NoMemory, Global};
 use std::test::Fail;
 
@@ -166,6 +166,14 @@ fn laws_hold_of_a_table(rt: HostRuntime) -> Result<(), Fail> {
     laws::course_is_allowed::<Simple>();
     assert!(rt; Simple::is_same(&3, &3));
     assert!(rt; !Simple::is_same(&3, &4));
+    Ok(())
+}
+
+#[test]
+fn cells_of_a_table_go_by_their_entries(_rt: HostRuntime) -> Result<(), Fail> {
+    cells::own_entries_tell::<Simple>();
+    cells::own_entries_answer::<Simple>();
+    cells::seen_cells_are_enough::<Simple>();
     Ok(())
 }
 
