@@ -15,7 +15,9 @@ pub mod Prefix
 pub mod Versions
 pub mod TokenLife
 mod Rows
+pub mod Records
 pub mod Drives
 pub mod Reversed
+pub mod Knowing
 pub mod Locality
 pub mod CellAnswers

@@ -20,7 +20,7 @@ use Rattle.txn_core.proofs.LegalRuns.{legal_facts, legal_run}
 pub had_more : {K V A F D Q B : Type 0} (test : Message K V A F D Q → Answer K V A F B → Bool) (e : Entry K V A F D Q B) (es : List (Entry K V A F D Q B)) → Had test es → Had test (e ∷ es)
 had_more test e es h = or_right (test e.message e.answer) (list_any (λ x. test x.message x.answer) es) h
 
-any_more : {X : Type 0} (Q : X → Type 0) (x : X) (xs : List X) → Any Q xs → Any Q (x ∷ xs)
+pub any_more : {X : Type 0} (Q : X → Type 0) (x : X) (xs : List X) → Any Q xs → Any Q (x ∷ xs)
 any_more Q x xs (k, y, lt, is, q) = (suc k, y, omega arith, is, q)
 
 module _ {K V A F C D Q B : Type 0} (S : Service K V A F C D Q B) (law : IsServiceLawful S) (e : Entry K V A F D Q B) (es : List (Entry K V A F D Q B)) (legal : IsLegal S (e ∷ es)) where

@@ -16,10 +16,6 @@ ghost use Rattle.txn_core.specs.declared.message.Message.{Message};
 ghost use Rattle.txn_core.specs.declared.answer.Answer.{Answer};
 ghost use Rattle.txn_core.specs.declared.entry.Entry.{Entry};
 ghost use Rattle.txn_core.specs.declared.stamp.Stamp.{Stamp};
-ghost use Rattle.txn_core.specs.declared.reason.Reason.{Reason};
-ghost use Rattle.txn_core.specs.declared.course.Move.{Move};
-ghost use Rattle.txn_core.specs.Course.{Told, next_move};
-ghost use Rattle.txn_core.specs.Driver.{Knows};
 
 use crate::rules::Rules;
 
@@ -78,14 +74,4 @@ pub fn real_causes<R: Rules>()
 /// the whole, so the entry that follows keeps the history legal.
 pub fn seen_is_enough<R: Rules>()
     ensures { (n : ℕ) (newer es : List (Entry R.Key R.Value R.Action R.Fault R.Command R.Question R.Told)) → IsLegal (R.protocol n) (newer ++ es) → (e : Entry R.Key R.Value R.Action R.Fault R.Command R.Question R.Told) → Allowed (R.protocol n) es e.pass e.message → IsAnswer (R.protocol n) (newer ++ es) e.moment e.message e.answer → e.cell ≡ sent_to (R.protocol n) e.message → IsTimely (newer ++ es) e.pass e.moment → IsLegal (R.protocol n) (e ∷ (newer ++ es)) }
-{}
-
-/// A course sends nothing that the protocol forbids: where a driver has seen in the history all that its course was told,
-/// the commit, each Apply, each Release and the Done that come next may be sent. That a cancel names its causes is left
-/// to the driver, since the course isn't told the items that were found.
-pub fn course_is_allowed<R: Rules>()
-    ensures commit { (n : ℕ) (es : List (Entry R.Key R.Value R.Action R.Fault R.Command R.Question R.Told)) (number : ℕ) (told : Told) → Knows (R.protocol n) es number told → (pass : ℕ) → next_move told ≡ Move.Commit → (reasons : List (Reason R.Value R.Fault)) → Allowed (R.protocol n) es pass (Message.Decide number true reasons) }
-    ensures apply { (n : ℕ) (es : List (Entry R.Key R.Value R.Action R.Fault R.Command R.Question R.Told)) (number : ℕ) (told : Told) → Knows (R.protocol n) es number told → (pass : ℕ) (place : ℕ) → next_move told ≡ Move.Apply place → (key : R.Key) → Allowed (R.protocol n) es pass (Message.Apply number key) }
-    ensures release { (n : ℕ) (es : List (Entry R.Key R.Value R.Action R.Fault R.Command R.Question R.Told)) (number : ℕ) (told : Told) → Knows (R.protocol n) es number told → (pass : ℕ) (place : ℕ) → next_move told ≡ Move.Release place → (key : R.Key) → Allowed (R.protocol n) es pass (Message.Release number key) }
-    ensures done { (n : ℕ) (es : List (Entry R.Key R.Value R.Action R.Fault R.Command R.Question R.Told)) (number : ℕ) (told : Told) → Knows (R.protocol n) es number told → (pass : ℕ) → next_move told ≡ Move.Done → Allowed (R.protocol n) es pass (Message.Done number) }
 {}

@@ -1,28 +1,36 @@
 //! Why the transactions have one serial order, and the way of one transaction through it.
 //!
-//! Cells answer [`Message`]s, and each step is an [`Entry`] of one history: which pass took it, at which cell, what was
-//! asked and answered, and when. A history is legal where each entry has the answer that its cell gives after those
-//! before it, and nobody sends what the protocol forbids: no commit before every action was accepted, no Apply before the
-//! commit, no Done before every Apply. The module [`laws`] has what holds of every legal history, whatever the schedule;
-//! each law is the contract of a function without parameters, generic over [`Rules`], so that no table is named here.
+//! Cells answer [`Message`]s, and each step is an [`Entry`] of one history: which pass took it, at
+//! which cell, what was asked and answered, and when. A history is legal where each entry has the
+//! answer that its cell gives after those before it, and nobody sends what the protocol forbids: no
+//! commit before every action was accepted, no Apply before the commit, no Done before every Apply.
+//! The module [`laws`] has what holds of every legal history, whatever the schedule; each law is
+//! the contract of a function without parameters, generic over [`Rules`], so that no table is named
+//! here.
 //!
-//! A [`Course`] tells the driver of one transaction what comes next. It is a plain value, what it was told so far decides
-//! what it says, and [`laws::course_is_allowed`] says that a driver who follows it sends nothing that is forbidden.
+//! Each cell can answer by itself: [`cells`] has the laws that a cell's own entries decide what it
+//! holds and answers.
 //!
-//! The definitions stand in `specs/` in reading order: `Protocol` and `Service` (what is asked of tables), `Effects`,
-//! `World` and `Runs` (what entries change, and when that may happen), `Serial` (the one order and its tables),
-//! `Answers`, `History` and `Legal` (legal histories), `Tokens`, `Course` and `Driver`, and `Laws`. `Simple` is one table
-//! of numbers on which they are tried; `proofs/Rows.antt` has worked histories, legal and not.
+//! A [`Course`] tells the driver of one transaction what comes next. It is a plain value, and what
+//! it was told so far decides what it says. [`driver`] has the laws on what a driver knows, and
+//! that a driver who follows the course sends nothing that is forbidden.
 //!
-//! Pages of rows and the feed of indexes change nothing that the laws speak of, and index rows and outboxes are no part
-//! of the state here: of a page it is said when it is Stale, of a feed message what it may be answered and what must
-//! have come before it, and nothing of the rows themselves.
+//! The definitions stand in `specs/` in reading order: `Protocol` and `Service` (what is asked of
+//! tables), `Effects`, `World` and `Runs` (what entries change, and when that may happen), `Serial`
+//! (the one order and its tables), `Answers`, `History` and `Legal` (legal histories), `Tokens`,
+//! `Course` and `Driver`, `Cells` (what the cells hold apart), and `Laws`. `Simple` is one table of
+//! numbers on which they are tried; `proofs/Rows.antt` has worked histories, legal and not.
+//!
+//! Pages of rows and the feed of indexes change nothing that the laws speak of, and index rows and
+//! outboxes are no part of the state here: of a page it is said when it is Stale, of a feed message
+//! what it may be answered and what must have come before it, and nothing of the rows themselves.
 #![tactic(auto)]
 
 mod answer;
 pub mod cells;
 mod course;
 mod deed;
+pub mod driver;
 mod entry;
 mod fate;
 pub mod laws;

@@ -1,7 +1,7 @@
 ghost use Rattle.txn_core.specs.Simple.{service};
 ghost use Rattle.txn_core.specs.SimpleLaws.{service_lawful};
 
-use crate::{Course, Fate, Move, Outcome, Rules, Ruling, Stamp, Verdict, cells, laws};
+use crate::{Course, Fate, Move, Outcome, Rules, Ruling, Stamp, Verdict, cells, driver, laws};
 use std::alloc::{AllocError as NoMemory, Global};
 use std::test::Fail;
 
@@ -163,7 +163,6 @@ fn laws_hold_of_a_table(rt: HostRuntime) -> Result<(), Fail> {
     laws::one_point_reads::<Simple>();
     laws::real_causes::<Simple>();
     laws::seen_is_enough::<Simple>();
-    laws::course_is_allowed::<Simple>();
     assert!(rt; Simple::is_same(&3, &3));
     assert!(rt; !Simple::is_same(&3, &4));
     Ok(())
@@ -174,6 +173,15 @@ fn cells_of_a_table_go_by_their_entries(_rt: HostRuntime) -> Result<(), Fail> {
     cells::own_entries_tell::<Simple>();
     cells::own_entries_answer::<Simple>();
     cells::seen_cells_are_enough::<Simple>();
+    Ok(())
+}
+
+#[test]
+fn drivers_on_a_table_know_what_they_need(_rt: HostRuntime) -> Result<(), Fail> {
+    driver::beginning_is_known::<Simple>();
+    driver::steps_are_known::<Simple>();
+    driver::knowledge_stays::<Simple>();
+    driver::course_is_allowed::<Simple>();
     Ok(())
 }
 
