@@ -14,13 +14,8 @@ use Rattle.txn_core.specs.History.{purged, found_kept, IsTimely}
 use Rattle.txn_core.specs.Legal.{IsInTheWay, ruling_answer, IsRuled, ArePendings, IsPendingList, IsPage, IsAnswer, sent_to, Follows, IsLegal}
 use Rattle.txn_core.specs.Cells.{of_cell, of_pass, state, IsAlike, AreAlike, HaveSameEntries, IsFirstHolder, IsClearThere, IsRuledByCells}
 use Rattle.txn_core.proofs.Basics.{holder_is}
-use Rattle.txn_core.proofs.Prefix.{still_allowed}
+use Rattle.txn_core.proofs.Prefix.{legal_before, still_allowed}
 use Rattle.txn_core.proofs.Locality.{own_entries_tell, alike_turned, same_entries_alike}
-
--- a beginning of a legal history is legal
-pub legal_before : {K V A F C D Q B : Type 0} (S : Service K V A F C D Q B) (newer es : List (Entry K V A F D Q B)) → IsLegal S (newer ++ es) → IsLegal S es
-legal_before S [] es legal = legal
-legal_before S (e ∷ newer) es legal = legal_before S newer es legal.0
 
 module _ {K V A F D Q B : Type 0} where
   -- the moments of a pass are those of its own entries

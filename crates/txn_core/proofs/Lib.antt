@@ -21,3 +21,5 @@ pub mod Reversed
 pub mod Knowing
 pub mod Locality
 pub mod CellAnswers
+pub mod OldestFirst
+pub mod Exports

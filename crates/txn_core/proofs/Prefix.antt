@@ -16,9 +16,22 @@ use Rattle.txn_core.proofs.Readings.{actions_read, stamp_read}
 use Rattle.txn_core.proofs.Grows.{grows}
 use Rattle.txn_core.proofs.LegalRuns.{legal_facts, legal_run}
 
+-- a beginning of a legal history is legal
+pub legal_before : {K V A F C D Q B : Type 0} (S : Service K V A F C D Q B) (newer es : List (Entry K V A F D Q B)) → IsLegal S (newer ++ es) → IsLegal S es
+legal_before S [] es legal = legal
+legal_before S (e ∷ newer) es legal = legal_before S newer es legal.0
+
 -- what was had is had later
 pub had_more : {K V A F D Q B : Type 0} (test : Message K V A F D Q → Answer K V A F B → Bool) (e : Entry K V A F D Q B) (es : List (Entry K V A F D Q B)) → Had test es → Had test (e ∷ es)
 had_more test e es h = or_right (test e.message e.answer) (list_any (λ x. test x.message x.answer) es) h
+
+pub had_stays : {K V A F D Q B : Type 0} (test : Message K V A F D Q → Answer K V A F B → Bool) (newer es : List (Entry K V A F D Q B)) → Had test es → Had test (newer ++ es)
+had_stays test [] es h = h
+had_stays test (e ∷ newer) es h = had_more test e (newer ++ es) (had_stays test newer es h)
+
+-- what each of a list had, it has later
+pub each_stays : {K V A F D Q B X : Type 0} (test : X → Message K V A F D Q → Answer K V A F B → Bool) (newer es : List (Entry K V A F D Q B)) (xs : List X) → All (λ x. Had (test x) es) xs → All (λ x. Had (test x) (newer ++ es)) xs
+each_stays test newer es xs h = λ k d lt. had_stays (test (slice_index_or xs k d)) newer es (h k d lt)
 
 pub any_more : {X : Type 0} (Q : X → Type 0) (x : X) (xs : List X) → Any Q xs → Any Q (x ∷ xs)
 any_more Q x xs (k, y, lt, is, q) = (suc k, y, omega arith, is, q)

@@ -1,0 +1,28 @@
+-- What layers above this one cite by name. Histories and effects are the newest first throughout.
+
+-- a legal history: its effects are a run; what its words say of the state; and its beginnings are legal
+pub use Rattle.txn_core.proofs.LegalRuns.{Facts, legal_facts, legal_run}
+pub use Rattle.txn_core.proofs.Prefix.{legal_before}
+-- what holds of the state after every run
+pub use Rattle.txn_core.proofs.Invariant.{GoodSpot, Good}
+pub use Rattle.txn_core.proofs.Kept.{good}
+-- what was had is had later, the actions and the stamp of a begun number stay, and so does what was allowed
+pub use Rattle.txn_core.proofs.Prefix.{had_more, had_stays, any_more, each_stays, same_actions, same_stamp, allowed_more, still_allowed}
+-- what the ledger says of a number was said in the history
+pub use Rattle.txn_core.proofs.Records.{had_now, was_begun, was_committed, was_cancelled, begun_apart, found_apart}
+-- the state, read off the effects
+pub use Rattle.txn_core.proofs.Readings.{catalog_read, actions_read, stamp_read, fate_read, applied_read, tab_read, base_read}
+-- the laws of the one order, of runs
+pub use Rattle.txn_core.proofs.SerialLaws.{waiting_is, holds_the_tables, rows_are_shown, decided_once, stands_once, outcome_at_commit, stamp_order}
+pub use Rattle.txn_core.proofs.Points.{point_forward, history_forward}
+-- the laws of reads, of refusals and of tokens, of legal histories
+pub use Rattle.txn_core.proofs.Causes.{real_holder, late_stamp, get_is_shown, read_at_one_point}
+pub use Rattle.txn_core.proofs.TokenLife.{drawn_once, later_begins}
+-- cells: what own entries tell and decide, and the step of who has seen them
+pub use Rattle.txn_core.proofs.Locality.{own_entries_tell, alike_turned, alike_on, same_entries_alike}
+pub use Rattle.txn_core.proofs.CellAnswers.{own_timely, timely_by_own, alike_answer, own_entries_answer, cells_answer, same_entries_answer, seen_cells_are_enough}
+-- drivers: what they know at first, after each step and ever after, and what they may send
+pub use Rattle.txn_core.proofs.Knowing.{begun, recalled, prepared, reasoned, decided, found, applied, released, finished, begun_stays, told_stays, reasons_stay}
+pub use Rattle.txn_core.proofs.Drives.{may_prepare, may_commit, may_cancel, may_apply, may_release, may_finish}
+-- histories that are kept oldest first
+pub use Rattle.txn_core.proofs.OldestFirst.{filter_reversed, of_cell_reversed, of_pass_reversed, newest, beginning_is_tail}
