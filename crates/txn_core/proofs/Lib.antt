@@ -21,5 +21,6 @@ pub mod Reversed
 pub mod Knowing
 pub mod Locality
 pub mod CellAnswers
+pub mod Moves
 pub mod OldestFirst
 pub mod Exports

@@ -11,7 +11,7 @@ ghost use Rattle.txn_core.specs.Serial.{begun_actions, decisions, serial, standi
 ghost use Rattle.txn_core.specs.History.{effect, effects, Had, IsTimely, is_over};
 ghost use Rattle.txn_core.specs.Tokens.{draws, first_done, LivesOn, Names};
 ghost use Rattle.txn_core.specs.Legal.{IsAnswer, Allowed, sent_to, IsLegal};
-ghost use Rattle.txn_core.specs.Laws.{row_of, HoldsTheTables, ActsAsAccepted, IsRealHolder, IsRealStamp};
+ghost use Rattle.txn_core.specs.Laws.{row_of, HoldsTheTables, ActsAsAccepted, IsRealHolder, IsRealStamp, FirstDecisionStands, OthersLeaveTheOrder, MovedIsReal};
 ghost use Rattle.txn_core.specs.declared.message.Message.{Message};
 ghost use Rattle.txn_core.specs.declared.answer.Answer.{Answer};
 ghost use Rattle.txn_core.specs.declared.entry.Entry.{Entry};
@@ -26,12 +26,16 @@ pub fn rows_are_shown<R: Rules>()
     ensures images { (n : ℕ) (es : List (Entry R.Key R.Value R.Action R.Fault R.Command R.Question R.Told)) → IsLegal (R.protocol n) es → (q : R.Key) (m : ℕ) → waiting (R.protocol n).core (effects es) q ≡ Some m → HoldsTheTables (R.protocol n).core (effects es) q m }
 {}
 
-/// [One fate]. Each number is decided at most once. A committed one stands in the one order once and whole, no other
-/// one stands there, and at its commit each of its actions does to the tables what its Prepare was accepted for.
+/// [One fate]. Each number is decided at most once: a later Decide doesn't decide. A committed one stands in the one
+/// order once and whole, no other one stands there, and at its commit each of its actions does to the tables what its
+/// Prepare was accepted for. No message but an accepted Write, the Decide that commits and a command that is carried out
+/// changes the order or its tables, be it repeated or late.
 pub fn one_fate<R: Rules>()
     ensures once { (n : ℕ) (es : List (Entry R.Key R.Value R.Action R.Fault R.Command R.Question R.Told)) → IsLegal (R.protocol n) es → (m : ℕ) → decisions (effects es) m ≤ 1 }
     ensures whole { (n : ℕ) (es : List (Entry R.Key R.Value R.Action R.Fault R.Command R.Question R.Told)) → IsLegal (R.protocol n) es → (m : ℕ) → standings (serial (effects es)) m ≡ once_whole (effects es) m }
     ensures accepted { (n : ℕ) (e : Entry R.Key R.Value R.Action R.Fault R.Command R.Question R.Told) (es : List (Entry R.Key R.Value R.Action R.Fault R.Command R.Question R.Told)) (m : ℕ) → IsLegal (R.protocol n) (e ∷ es) → effect e ≡ Commits m → (q : R.Key) (a : R.Action) → on_item (R.protocol n).core (begun_actions (effects es) m) q ≡ Some a → ActsAsAccepted (R.protocol n).core (effects es) m q a }
+    ensures first { (n : ℕ) → FirstDecisionStands (R.protocol n) }
+    ensures others { (n : ℕ) → OthersLeaveTheOrder (R.protocol n) }
 {}
 
 /// [Timestamp order]. Two transactions of the one order that share an item stand in the order of their stamps.
@@ -62,12 +66,14 @@ pub fn one_point_reads<R: Rules>()
     ensures { (n : ℕ) (newer middle es : List (Entry R.Key R.Value R.Action R.Fault R.Command R.Question R.Told)) → IsLegal (R.protocol n) (newer ++ (middle ++ es)) → (t u : ℕ) (key : R.Key) (first second : Option R.Value) (version : ℕ) (holds : Option ℕ) → IsAnswer (R.protocol n) es t (Message.ReadVersion key) (Answer.Version first version holds) → IsAnswer (R.protocol n) (newer ++ (middle ++ es)) u (Message.ReadVersion key) (Answer.Version second version None) → (first ≡ tables (R.protocol n).core (serial (effects (middle ++ es))) key) × (second ≡ tables (R.protocol n).core (serial (effects (middle ++ es))) key) }
 {}
 
-/// [Real causes], of Held and Late. The number of a Held holds the message's item, and of a Prepare it is another's; of a
+/// [Real causes]. The number of a Held holds the message's item, and of a Prepare it is another's; of a
 /// command it holds an item of its table. The stamp of a Late is the item's, or where it is absent the floor of its
-/// cell, and isn't earlier than the transaction's.
+/// cell, and isn't earlier than the transaction's. Where two reads of an item find two versions, an item of its cell was
+/// changed between them, or the catalog.
 pub fn real_causes<R: Rules>()
     ensures held { (n : ℕ) (es : List (Entry R.Key R.Value R.Action R.Fault R.Command R.Question R.Told)) (moment : ℕ) (m : Message R.Key R.Value R.Action R.Fault R.Command R.Question) (number : ℕ) → IsAnswer (R.protocol n) es moment m (Answer.Held number) → IsRealHolder (R.protocol n) es m number }
     ensures late { (n : ℕ) (es : List (Entry R.Key R.Value R.Action R.Fault R.Command R.Question R.Told)) (moment : ℕ) (number : ℕ) (stamp : Stamp) (action : R.Action) (t : Stamp) → IsAnswer (R.protocol n) es moment (Message.Prepare number stamp action) (Answer.Late t) → IsRealStamp (R.protocol n) es (Message.Prepare number stamp action) t }
+    ensures moved { (n : ℕ) → MovedIsReal (R.protocol n) }
 {}
 
 /// Who has seen only a beginning of the history may go by it: what may be sent after that beginning may be sent after

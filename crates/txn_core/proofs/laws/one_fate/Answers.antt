@@ -2,6 +2,7 @@ use Rattle.std.proofs.Common.{◌∷◌, subst}
 use Rattle.txn_core.specs.Runs.{IsRun}
 use Rattle.txn_core.specs.History.{effects}
 use Rattle.txn_core.proofs.SerialLaws.{decided_once, stands_once, outcome_at_commit}
+use Rattle.txn_core.proofs.Moves.{first_decision_stands, others_leave_the_order}
 use Rattle.txn_core.proofs.LegalRuns.{legal_run}
 use Rattle.txn_core.proofs.laws.one_fate.Goals as goal
 
@@ -15,4 +16,6 @@ returns g c =
       accepted = λ n e es m legal commit q a h.
           outcome_at_commit (S n).core (law n).core (effects es) m
           (subst (λ x. IsRun (S n).core (x ∷ effects es)) commit (legal_run (S n) (law n) (e ∷ es) legal)) q a h;
+      first = λ n. first_decision_stands (S n) (law n);
+      others = λ n. others_leave_the_order;
     }

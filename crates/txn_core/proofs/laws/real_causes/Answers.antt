@@ -1,4 +1,5 @@
 use Rattle.txn_core.proofs.Causes.{real_holder, late_stamp}
+use Rattle.txn_core.proofs.Moves.{moved_is_real}
 use Rattle.txn_core.proofs.laws.real_causes.Goals as goal
 
 pub returns : goal.returns
@@ -8,4 +9,5 @@ returns g c =
     record {
       held = λ n es moment m number is. real_holder (S n) (law n) es moment m number is;
       late = λ n es moment number stamp action t is. late_stamp (S n) (law n) es moment number stamp action t is;
+      moved = λ n. moved_is_real (S n) (law n);
     }
