@@ -11,10 +11,10 @@ use Rattle.txn_core.specs.Service.{Service, IsServiceLawful}
 use Rattle.txn_core.specs.World.{Pending, World, holder}
 use Rattle.txn_core.specs.Answers.{get_answer, write_answer, prepare_answer, apply_answer, release_answer, version_answer, begin_answer, has_record, decide_answer, done_answer, forget_answer, fate_answer, recall_answer, unfinished}
 use Rattle.txn_core.specs.History.{purged, found_kept, IsTimely}
-use Rattle.txn_core.specs.Legal.{IsInTheWay, ruling_answer, IsRuled, ArePendings, IsPendingList, IsPage, IsAnswer, sent_to, Follows, IsLegal}
+use Rattle.txn_core.specs.Legal.{IsInTheWay, ruling_answer, IsRuled, ArePendings, IsPendingList, IsPage, IsAnswer, Allowed, sent_to, IsLegal}
 use Rattle.txn_core.specs.Cells.{of_cell, of_pass, state, IsAlike, AreAlike, HaveSameEntries, IsFirstHolder, IsClearThere, IsRuledByCells}
 use Rattle.txn_core.proofs.Basics.{holder_is}
-use Rattle.txn_core.proofs.Prefix.{legal_before, still_allowed}
+use Rattle.txn_core.proofs.Prefix.{legal_before}
 use Rattle.txn_core.proofs.Locality.{own_entries_tell, alike_turned, same_entries_alike}
 
 module _ {K V A F D Q B : Type 0} where
@@ -208,14 +208,14 @@ module _ {K V A F C D Q B : Type 0} (S : Service K V A F C D Q B) where
         are_alike (Some i) same = same_entries_alike S law es fs legal legal' i same
         are_alike None same = λ i cell. same_entries_alike S law es fs legal legal' i (same i cell)
 
-    pub seen_cells_are_enough : (newer seen : List (Entry K V A F D Q B)) → IsLegal S (newer ++ seen) → (e : Entry K V A F D Q B) → HaveSameEntries S (sent_to S e.message) (newer ++ seen) seen → of_pass e.pass (newer ++ seen) ≡ of_pass e.pass seen → Follows S seen e → IsLegal S (e ∷ (newer ++ seen))
-    seen_cells_are_enough newer seen legal e same own next = (
+    pub seen_cells_are_enough : (newer seen : List (Entry K V A F D Q B)) → IsLegal S (newer ++ seen) → (e : Entry K V A F D Q B) → HaveSameEntries S (sent_to S e.message) (newer ++ seen) seen → of_pass e.pass (newer ++ seen) ≡ of_pass e.pass seen → IsAnswer S seen e.moment e.message e.answer → IsTimely seen e.pass e.moment → e.cell ≡ sent_to S e.message → Allowed S (newer ++ seen) e.pass e.message → IsLegal S (e ∷ (newer ++ seen))
+    seen_cells_are_enough newer seen legal e same own answer timely cell allowed = (
       legal,
       record {
-        answer = same_entries_answer seen (newer ++ seen) (legal_before S newer seen legal) legal e.message (turned (sent_to S e.message) same) e.moment e.answer next.answer;
-        allowed = still_allowed S law newer seen legal e.pass e.message next.allowed;
-        cell = next.cell;
-        timely = timely_by_own (newer ++ seen) e.pass e.moment (subst (λ es. IsTimely es e.pass e.moment) (sym own) (own_timely seen e.pass e.moment next.timely));
+        answer = same_entries_answer seen (newer ++ seen) (legal_before S newer seen legal) legal e.message (turned (sent_to S e.message) same) e.moment e.answer answer;
+        allowed = allowed;
+        cell = cell;
+        timely = timely_by_own (newer ++ seen) e.pass e.moment (subst (λ es. IsTimely es e.pass e.moment) (sym own) (own_timely seen e.pass e.moment timely));
       },
     )
       where

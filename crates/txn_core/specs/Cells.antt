@@ -6,8 +6,8 @@ use Rattle.txn_core.specs.declared.answer.Answer.{Answer}
 use Rattle.txn_core.specs.declared.entry.Entry.{Entry}
 use Rattle.txn_core.specs.Service.{Service}
 use Rattle.txn_core.specs.World.{Pending, Spot, World, holder, world}
-use Rattle.txn_core.specs.History.{effects, reasons_of, kept}
-use Rattle.txn_core.specs.Legal.{IsAnswer, ruling_answer, sent_to, Follows, IsLegal}
+use Rattle.txn_core.specs.History.{effects, reasons_of, kept, IsTimely}
+use Rattle.txn_core.specs.Legal.{IsAnswer, ruling_answer, Allowed, sent_to, IsLegal}
 
 -- what a cell holds of one item: the committed row with its stamp and version, and the pending on it
 pub record Item (V : Type 0) : Type 0 where
@@ -100,8 +100,8 @@ module _ {K V A F C D Q B : Type 0} (S : Service K V A F C D Q B) where
   SameEntriesAnswer =
       (es fs : List (Entry K V A F D Q B)) → IsLegal S es → IsLegal S fs → (m : Message K V A F D Q) → HaveSameEntries (sent_to S m) es fs → (moment : ℕ) (a : Answer K V A F B) → IsAnswer S es moment m a → IsAnswer S fs moment m a
 
-  -- an entry that may follow what a pass has seen, by all of its own entries and all those of the cells that it asks, may
-  -- follow the whole history
+  -- where a pass has seen all of its own entries and all those of the cells that it asks, the answer and the moment of its
+  -- entry fit the whole history as they fit what it has seen
   abbrev pub SeenCellsAreEnough : Type 0
   SeenCellsAreEnough =
-      (newer seen : List (Entry K V A F D Q B)) → IsLegal S (newer ++ seen) → (e : Entry K V A F D Q B) → HaveSameEntries (sent_to S e.message) (newer ++ seen) seen → of_pass e.pass (newer ++ seen) ≡ of_pass e.pass seen → Follows S seen e → IsLegal S (e ∷ (newer ++ seen))
+      (newer seen : List (Entry K V A F D Q B)) → IsLegal S (newer ++ seen) → (e : Entry K V A F D Q B) → HaveSameEntries (sent_to S e.message) (newer ++ seen) seen → of_pass e.pass (newer ++ seen) ≡ of_pass e.pass seen → IsAnswer S seen e.moment e.message e.answer → IsTimely seen e.pass e.moment → e.cell ≡ sent_to S e.message → Allowed S (newer ++ seen) e.pass e.message → IsLegal S (e ∷ (newer ++ seen))
