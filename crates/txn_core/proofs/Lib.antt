@@ -15,6 +15,7 @@ pub mod Prefix
 pub mod Versions
 pub mod TokenLife
 mod Rows
+mod ApartRows
 pub mod Records
 pub mod Drives
 pub mod Reversed
