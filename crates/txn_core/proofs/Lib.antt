@@ -20,6 +20,7 @@ pub mod Records
 pub mod Drives
 pub mod Reversed
 pub mod Knowing
+pub mod Fated
 pub mod Locality
 pub mod CellAnswers
 pub mod Moves

@@ -1,5 +1,5 @@
 -- What a driver of a transaction knows from the history that it has seen, beside what its course was told.
-use Rattle.std.specs.Prelude.{◌≡◌, ◌≢◌, ℕ, ◌<◌, ◌≤◌, Bool, true, false, List, [], ◌∷◌, ◌++◌, length, map, slice_get, Option, None, Some, if◌then◌else◌}
+use Rattle.std.specs.Prelude.{◌≡◌, ◌≢◌, ℕ, ◌<◌, ◌≤◌, Bool, true, false, ◌&&◌, nat_eq, List, [], ◌∷◌, ◌++◌, length, map, slice_get, Option, None, Some, if◌then◌else◌}
 use Rattle.std.specs.List.{list_any}
 use Rattle.txn_core.specs.declared.stamp.Stamp.{Stamp}
 use Rattle.txn_core.specs.declared.fate.Fate.{Fate}
@@ -12,8 +12,10 @@ use Rattle.txn_core.specs.declared.entry.Entry.{Entry}
 use Rattle.txn_core.specs.declared.course.Move.{Move}
 use Rattle.txn_core.specs.Course.{Told, is_accepted, next_move, with_verdict, with_fate, with_done}
 use Rattle.txn_core.specs.Service.{Service}
-use Rattle.txn_core.specs.Serial.{begun_stamp, begun_actions}
-use Rattle.txn_core.specs.History.{effects, Had, begins, commits, cancels, finds_no_table}
+use Rattle.txn_core.specs.World.{world}
+use Rattle.txn_core.specs.Serial.{begun_stamp, begun_actions, serial, standings}
+use Rattle.txn_core.specs.Answers.{has_record}
+use Rattle.txn_core.specs.History.{effects, Had, begins, commits, cancels, forgets, finds_no_table, is_own_begin}
 use Rattle.txn_core.specs.Legal.{accepts, applies, releases, WasTold, Allowed, IsLegal}
 
 -- a step of a history
@@ -119,3 +121,14 @@ module _ {K V A F C D Q B : Type 0} (S : Service K V A F C D Q B) where
     pub apply : (es : List (Entry K V A F D Q B)) (n : ℕ) (told : Told) → Knows es n told → (pass place : ℕ) → next_move told ≡ Move.Apply place → (key : K) → Allowed S es pass (Message.Apply n key)
     pub release : (es : List (Entry K V A F D Q B)) (n : ℕ) (told : Told) → Knows es n told → (pass place : ℕ) → next_move told ≡ Move.Release place → (key : K) → Allowed S es pass (Message.Release n key)
     pub done : (es : List (Entry K V A F D Q B)) (n : ℕ) (told : Told) → Knows es n told → (pass : ℕ) → next_move told ≡ Move.Done → Allowed S es pass (Message.Done n)
+
+  -- what a decided number's end is: committed it stands in the one order once, with its stamp and its actions; cancelled it
+  -- stands nowhere there
+  pub record EndIsKnown : Type 0 where
+    pub committed : (es : List (Entry K V A F D Q B)) → IsLegal S es → (n : ℕ) (stamp : Stamp) (actions : List A) → KnowsBegun es n stamp actions → Had (commits n) es → standings (serial (effects es)) n ≡ (stamp, actions) ∷ []
+    pub cancelled : (es : List (Entry K V A F D Q B)) → IsLegal S es → (n : ℕ) → Had (cancels n) es → standings (serial (effects es)) n ≡ []
+
+  -- a number that a pass drew has its record until this pass has it forgotten
+  abbrev pub OwnNumberIsKept : Type 0
+  OwnNumberIsKept =
+      (es : List (Entry K V A F D Q B)) → IsLegal S es → (pass n : ℕ) → list_any (is_own_begin pass n) es ≡ true → list_any (λ e. nat_eq e.pass pass && forgets n e.message e.answer) es ≡ false → has_record (world S.core (effects es)).ledger n ≡ true

@@ -7,7 +7,7 @@
 //! first, after each step that its course asks for, and ever after, and that the step which comes
 //! next is then allowed.
 ghost use Rattle.std.specs.Prelude.{ℕ};
-ghost use Rattle.txn_core.specs.Driver.{BeginningIsKnown, StepsAreKnown, KnowledgeStays, CourseIsAllowed};
+ghost use Rattle.txn_core.specs.Driver.{BeginningIsKnown, StepsAreKnown, KnowledgeStays, CourseIsAllowed, EndIsKnown, OwnNumberIsKept};
 
 use crate::rules::Rules;
 
@@ -33,4 +33,16 @@ pub fn knowledge_stays<R: Rules>()
 /// the driver found, or none where it found a table gone.
 pub fn course_is_allowed<R: Rules>()
     ensures { (n : ℕ) → CourseIsAllowed (R.protocol n) }
+{}
+
+/// What a driver's end means: a committed transaction stands in the one order once, with its stamp
+/// and its actions, and a cancelled one stands nowhere there.
+pub fn end_is_known<R: Rules>()
+    ensures { (n : ℕ) → EndIsKnown (R.protocol n) }
+{}
+
+/// A number that a pass drew has its record until this pass has it forgotten, whatever others do. So
+/// until then the pass is told its fate, and its Done is answered Finished.
+pub fn own_number_is_kept<R: Rules>()
+    ensures { (n : ℕ) → OwnNumberIsKept (R.protocol n) }
 {}

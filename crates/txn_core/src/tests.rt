@@ -182,6 +182,8 @@ fn drivers_on_a_table_know_what_they_need(_rt: HostRuntime) -> Result<(), Fail> 
     driver::steps_are_known::<Simple>();
     driver::knowledge_stays::<Simple>();
     driver::course_is_allowed::<Simple>();
+    driver::end_is_known::<Simple>();
+    driver::own_number_is_kept::<Simple>();
     Ok(())
 }
 
