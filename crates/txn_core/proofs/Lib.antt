@@ -23,6 +23,7 @@ pub mod Knowing
 pub mod Fated
 pub mod Locality
 pub mod CellAnswers
+pub mod Writes
 pub mod Moves
 pub mod OldestFirst
 pub mod Exports

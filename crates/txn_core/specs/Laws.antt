@@ -6,7 +6,7 @@ use Rattle.txn_core.specs.declared.message.Message.{Message}
 use Rattle.txn_core.specs.declared.answer.Answer.{Answer}
 use Rattle.txn_core.specs.declared.entry.Entry.{Entry}
 use Rattle.txn_core.specs.Stamps.{IsBy}
-use Rattle.txn_core.specs.declared.outcome.Outcome.TheVariants.{New}
+use Rattle.txn_core.specs.declared.outcome.Outcome.TheVariants.{New, Unmet, Fails}
 use Rattle.txn_core.specs.Protocol.{Protocol}
 use Rattle.txn_core.specs.Service.{Service}
 use Rattle.txn_core.specs.Effects.{Effect}
@@ -82,3 +82,24 @@ module _ {K V A F C D Q B : Type 0} (S : Service K V A F C D Q B) where
   abbrev pub MovedIsReal : Type 0
   MovedIsReal =
       (newer es : List (Entry K V A F D Q B)) (t u : ℕ) (key : K) (first second : Option V) (v w : ℕ) (h k : Option ℕ) → IsAnswer S es t (Message.ReadVersion key) (Answer.Version first v h) → IsAnswer S (newer ++ es) u (Message.ReadVersion key) (Answer.Version second w k) → v ≢ w → Had (changes_cell (S.core.cell_of key)) newer
+
+  -- a write's answer is what the tables before it say: it found their item and made what its action makes of it; its
+  -- condition is false of it, or its action can't be evaluated on it; the table is not there; or its item is held
+  abbrev pub IsSerialWrite : List (Entry K V A F D Q B) → A → Answer K V A F B → Type 0
+  IsSerialWrite es action (Answer.Written old new) =
+      let order = serial (effects es) in (old ≡ tables S.core order (S.core.key_of action)) × (S.core.act (catalog_of S.core order) action old ≡ New new)
+  IsSerialWrite es action (Answer.CondFalse old) =
+      let order = serial (effects es) in (old ≡ tables S.core order (S.core.key_of action)) × (S.core.act (catalog_of S.core order) action old ≡ Unmet)
+  IsSerialWrite es action (Answer.Invalid fault) =
+      let order = serial (effects es) in S.core.act (catalog_of S.core order) action (tables S.core order (S.core.key_of action)) ≡ Fails fault
+  IsSerialWrite es action Answer.Stale = S.core.there (catalog_of S.core (serial (effects es))) (S.core.key_of action) ≡ false
+  IsSerialWrite es action (Answer.Held n) = IsRealHolder S es (Message.Write action) n
+  IsSerialWrite es action _ = ⊥
+
+  abbrev pub WritesAreSerial : Type 0
+  WritesAreSerial =
+      (es : List (Entry K V A F D Q B)) → IsLegal S es → (moment : ℕ) (action : A) (a : Answer K V A F B) → IsAnswer S es moment (Message.Write action) a → IsSerialWrite es action a
+
+  -- the catalog that the cells hold is that of the one order
+  abbrev pub CatalogIsSerial : Type 0
+  CatalogIsSerial = (es : List (Entry K V A F D Q B)) → (world S.core (effects es)).catalog ≡ catalog_of S.core (serial (effects es))

@@ -11,7 +11,7 @@ ghost use Rattle.txn_core.specs.Serial.{begun_actions, decisions, serial, standi
 ghost use Rattle.txn_core.specs.History.{effect, effects, Had, IsTimely, is_over};
 ghost use Rattle.txn_core.specs.Tokens.{draws, first_done, LivesOn, Names};
 ghost use Rattle.txn_core.specs.Legal.{IsAnswer, Allowed, sent_to, IsLegal};
-ghost use Rattle.txn_core.specs.Laws.{row_of, HoldsTheTables, ActsAsAccepted, IsRealHolder, IsRealStamp, FirstDecisionStands, OthersLeaveTheOrder, MovedIsReal};
+ghost use Rattle.txn_core.specs.Laws.{row_of, HoldsTheTables, ActsAsAccepted, IsRealHolder, IsRealStamp, FirstDecisionStands, OthersLeaveTheOrder, MovedIsReal, WritesAreSerial, CatalogIsSerial};
 ghost use Rattle.txn_core.specs.declared.message.Message.{Message};
 ghost use Rattle.txn_core.specs.declared.answer.Answer.{Answer};
 ghost use Rattle.txn_core.specs.declared.entry.Entry.{Entry};
@@ -36,6 +36,14 @@ pub fn one_fate<R: Rules>()
     ensures accepted { (n : ℕ) (e : Entry R.Key R.Value R.Action R.Fault R.Command R.Question R.Told) (es : List (Entry R.Key R.Value R.Action R.Fault R.Command R.Question R.Told)) (m : ℕ) → IsLegal (R.protocol n) (e ∷ es) → effect e ≡ Commits m → (q : R.Key) (a : R.Action) → on_item (R.protocol n).core (begun_actions (effects es) m) q ≡ Some a → ActsAsAccepted (R.protocol n).core (effects es) m q a }
     ensures first { (n : ℕ) → FirstDecisionStands (R.protocol n) }
     ensures others { (n : ℕ) → OthersLeaveTheOrder (R.protocol n) }
+{}
+
+/// [Serial], [Tables]. A write is answered by the tables of the one order before it: it found their
+/// item and made of it what its action makes, or it names why not. The catalog that the cells hold is
+/// that of the one order.
+pub fn writes_are_serial<R: Rules>()
+    ensures writes { (n : ℕ) → WritesAreSerial (R.protocol n) }
+    ensures catalog { (n : ℕ) → CatalogIsSerial (R.protocol n) }
 {}
 
 /// [Timestamp order]. Two transactions of the one order that share an item stand in the order of their stamps.

@@ -157,6 +157,7 @@ impl Rules for Simple {
 fn laws_hold_of_a_table(rt: HostRuntime) -> Result<(), Fail> {
     laws::rows_are_shown::<Simple>();
     laws::one_fate::<Simple>();
+    laws::writes_are_serial::<Simple>();
     laws::timestamp_order::<Simple>();
     laws::token_once::<Simple>();
     laws::reads_go_forward::<Simple>();
