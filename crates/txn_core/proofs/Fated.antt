@@ -1,9 +1,10 @@
 -- What the end of a number is, and that a number stays known until its own pass has it forgotten.
-use Rattle.std.proofs.Common.{◌≡◌, ◌⊎◌, inl, inr, ℕ, ◌≤◌, Bool, true, false, not, ◌&&◌, ◌||◌, nat_eq, List, [], ◌∷◌, if◌then◌else◌, refl, sym, ap, ◌∙◌, subst, arith}
+use Rattle.std.proofs.Common.{◌≡◌, ◌⊎◌, inl, inr, ℕ, ◌≤◌, Bool, true, false, not, ◌&&◌, ◌||◌, nat_eq, List, [], ◌∷◌, ◌++◌, Option, if◌then◌else◌, refl, sym, ap, ◌∙◌, subst, arith}
 use Rattle.std.specs.List.{list_any, list_all}
-use Rattle.std.proofs.lemmas.Bool.{and_parts, or_cases, or_right, eqb-true, eq-eqb, le-leb, lt-ltb}
+use Rattle.std.proofs.lemmas.Bool.{cond_both, and_parts, or_cases, or_right, eqb-true, eq-eqb, le-leb, lt-ltb}
 use Rattle.txn_core.specs.declared.stamp.Stamp.{Stamp}
 use Rattle.txn_core.specs.declared.fate.Fate.{Fate}
+use Rattle.txn_core.specs.declared.reason.Reason.{Reason}
 use Rattle.txn_core.specs.declared.message.Message.{Message}
 use Rattle.txn_core.specs.declared.answer.Answer.{Answer}
 use Rattle.txn_core.specs.declared.entry.Entry.{Entry}
@@ -11,15 +12,17 @@ use Rattle.txn_core.specs.Service.{Service, IsServiceLawful}
 use Rattle.txn_core.specs.Effects.{Effect, Wrote, Prepared, Applied, Released, Finished, Forgot, Changed}
 use Rattle.txn_core.specs.World.{World, step, world}
 use Rattle.txn_core.specs.Serial.{begun_stamp, begun_actions, serial, standings, is_committed}
-use Rattle.txn_core.specs.Answers.{has_record}
-use Rattle.txn_core.specs.History.{is_begun, is_forgotten, where_so, begin_effect, decide_effect, effect_of, effect, effects, Had, begins, commits, cancels, forgets, is_own_begin, found_kept}
+use Rattle.txn_core.specs.Answers.{has_record, recall_answer}
+use Rattle.txn_core.specs.History.{is_begun, is_forgotten, where_so, begin_effect, decide_effect, effect_of, effect, effects, Had, begins, commits, cancels, forgets, is_own_begin, is_first, reasons_in, reasons_of, found_kept}
 use Rattle.txn_core.specs.Legal.{IsAnswer, Allowed, IsLegal}
-use Rattle.txn_core.specs.Driver.{KnowsBegun}
+use Rattle.txn_core.specs.Driver.{entry, KnowsBegun}
 use Rattle.txn_core.proofs.Basics.{at_split, true_false}
 use Rattle.txn_core.proofs.Grows.{grows}
 use Rattle.txn_core.proofs.LegalRuns.{legal_facts, legal_run}
 use Rattle.txn_core.proofs.Readings.{is_commit, fate_read}
 use Rattle.txn_core.proofs.SerialLaws.{stands_once}
+use Rattle.txn_core.proofs.Prefix.{had_stays}
+use Rattle.txn_core.proofs.Moves.{first_decision_stands}
 use Rattle.txn_core.proofs.Records.{begun_next}
 
 module _ {K V A F C D Q B : Type 0} (S : Service K V A F C D Q B) (law : IsServiceLawful S) where
@@ -155,3 +158,40 @@ module _ {K V A F C D Q B : Type 0} (S : Service K V A F C D Q B) (law : IsServi
           let by = forgotten_by es legal n is in
           let same : by.0 ≡ pass = one_drawer es legal by.0 pass n by.2 own in
           true_false (list_any (λ e. nat_eq e.pass pass && forgets n e.message e.answer) es) (subst (λ q. list_any (λ e. nat_eq e.pass q && forgets n e.message e.answer) es ≡ true) same by.1) kept
+
+  -- the reasons of a decision
+  pub reasons_decided : (es : List (Entry K V A F D Q B)) (pass moment n : ℕ) (cell : Option ℕ) (commit : Bool) (reasons : List (Reason V F)) (fate : Fate) → reasons_of (entry pass cell (Message.Decide n commit reasons) (Answer.Decided fate true) moment ∷ es) n ≡ reasons
+  reasons_decided es pass moment n cell commit reasons fate = ap (λ b. if b && true then reasons else reasons_of es n) (eq-eqb n n refl)
+
+  reasons_told : (recorded : Bool) (f g : Fate) (s t : Stamp) (xs ys : List A) (rs qs : List (Reason V F)) → Answer.Known f s xs rs ≡ recall_answer {K = K} {V = V} {A = A} {F = F} {B = B} recorded g t ys qs → qs ≡ rs
+  reasons_told true f g s t xs ys rs qs e = cc
+  reasons_told false f g s t xs ys rs qs e = absurd (cc)
+
+  pub reasons_recalled : (es : List (Entry K V A F D Q B)) (moment n : ℕ) (fate : Fate) (actions : List A) (stamp : Stamp) (reasons : List (Reason V F)) → IsAnswer S es moment (Message.Recall n) (Answer.Known fate stamp actions reasons) → reasons_of es n ≡ reasons
+  reasons_recalled es moment n fate actions stamp reasons is =
+      let l = (world S.core (effects es)).ledger in
+      reasons_told (has_record l n) fate (l.fate n) stamp (l.stamp n) actions (l.actions n) reasons (reasons_of es n) is
+
+  -- one more entry, after the decision
+  reasons_after : (e : Entry K V A F D Q B) (es : List (Entry K V A F D Q B)) → IsLegal S (e ∷ es) → (n : ℕ) → Had (commits n) es ⊎ Had (cancels n) es → reasons_of (e ∷ es) n ≡ reasons_of es n
+  reasons_after e es legal n decided = by_message e.message e.answer legal.1.answer
+    where
+      by_message : (m : Message K V A F D Q) (a : Answer K V A F B) → IsAnswer S es e.moment m a → reasons_in n m a (reasons_of es n) ≡ reasons_of es n
+      by_message (Message.Decide m commit reasons) a is =
+          cond_both (nat_eq m n) (if is_first a then reasons else reasons_of es n) (reasons_of es n) (λ x. x ≡ reasons_of es n → (if nat_eq m n && is_first a then reasons else reasons_of es n) ≡ reasons_of es n)
+          (λ same h. ap (λ b. if b && is_first a then reasons else reasons_of es n) same ∙ h)
+          (λ other h. ap (λ b. if b && is_first a then reasons else reasons_of es n) other)
+          (cond_both (nat_eq m n) (if is_first a then reasons else reasons_of es n) (reasons_of es n) (λ x. x ≡ reasons_of es n)
+          (λ same.
+          let again = first_decision_stands S law es legal.0 n decided e.moment commit reasons a (subst (λ k. IsAnswer S es e.moment (Message.Decide k commit reasons) a) (eqb-true m n same) is) in
+          ap (λ b. if b then reasons else reasons_of es n) again)
+          (λ other. refl))
+      by_message _ a is = refl
+
+  pub reasons_of_stay : (newer es : List (Entry K V A F D Q B)) → IsLegal S (newer ++ es) → (n : ℕ) → Had (commits n) es ⊎ Had (cancels n) es → reasons_of (newer ++ es) n ≡ reasons_of es n
+  reasons_of_stay [] es legal n decided = refl
+  reasons_of_stay (e ∷ newer) es legal n decided = reasons_after e (newer ++ es) legal n (still decided) ∙ reasons_of_stay newer es legal.0 n decided
+    where
+      still : Had (commits n) es ⊎ Had (cancels n) es → Had (commits n) (newer ++ es) ⊎ Had (cancels n) (newer ++ es)
+      still (inl h) = inl (had_stays (commits n) newer es h)
+      still (inr h) = inr (had_stays (cancels n) newer es h)

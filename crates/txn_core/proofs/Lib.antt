@@ -20,10 +20,10 @@ pub mod Records
 pub mod Drives
 pub mod Reversed
 pub mod Knowing
-pub mod Fated
 pub mod Locality
 pub mod CellAnswers
 pub mod Writes
 pub mod Moves
+pub mod Fated
 pub mod OldestFirst
 pub mod Exports

@@ -1,5 +1,5 @@
 -- What a driver of a transaction knows from the history that it has seen, beside what its course was told.
-use Rattle.std.specs.Prelude.{◌≡◌, ◌≢◌, ℕ, ◌<◌, ◌≤◌, Bool, true, false, ◌&&◌, nat_eq, List, [], ◌∷◌, ◌++◌, length, map, slice_get, Option, None, Some, if◌then◌else◌}
+use Rattle.std.specs.Prelude.{◌≡◌, ◌≢◌, ◌⊎◌, ℕ, ◌<◌, ◌≤◌, Bool, true, false, ◌&&◌, nat_eq, List, [], ◌∷◌, ◌++◌, length, map, slice_get, Option, None, Some, if◌then◌else◌}
 use Rattle.std.specs.List.{list_any}
 use Rattle.txn_core.specs.declared.stamp.Stamp.{Stamp}
 use Rattle.txn_core.specs.declared.fate.Fate.{Fate}
@@ -15,8 +15,8 @@ use Rattle.txn_core.specs.Service.{Service}
 use Rattle.txn_core.specs.World.{world}
 use Rattle.txn_core.specs.Serial.{begun_stamp, begun_actions, serial, standings}
 use Rattle.txn_core.specs.Answers.{has_record}
-use Rattle.txn_core.specs.History.{effects, Had, begins, commits, cancels, forgets, finds_no_table, is_own_begin}
-use Rattle.txn_core.specs.Legal.{accepts, applies, releases, WasTold, Allowed, IsLegal}
+use Rattle.txn_core.specs.History.{effects, Had, begins, commits, cancels, forgets, finds_no_table, is_own_begin, reasons_of}
+use Rattle.txn_core.specs.Legal.{accepts, applies, releases, WasTold, IsAnswer, Allowed, IsLegal}
 
 -- a step of a history
 abbrev pub entry : {K V A F D Q B : Type 0} → ℕ → Option ℕ → Message K V A F D Q → Answer K V A F B → ℕ → Entry K V A F D Q B
@@ -132,3 +132,9 @@ module _ {K V A F C D Q B : Type 0} (S : Service K V A F C D Q B) where
   abbrev pub OwnNumberIsKept : Type 0
   OwnNumberIsKept =
       (es : List (Entry K V A F D Q B)) → IsLegal S es → (pass n : ℕ) → list_any (is_own_begin pass n) es ≡ true → list_any (λ e. nat_eq e.pass pass && forgets n e.message e.answer) es ≡ false → has_record (world S.core (effects es)).ledger n ≡ true
+
+  -- the reasons of a number's decision: those that the deciding message carried, which its record tells, and which stay
+  pub record ReasonsAreKnown : Type 0 where
+    pub decided : (es : List (Entry K V A F D Q B)) (pass moment n : ℕ) (cell : Option ℕ) (commit : Bool) (reasons : List (Reason V F)) (fate : Fate) → reasons_of (entry pass cell (Message.Decide n commit reasons) (Answer.Decided fate true) moment ∷ es) n ≡ reasons
+    pub recalled : (es : List (Entry K V A F D Q B)) (moment n : ℕ) (fate : Fate) (actions : List A) (stamp : Stamp) (reasons : List (Reason V F)) → IsAnswer S es moment (Message.Recall n) (Answer.Known fate stamp actions reasons) → reasons_of es n ≡ reasons
+    pub stays : (newer es : List (Entry K V A F D Q B)) → IsLegal S (newer ++ es) → (n : ℕ) → Had (commits n) es ⊎ Had (cancels n) es → reasons_of (newer ++ es) n ≡ reasons_of es n

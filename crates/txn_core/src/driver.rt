@@ -7,7 +7,7 @@
 //! first, after each step that its course asks for, and ever after, and that the step which comes
 //! next is then allowed.
 ghost use Rattle.std.specs.Prelude.{ℕ};
-ghost use Rattle.txn_core.specs.Driver.{BeginningIsKnown, StepsAreKnown, KnowledgeStays, CourseIsAllowed, EndIsKnown, OwnNumberIsKept};
+ghost use Rattle.txn_core.specs.Driver.{BeginningIsKnown, StepsAreKnown, KnowledgeStays, CourseIsAllowed, EndIsKnown, OwnNumberIsKept, ReasonsAreKnown};
 
 use crate::rules::Rules;
 
@@ -45,4 +45,10 @@ pub fn end_is_known<R: Rules>()
 /// until then the pass is told its fate, and its Done is answered Finished.
 pub fn own_number_is_kept<R: Rules>()
     ensures { (n : ℕ) → OwnNumberIsKept (R.protocol n) }
+{}
+
+/// The reasons of a number's decision are those that the deciding message carried. Its record tells
+/// them, and they stay.
+pub fn reasons_are_known<R: Rules>()
+    ensures { (n : ℕ) → ReasonsAreKnown (R.protocol n) }
 {}
