@@ -27,5 +27,7 @@ pub use Rattle.txn_core.proofs.CellAnswers.{own_timely, timely_by_own, alike_ans
 pub use Rattle.txn_core.proofs.Knowing.{begun, recalled, prepared, reasoned, decided, found, applied, released, finished, begun_stays, told_stays, reasons_stay}
 pub use Rattle.txn_core.proofs.Drives.{may_prepare, may_commit, may_cancel, may_apply, may_release, may_finish}
 pub use Rattle.txn_core.proofs.Fated.{committed_end, cancelled_end, begun_positive, one_drawer, own_number_is_kept, reasons_decided, reasons_recalled, reasons_of_stay}
+pub use Rattle.txn_core.proofs.CourseEnds.{ended, left}
+pub use Rattle.txn_core.proofs.CourseEnds.{prepared as prepare_lessens, decided as decision_lessens, done as done_lessens}
 -- histories that are kept oldest first
 pub use Rattle.txn_core.proofs.OldestFirst.{filter_reversed, of_cell_reversed, of_pass_reversed, newest, beginning_is_tail}

@@ -18,6 +18,7 @@ mod Rows
 mod ApartRows
 pub mod Records
 pub mod Drives
+pub mod CourseEnds
 pub mod Reversed
 pub mod Knowing
 pub mod Locality

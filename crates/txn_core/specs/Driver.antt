@@ -1,16 +1,17 @@
 -- What a driver of a transaction knows from the history that it has seen, beside what its course was told.
-use Rattle.std.specs.Prelude.{◌≡◌, ◌≢◌, ◌⊎◌, ℕ, ◌<◌, ◌≤◌, Bool, true, false, ◌&&◌, nat_eq, List, [], ◌∷◌, ◌++◌, length, map, slice_get, Option, None, Some, if◌then◌else◌}
+use Rattle.std.specs.Prelude.{◌≡◌, ◌≢◌, ◌⊎◌, ◌↔◌, ℕ, ◌+◌, ◌-◌, ◌<◌, ◌≤◌, Bool, true, false, ◌&&◌, nat_eq, List, [], ◌∷◌, ◌++◌, length, map, slice_get, Option, None, Some, if◌then◌else◌}
 use Rattle.std.specs.List.{list_any}
 use Rattle.txn_core.specs.declared.stamp.Stamp.{Stamp}
 use Rattle.txn_core.specs.declared.fate.Fate.{Fate}
-use Rattle.txn_core.specs.declared.fate.Fate.TheVariants.{Undecided, Committed, Cancelled}
+use Rattle.txn_core.specs.declared.fate.Fate.TheVariants.{Undecided, Committed, Cancelled, Gone}
 use Rattle.txn_core.specs.declared.verdict.Verdict.{Verdict}
 use Rattle.txn_core.specs.declared.reason.Reason.{Reason}
 use Rattle.txn_core.specs.declared.message.Message.{Message}
 use Rattle.txn_core.specs.declared.answer.Answer.{Answer}
 use Rattle.txn_core.specs.declared.entry.Entry.{Entry}
+use Rattle.txn_core.specs.declared.course.Course.{Course}
 use Rattle.txn_core.specs.declared.course.Move.{Move}
-use Rattle.txn_core.specs.Course.{Told, is_accepted, next_move, with_verdict, with_fate, with_done}
+use Rattle.txn_core.specs.Course.{Told, IsToldSo, is_accepted, next_move, with_verdict, with_fate, with_done}
 use Rattle.txn_core.specs.Service.{Service}
 use Rattle.txn_core.specs.World.{world}
 use Rattle.txn_core.specs.Serial.{begun_stamp, begun_actions, serial, standings}
@@ -25,6 +26,34 @@ entry pass cell m a moment = record { pass = pass; cell = cell; message = m; ans
 -- a course of so many actions, to which nothing was told yet
 abbrev pub told_nothing : ℕ → Told
 told_nothing actions = record { actions = actions; verdicts = []; fate = Undecided; done = 0 }
+
+-- how many moves a course has left at most: those before the decision, the decision, one an action after it, and the Done
+abbrev pub moves_at : Fate → Told → ℕ
+moves_at Undecided told = (told.actions - length told.verdicts) + told.actions + 2
+moves_at Committed told = told.actions + 1 - told.done
+moves_at Cancelled told = told.actions + 1 - told.done
+moves_at Gone told = 0
+
+abbrev pub moves_left : Told → ℕ
+moves_left told = moves_at told.fate told
+
+-- the same, of a course
+abbrev pub course_left_at : Fate → Course → ℕ
+course_left_at Undecided course = (course.actions - course.prepared) + course.actions + 2
+course_left_at Committed course = course.actions + 1 - course.done
+course_left_at Cancelled course = course.actions + 1 - course.done
+course_left_at Gone course = 0
+
+abbrev pub course_left : Course → ℕ
+course_left course = course_left_at course.fate course
+
+-- a course comes to its end: each step that it asks for leaves it fewer moves, and it is at its end where none is left
+pub record CourseEnds : Type 0 where
+  pub ended : (told : Told) → next_move told ≡ Move.End ↔ (moves_left told ≡ 0)
+  pub prepared : (told : Told) (place : ℕ) (v : Verdict) → next_move told ≡ Move.Prepare place → moves_left (with_verdict told v) < moves_left told
+  pub decided : (told : Told) (fate : Fate) → told.fate ≡ Undecided → fate ≢ Undecided → moves_left (with_fate told fate) < moves_left told
+  pub done : (told : Told) → told.fate ≢ Undecided → next_move told ≢ Move.End → moves_left (with_done told) < moves_left told
+  pub left : (course : Course) (told : Told) → IsToldSo course told → course_left course ≡ moves_left told
 
 abbrev pub is_no_table : Verdict → Bool
 is_no_table Verdict.NoTable = true

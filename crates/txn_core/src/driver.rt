@@ -7,7 +7,7 @@
 //! first, after each step that its course asks for, and ever after, and that the step which comes
 //! next is then allowed.
 ghost use Rattle.std.specs.Prelude.{ℕ};
-ghost use Rattle.txn_core.specs.Driver.{BeginningIsKnown, StepsAreKnown, KnowledgeStays, CourseIsAllowed, EndIsKnown, OwnNumberIsKept, ReasonsAreKnown};
+ghost use Rattle.txn_core.specs.Driver.{BeginningIsKnown, StepsAreKnown, KnowledgeStays, CourseIsAllowed, EndIsKnown, OwnNumberIsKept, ReasonsAreKnown, CourseEnds};
 
 use crate::rules::Rules;
 
@@ -51,4 +51,10 @@ pub fn own_number_is_kept<R: Rules>()
 /// them, and they stay.
 pub fn reasons_are_known<R: Rules>()
     ensures { (n : ℕ) → ReasonsAreKnown (R.protocol n) }
+{}
+
+/// A course comes to its end: each step that it asks for leaves it fewer moves, at first twice the
+/// number of its actions and two more.
+pub fn course_ends()
+    ensures { CourseEnds }
 {}

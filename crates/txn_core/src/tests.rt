@@ -186,6 +186,7 @@ fn drivers_on_a_table_know_what_they_need(_rt: HostRuntime) -> Result<(), Fail> 
     driver::end_is_known::<Simple>();
     driver::own_number_is_kept::<Simple>();
     driver::reasons_are_known::<Simple>();
+    driver::course_ends();
     Ok(())
 }
 
