@@ -28,3 +28,7 @@ pub mod Moves
 pub mod Fated
 pub mod OldestFirst
 pub mod Exports
+pub mod Choices
+pub mod Grounded
+pub mod Duties
+pub mod Breaking

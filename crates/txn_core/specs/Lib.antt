@@ -8,6 +8,7 @@ pub mod Serial
 pub mod Answers
 pub mod History
 pub mod Legal
+pub mod Breaks
 pub mod Replay
 pub mod Tokens
 pub mod Course

@@ -1,5 +1,6 @@
 -- Words for the replay of a history.
-use Rattle.std.specs.Prelude.{ℕ, Bool, nat_eq, List, if◌then◌else◌}
+use Rattle.std.specs.Prelude.{◌≡◌, ◌≤◌, ℕ, false, length, All, AllPairs, Bool, true, not, ◌&&◌, nat_eq, List, [], ◌∷◌, if◌then◌else◌}
+use Rattle.std.specs.List.{list_any}
 use Rattle.txn_core.specs.declared.stamp.Stamp.{Stamp}
 use Rattle.txn_core.specs.declared.message.Message.{Message}
 use Rattle.txn_core.specs.declared.answer.Answer.{Answer}
@@ -7,9 +8,12 @@ use Rattle.txn_core.specs.declared.deed.Deed.{Deed}
 use Rattle.txn_core.specs.declared.deed.Deed.TheVariants.{Begun, Committed, Cancelled, Finished, Forgotten, NoTable}
 use Rattle.txn_core.specs.declared.deed.ItemDeed.{ItemDeed}
 use Rattle.txn_core.specs.declared.deed.ItemDeed.TheVariants.{Accepted, Applied, Released}
+use Rattle.txn_core.specs.Protocol.{Protocol}
 use Rattle.txn_core.specs.Service.{Service}
+use Rattle.txn_core.specs.declared.entry.Entry.{Entry}
+use Rattle.txn_core.specs.Serial.{begun_actions}
 use Rattle.txn_core.specs.Effects.{Effect}
-use Rattle.txn_core.specs.History.{begins, commits, cancels, finishes, forgets, finds_no_table}
+use Rattle.txn_core.specs.History.{effects, Had, begins, commits, cancels, finishes, forgets, finds_no_table}
 use Rattle.txn_core.specs.Legal.{accepts, applies, releases}
 
 -- an entry tells this of a number
@@ -35,3 +39,21 @@ stamp_by n _ older = older
 abbrev pub actions_by : {K A D : Type 0} → ℕ → Effect K A D → List A → List A
 actions_by n (Effect.Begun stamp actions) older = if nat_eq stamp.number n then actions else older
 actions_by n _ older = older
+
+-- no two of the actions are on one item
+abbrev pub are_apart : {K V A F C D : Type 0} → Protocol K V A F C D → List A → Bool
+are_apart P [] = true
+are_apart P (x ∷ xs) = not (list_any (λ y. P.same (P.key_of x) (P.key_of y)) xs) && are_apart P xs
+
+-- 1 to 100 actions, on items that differ
+abbrev pub begins_fit : {K V A F C D : Type 0} → Protocol K V A F C D → List A → Type 0
+begins_fit P actions = (1 ≤ length actions) × (length actions ≤ 100) × AllPairs (λ x y. P.same (P.key_of x) (P.key_of y) ≡ false) actions
+
+-- the number was decided so, and this was told of it on each item
+abbrev pub is_finishable : {K V A F C D Q B : Type 0} → Service K V A F C D Q B → Deed → ItemDeed → ℕ → List (Entry K V A F D Q B) → Type 0
+is_finishable S decided ended n es =
+    Had (tells decided n) es × All (λ x. Had (tells_on S ended n (S.core.key_of x)) es) (begun_actions (effects es) n)
+
+abbrev pub is_command : {K V A F D Q : Type 0} → Message K V A F D Q → Bool
+is_command (Message.Command d) = true
+is_command _ = false

@@ -4,18 +4,19 @@
 //! is the list of its entries, the newest first; legal histories are defined in `specs/Legal.antt`, what entries change
 //! in `specs/History.antt` and `specs/World.antt`, and the one order, with the tables that it makes, in
 //! `specs/Serial.antt`, with no word of cells.
-ghost use Rattle.std.specs.Prelude.{◌≡◌, ◌≤◌, ℕ, true, false, List, ◌∷◌, ◌++◌, Option, None, Some};
+ghost use Rattle.std.specs.Prelude.{◌≡◌, ◌↔◌, ◌≤◌, ℕ, true, false, List, ◌∷◌, ◌++◌, Option, None, Some};
 ghost use Rattle.txn_core.specs.Effects.{Commits};
 ghost use Rattle.txn_core.specs.World.{on_item};
 ghost use Rattle.txn_core.specs.Serial.{begun_actions, decisions, serial, standings, once_whole, tables, waiting, shown, point, IsStampOrder};
 ghost use Rattle.txn_core.specs.History.{effect, effects, Had, IsTimely, is_over};
 ghost use Rattle.txn_core.specs.Tokens.{draws, first_done, LivesOn, Names};
-ghost use Rattle.txn_core.specs.Legal.{IsAnswer, Allowed, sent_to, IsLegal};
+ghost use Rattle.txn_core.specs.Legal.{IsAnswer, Allowed, sent_to, Follows, IsLegal};
 ghost use Rattle.txn_core.specs.Laws.{row_of, HoldsTheTables, ActsAsAccepted, IsRealHolder, IsRealStamp, FirstDecisionStands, OthersLeaveTheOrder, MovedIsReal, WritesAreSerial, CatalogIsSerial};
 ghost use Rattle.txn_core.specs.declared.message.Message.{Message};
 ghost use Rattle.txn_core.specs.declared.answer.Answer.{Answer};
 ghost use Rattle.txn_core.specs.declared.entry.Entry.{Entry};
 ghost use Rattle.txn_core.specs.declared.stamp.Stamp.{Stamp};
+ghost use Rattle.txn_core.specs.Breaks.{KeepsAll, in_order};
 
 use crate::rules::Rules;
 
@@ -88,4 +89,11 @@ pub fn real_causes<R: Rules>()
 /// the whole, so the entry that follows keeps the history legal.
 pub fn seen_is_enough<R: Rules>()
     ensures { (n : ℕ) (newer es : List (Entry R.Key R.Value R.Action R.Fault R.Command R.Question R.Told)) → IsLegal (R.protocol n) (newer ++ es) → (e : Entry R.Key R.Value R.Action R.Fault R.Command R.Question R.Told) → Allowed (R.protocol n) es e.pass e.message → IsAnswer (R.protocol n) (newer ++ es) e.moment e.message e.answer → e.cell ≡ sent_to (R.protocol n) e.message → IsTimely (newer ++ es) e.pass e.moment → IsLegal (R.protocol n) (e ∷ (newer ++ es)) }
+{}
+
+/// The rules of legal histories, one by one: an entry may come after a history exactly where it keeps the rule of each
+/// kind of break. So a list is legal exactly where [`sending_check`](crate::sending_check) finds nothing and each entry
+/// keeps the rule of answers.
+pub fn rules_one_by_one<R: Rules>()
+    ensures { (n : ℕ) (es : List (Entry R.Key R.Value R.Action R.Fault R.Command R.Question R.Told)) (e : Entry R.Key R.Value R.Action R.Fault R.Command R.Question R.Told) → Follows (R.protocol n) es e ↔ KeepsAll (R.protocol n) in_order es e }
 {}

@@ -1,6 +1,6 @@
-use Rattle.std.proofs.Common.{◌≡◌, ℕ, reverse, take}
-use Rattle.txn_core.specs.Serial.{begun_stamp, begun_actions}
-use Rattle.txn_core.specs.History.{effects, reasons_of}
+use Rattle.std.proofs.Common.{◌≡◌, reverse, take}
+use Rattle.txn_core.specs.Serial.{begun_stamp}
+use Rattle.txn_core.specs.History.{effects}
 use Rattle.txn_core.proofs.past.stamp_of.Given as goal
 
 abbrev pub invariant-loop-entry : goal.invariant-loop-entry

@@ -1,10 +1,6 @@
-use Rattle.std.proofs.Common.{sym, subst, ◌≡◌, ◌∙◌, false, true, reverse, take, arith}
-use Rattle.std.specs.List.{list_any}
-use Rattle.txn_core.specs.Serial.{begun_stamp, begun_actions}
-use Rattle.txn_core.specs.History.{effects, is_own_begin, reasons_of}
-use Rattle.txn_core.specs.Legal.{feeds}
-use Rattle.txn_core.specs.Replay.{tells, tells_on}
-use Rattle.txn_core.proofs.Reversed.{one_passes, none_more, none_all, whole, stamp_more, actions_more, reasons_more}
+use Rattle.std.proofs.Common.{sym, ◌∙◌, arith}
+use Rattle.txn_core.specs.Replay.{tells}
+use Rattle.txn_core.proofs.Reversed.{one_passes, none_more, none_all}
 use Rattle.txn_core.proofs.past.was.Goals as goal
 
 pub returns-then-tells : goal.returns-then-tells

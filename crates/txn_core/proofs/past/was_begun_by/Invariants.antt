@@ -1,7 +1,6 @@
-use Rattle.std.proofs.Common.{◌≡◌, ℕ, false, reverse, take}
+use Rattle.std.proofs.Common.{◌≡◌, false, reverse, take}
 use Rattle.std.specs.List.{list_any}
 use Rattle.txn_core.specs.History.{is_own_begin}
-use Rattle.txn_core.specs.Replay.{tells}
 use Rattle.txn_core.proofs.past.was_begun_by.Given as goal
 
 abbrev pub invariant-loop-entry : goal.invariant-loop-entry

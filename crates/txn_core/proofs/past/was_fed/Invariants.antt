@@ -1,7 +1,6 @@
 use Rattle.std.proofs.Common.{◌≡◌, ℕ, false, reverse, take}
 use Rattle.std.specs.List.{list_any}
 use Rattle.txn_core.specs.Legal.{feeds}
-use Rattle.txn_core.specs.Replay.{tells_on}
 use Rattle.txn_core.proofs.past.was_fed.Given as goal
 
 abbrev pub invariant-loop-entry : goal.invariant-loop-entry

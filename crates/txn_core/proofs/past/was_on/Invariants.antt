@@ -1,6 +1,5 @@
 use Rattle.std.proofs.Common.{◌≡◌, ℕ, false, reverse, take}
 use Rattle.std.specs.List.{list_any}
-use Rattle.txn_core.specs.Legal.{feeds}
 use Rattle.txn_core.specs.Replay.{tells_on}
 use Rattle.txn_core.proofs.past.was_on.Given as goal
 
