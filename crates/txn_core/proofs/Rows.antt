@@ -1,16 +1,19 @@
 -- The definitions on worked histories, for 16 partitions after one Create, with a transaction on the items 1 and 2.
-use Rattle.std.proofs.Common.{◌≡◌, ◌≢◌, ℕ, zero, suc, ◌<◌, true, false, nat_eq, arith, [], ◌∷◌, None, Some, inl, inr, refl, sym, lit<, lit≤}
+use Rattle.std.proofs.Common.{◌≡◌, ◌≢◌, ℕ, zero, suc, ◌<◌, ◌%◌, Bool, true, false, ◌||◌, nat_eq, nat_le, if◌then◌else◌, arith, List, [], ◌∷◌, None, Some, inl, inr, refl, sym, ap, subst, lit<, lit≤}
 use Rattle.std.specs.Prelude.{All, Any, AllPairs, slice_index_or}
-use Rattle.std.specs.List.{list_any}
+use Rattle.std.specs.List.{list_any, list_all}
+use Rattle.std.proofs.lemmas.Bool.{and_parts, leb-true}
 use Rattle.txn_core.specs.declared.stamp.Stamp.{Stamp}
 use Rattle.txn_core.specs.declared.fate.Fate.{Fate}
 use Rattle.txn_core.specs.declared.reason.Reason.{Reason}
 use Rattle.txn_core.specs.declared.message.Message.{Message}
 use Rattle.txn_core.specs.declared.answer.Answer.{Answer}
+use Rattle.txn_core.specs.declared.answer.HeldItem.{HeldItem}
 use Rattle.txn_core.specs.declared.entry.Entry.{Entry}
+use Rattle.txn_core.specs.World.{holder, spot_prepared, world}
 use Rattle.txn_core.specs.Serial.{Whole, serial, shown}
-use Rattle.txn_core.specs.History.{effects}
-use Rattle.txn_core.specs.Legal.{accepts, IsLegal}
+use Rattle.txn_core.specs.History.{effects, IsTimely}
+use Rattle.txn_core.specs.Legal.{accepts, applies, IsLegal}
 use Rattle.txn_core.specs.Simple.{service}
 
 abbrev Row : Type 0
@@ -179,3 +182,231 @@ causeless_cancel h =
       | inl cause ↦ no_refusal cause.1
       | inr stale ↦ (let gone = stale.0 in cc)
     ]
+
+-- moments that are all by this one don't fall
+abbrev by_now : ℕ → List Row → Bool
+by_now moment es = list_all (λ e. nat_le e.moment moment) es
+
+timely_by : (es : List Row) (pass moment : ℕ) → by_now moment es ≡ true → IsTimely es pass moment
+timely_by [] pass moment h = tt
+timely_by (e ∷ es) pass moment h =
+    let p = and_parts (nat_le e.moment moment) (by_now moment es) h in
+    ((λ _. leb-true e.moment moment p.0), timely_by es pass moment p.1)
+
+-- the second transaction overtakes the first, which is then too late
+abbrev overtaken : List Row
+overtaken = begin_2 ∷ prepare_1 ∷ begin ∷ create ∷ []
+
+abbrev accept_2 : Row
+accept_2 = at_cell 2 9 2 (Message.Prepare 2 stamp_2 (2, 4)) Answer.Accepted
+
+abbrev commit_2 : Row
+commit_2 = at_cell 2 9 16 (Message.Decide 2 true []) (Answer.Decided Fate.Committed true)
+
+abbrev apply_2_2 : Row
+apply_2_2 = at_cell 2 9 2 (Message.Apply 2 2) Answer.Applied
+
+abbrev late_1 : Row
+late_1 = at_cell 1 9 2 (Message.Prepare 1 stamp (2, 9)) (Answer.Late stamp_2)
+
+abbrev cancel_1 : Row
+cancel_1 = at_cell 1 9 16 (Message.Decide 1 false (Reason.None ∷ Reason.Late stamp_2 ∷ [])) (Answer.Decided Fate.Cancelled true)
+
+overtaken_legal : IsLegal (service 16) overtaken
+overtaken_legal = (
+  (begun_legal, record { answer = refl; allowed = (refl, refl, refl); cell = refl; timely = timely_by (begin ∷ create ∷ []) 1 7 refl }),
+  record { answer = refl; allowed = (lit≤ tt, lit≤ tt, one_alone); cell = refl; timely = timely_by (prepare_1 ∷ begin ∷ create ∷ []) 2 9 refl },
+)
+
+late_legal : IsLegal (service 16) (cancel_1 ∷ late_1 ∷ apply_2_2 ∷ commit_2 ∷ accept_2 ∷ overtaken)
+late_legal = (
+  (
+    (
+      (
+        (overtaken_legal, record { answer = refl; allowed = (refl, refl, refl); cell = refl; timely = timely_by overtaken 2 9 refl }),
+        record {
+          answer = refl;
+          allowed = (refl, one_holds (λ x. list_any (λ e. accepts (service 16) 2 x.0 e.message e.answer) (accept_2 ∷ overtaken) ≡ true) (2, 4) refl);
+          cell = refl;
+          timely = timely_by (accept_2 ∷ overtaken) 2 9 refl;
+        },
+      ),
+      record { answer = refl; allowed = refl; cell = refl; timely = timely_by (commit_2 ∷ accept_2 ∷ overtaken) 2 9 refl },
+    ),
+    record { answer = refl; allowed = (refl, refl, refl); cell = refl; timely = timely_by (apply_2_2 ∷ commit_2 ∷ accept_2 ∷ overtaken) 1 9 refl },
+  ),
+  record {
+    answer = refl;
+    allowed = (
+      refl,
+      inl (((5, prepare_1, lit< tt, refl, (refl, refl)), ((0, late_1, lit< tt, refl, (refl, refl)), tt)), (1, Reason.Late stamp_2, lit< tt, refl, (λ e. cc))),
+    );
+    cell = refl;
+    timely = timely_by (late_1 ∷ apply_2_2 ∷ commit_2 ∷ accept_2 ∷ overtaken) 1 9 refl;
+  },
+)
+  where
+    one_holds : (Q : (ℕ × ℕ) → Type 0) (x : ℕ × ℕ) → Q x → All Q (x ∷ [])
+    one_holds Q x a zero d lt = a
+    one_holds Q x a (suc k) d lt = absurd (omega arith)
+
+-- a token names its transaction, while it runs and after its Done
+abbrev begin_t : Row
+begin_t = at_cell 1 7 16 (Message.Begin (Some (65 ∷ [])) ((1, 8) ∷ (2, 9) ∷ [])) (Answer.Begun 1 stamp)
+
+abbrev running_t : Row
+running_t = at_cell 2 8 16 (Message.Begin (Some (65 ∷ [])) ((1, 8) ∷ (2, 9) ∷ [])) (Answer.Running 1)
+
+abbrev repeat_t : Row
+repeat_t = at_cell 2 8 16 (Message.Begin (Some (65 ∷ [])) ((1, 8) ∷ (2, 9) ∷ [])) (Answer.Repeat 1)
+
+abbrev done_t : List Row
+done_t = done ∷ apply_2 ∷ apply_1 ∷ commit ∷ prepare_2 ∷ prepare_1 ∷ begin_t ∷ create ∷ []
+
+two_apart : AllPairs {X = ℕ × ℕ} (λ x y. nat_eq x.0 y.0 ≡ false) ((1, 8) ∷ (2, 9) ∷ [])
+two_apart i j d lt le = go i j lt le
+  where
+    go : (i j : ℕ) → i < j → j < 2 → nat_eq (slice_index_or ((1, 8) ∷ (2, 9) ∷ []) i d).0 (slice_index_or ((1, 8) ∷ (2, 9) ∷ []) j d).0 ≡ false
+    go zero zero lt le = absurd (omega arith)
+    go zero (suc zero) lt le = refl
+    go zero (suc (suc j)) lt le = absurd (omega arith)
+    go (suc i) j lt le = absurd (omega arith)
+
+token_legal : IsLegal (service 16) (begin_t ∷ create ∷ [])
+token_legal = (create_legal, record { answer = refl; allowed = (lit≤ tt, lit≤ tt, two_apart); cell = refl; timely = timely_by (create ∷ []) 1 7 refl })
+
+running_legal : IsLegal (service 16) (running_t ∷ begin_t ∷ create ∷ [])
+running_legal = (token_legal, record { answer = refl; allowed = (lit≤ tt, lit≤ tt, two_apart); cell = refl; timely = timely_by (begin_t ∷ create ∷ []) 2 8 refl })
+
+done_legal : IsLegal (service 16) done_t
+done_legal = (
+  (
+    (
+      (
+        (
+          (token_legal, record { answer = refl; allowed = (refl, refl, refl); cell = refl; timely = timely_by (begin_t ∷ create ∷ []) 1 7 refl }),
+          record { answer = refl; allowed = (refl, refl, refl); cell = refl; timely = timely_by (prepare_1 ∷ begin_t ∷ create ∷ []) 1 7 refl },
+        ),
+        record {
+          answer = refl;
+          allowed = (refl, both (λ x. list_any (λ e. accepts (service 16) 1 x.0 e.message e.answer) (prepare_2 ∷ prepare_1 ∷ begin_t ∷ create ∷ []) ≡ true) (1, 8) (2, 9) refl refl);
+          cell = refl;
+          timely = timely_by (prepare_2 ∷ prepare_1 ∷ begin_t ∷ create ∷ []) 1 7 refl;
+        },
+      ),
+      record { answer = refl; allowed = refl; cell = refl; timely = timely_by (commit ∷ prepare_2 ∷ prepare_1 ∷ begin_t ∷ create ∷ []) 1 7 refl },
+    ),
+    record { answer = refl; allowed = refl; cell = refl; timely = timely_by (apply_1 ∷ commit ∷ prepare_2 ∷ prepare_1 ∷ begin_t ∷ create ∷ []) 1 7 refl },
+  ),
+  record {
+    answer = refl;
+    allowed = (
+      refl,
+      inl (refl, both (λ x. list_any (λ e. applies (service 16) 1 x.0 e.message e.answer) (apply_2 ∷ apply_1 ∷ commit ∷ prepare_2 ∷ prepare_1 ∷ begin_t ∷ create ∷ []) ≡ true) (1, 8) (2, 9) refl refl),
+    );
+    cell = refl;
+    timely = timely_by (apply_2 ∷ apply_1 ∷ commit ∷ prepare_2 ∷ prepare_1 ∷ begin_t ∷ create ∷ []) 1 7 refl;
+  },
+)
+
+repeat_legal : IsLegal (service 16) (repeat_t ∷ done_t)
+repeat_legal = (done_legal, record { answer = refl; allowed = (lit≤ tt, lit≤ tt, two_apart); cell = refl; timely = timely_by done_t 2 8 refl })
+
+-- messages that change nothing, while the first transaction holds the item 1
+abbrev holding : List Row
+holding = prepare_1 ∷ begin ∷ create ∷ []
+
+holding_legal : IsLegal (service 16) holding
+holding_legal = (begun_legal, record { answer = refl; allowed = (refl, refl, refl); cell = refl; timely = timely_by (begin ∷ create ∷ []) 1 7 refl })
+
+abbrev pendings : Row
+pendings = at_cell 2 8 1 (Message.Pendings 1) (Answer.PendingList (record { key = 1; number = 1 } ∷ []))
+
+pendings_legal : IsLegal (service 16) (pendings ∷ holding)
+pendings_legal = (
+  holding_legal,
+  record {
+    answer = (lit< tt, record { each = one; all = λ q n at held. found q n held; once = λ i j d lt le. absurd (omega arith) });
+    allowed = tt;
+    cell = refl;
+    timely = timely_by holding 2 8 refl;
+  },
+)
+  where
+    one : All {X = HeldItem ℕ} (λ p. (p.key % 16 ≡ 1) × (holder ((world (service 16).core (effects holding)).spot p.key).pend ≡ Some p.number)) (record { key = 1; number = 1 } ∷ [])
+    one zero d lt = (refl, refl)
+    one (suc k) d lt = absurd (omega arith)
+
+    found : (q n : ℕ) → holder ((world (service 16).core (effects holding)).spot q).pend ≡ Some n → list_any (λ (p : HeldItem ℕ). nat_eq p.key q) (record { key = 1; number = 1 } ∷ []) ≡ true
+    found q n held = go (nat_eq 1 q) refl
+      where
+        go : (b : Bool) → nat_eq 1 q ≡ b → (nat_eq 1 q || false) ≡ true
+        go true e = ap (λ x. x || false) e
+        go false e = let h = subst (λ x. holder (if x then spot_prepared (service 16).core 1 1 stamp (1, 8) ((world (service 16).core (effects (begin ∷ create ∷ []))).spot q) else (world (service 16).core (effects (begin ∷ create ∷ []))).spot q).pend ≡ Some n) e held in absurd (cc)
+
+abbrev get_1 : Row
+get_1 = at_cell 2 8 1 (Message.Get 1) (Answer.Row None)
+
+abbrev version_1 : Row
+version_1 = at_cell 2 8 1 (Message.ReadVersion 1) (Answer.Version None 0 (Some 1))
+
+abbrev fate_of : Row
+fate_of = at_cell 2 8 16 (Message.FateOf 1) (Answer.Is Fate.Undecided)
+
+abbrev recall : Row
+recall = at_cell 2 8 16 (Message.Recall 1) (Answer.Known Fate.Undecided stamp ((1, 8) ∷ (2, 9) ∷ []) [])
+
+abbrev unfinished_now : Row
+unfinished_now = at_cell 2 8 16 Message.Unfinished (Answer.Numbers (1 ∷ []))
+
+abbrev ask : Row
+ask = at_cell 2 8 16 (Message.Ask 0) (Answer.Told 1)
+
+abbrev query : Row
+query = at_cell 2 8 3 (Message.QueryPage 19) (Answer.Part 0)
+
+abbrev scan : Row
+scan = at_cell 2 8 4 (Message.ScanPage 4) (Answer.Part 0)
+
+abbrev peek : Row
+peek = at_cell 2 8 1 (Message.PeekOut 1) (Answer.Out 5 2 4 20 (Some 8))
+
+abbrev feed : Row
+feed = at_cell 2 8 4 (Message.ApplyIndex 1 5 2 20 (Some 8)) Answer.Fed
+
+abbrev ack : Row
+ack = at_cell 2 8 1 (Message.Ack 1 5) Answer.Acked
+
+-- one after another, each after those before it
+quiet_legal : IsLegal (service 16) (ack ∷ feed ∷ peek ∷ scan ∷ query ∷ ask ∷ unfinished_now ∷ recall ∷ fate_of ∷ version_1 ∷ get_1 ∷ holding)
+quiet_legal = (
+  (
+    (
+      (
+        (
+          (
+            (
+              (
+                (
+                  (
+                    (holding_legal, record { answer = refl; allowed = tt; cell = refl; timely = timely_by holding 2 8 refl }),
+                    record { answer = refl; allowed = tt; cell = refl; timely = timely_by (get_1 ∷ holding) 2 8 refl },
+                  ),
+                  record { answer = refl; allowed = tt; cell = refl; timely = timely_by (version_1 ∷ get_1 ∷ holding) 2 8 refl },
+                ),
+                record { answer = refl; allowed = tt; cell = refl; timely = timely_by (fate_of ∷ version_1 ∷ get_1 ∷ holding) 2 8 refl },
+              ),
+              record { answer = refl; allowed = tt; cell = refl; timely = timely_by (recall ∷ fate_of ∷ version_1 ∷ get_1 ∷ holding) 2 8 refl },
+            ),
+            record { answer = refl; allowed = tt; cell = refl; timely = timely_by (unfinished_now ∷ recall ∷ fate_of ∷ version_1 ∷ get_1 ∷ holding) 2 8 refl },
+          ),
+          record { answer = tt; allowed = tt; cell = refl; timely = timely_by (ask ∷ unfinished_now ∷ recall ∷ fate_of ∷ version_1 ∷ get_1 ∷ holding) 2 8 refl },
+        ),
+        record { answer = tt; allowed = tt; cell = refl; timely = timely_by (query ∷ ask ∷ unfinished_now ∷ recall ∷ fate_of ∷ version_1 ∷ get_1 ∷ holding) 2 8 refl },
+      ),
+      record { answer = (lit< tt, refl); allowed = tt; cell = refl; timely = timely_by (scan ∷ query ∷ ask ∷ unfinished_now ∷ recall ∷ fate_of ∷ version_1 ∷ get_1 ∷ holding) 2 8 refl },
+    ),
+    record { answer = inl refl; allowed = (0, peek, lit< tt, refl, (refl, refl)); cell = refl; timely = timely_by (peek ∷ scan ∷ query ∷ ask ∷ unfinished_now ∷ recall ∷ fate_of ∷ version_1 ∷ get_1 ∷ holding) 2 8 refl },
+  ),
+  record { answer = (lit< tt, inl refl); allowed = refl; cell = refl; timely = timely_by (feed ∷ peek ∷ scan ∷ query ∷ ask ∷ unfinished_now ∷ recall ∷ fate_of ∷ version_1 ∷ get_1 ∷ holding) 2 8 refl },
+)
