@@ -1,8 +1,9 @@
 -- What layers above this one cite by name. Histories and effects are the newest first throughout.
 
--- a legal history: its effects are a run; what its words say of the state; and its beginnings are legal
+-- a legal history: its effects are a run; what its words say of the state; its beginnings are legal, and each entry may
+-- come after those before it
 pub use Rattle.txn_core.proofs.LegalRuns.{Facts, legal_facts, legal_run}
-pub use Rattle.txn_core.proofs.Prefix.{legal_before}
+pub use Rattle.txn_core.proofs.Prefix.{legal_before, follows_at}
 -- what holds of the state after every run
 pub use Rattle.txn_core.proofs.Invariant.{GoodSpot, Good}
 pub use Rattle.txn_core.proofs.Kept.{good}

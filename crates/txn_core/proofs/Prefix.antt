@@ -11,7 +11,7 @@ use Rattle.txn_core.specs.Service.{Service, IsServiceLawful}
 use Rattle.txn_core.specs.World.{on_item, world}
 use Rattle.txn_core.specs.Serial.{begun_stamp, begun_actions}
 use Rattle.txn_core.specs.History.{effect, effects, Had, begins, commits, cancels, finishes, forgets, finds_no_table, is_own_begin}
-use Rattle.txn_core.specs.Legal.{accepts, applies, releases, feeds, AreTold, HasCause, HasGround, Allowed, IsLegal}
+use Rattle.txn_core.specs.Legal.{accepts, applies, releases, feeds, AreTold, HasCause, HasGround, Allowed, Follows, IsLegal}
 use Rattle.txn_core.proofs.Readings.{actions_read, stamp_read}
 use Rattle.txn_core.proofs.Grows.{grows}
 use Rattle.txn_core.proofs.LegalRuns.{legal_facts, legal_run}
@@ -20,6 +20,10 @@ use Rattle.txn_core.proofs.LegalRuns.{legal_facts, legal_run}
 pub legal_before : {K V A F C D Q B : Type 0} (S : Service K V A F C D Q B) (newer es : List (Entry K V A F D Q B)) → IsLegal S (newer ++ es) → IsLegal S es
 legal_before S [] es legal = legal
 legal_before S (e ∷ newer) es legal = legal_before S newer es legal.0
+
+-- each entry of a legal history may come after those before it
+pub follows_at : {K V A F C D Q B : Type 0} (S : Service K V A F C D Q B) (newer : List (Entry K V A F D Q B)) (e : Entry K V A F D Q B) (es : List (Entry K V A F D Q B)) → IsLegal S (newer ++ (e ∷ es)) → Follows S es e
+follows_at S newer e es legal = (legal_before S newer (e ∷ es) legal).1
 
 -- what was had is had later
 pub had_more : {K V A F D Q B : Type 0} (test : Message K V A F D Q → Answer K V A F B → Bool) (e : Entry K V A F D Q B) (es : List (Entry K V A F D Q B)) → Had test es → Had test (e ∷ es)

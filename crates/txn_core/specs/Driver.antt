@@ -108,7 +108,8 @@ module _ {K V A F C D Q B : Type 0} (S : Service K V A F C D Q B) where
     pub applied : told.fate ≡ Committed → (i : ℕ) (x : A) → i < told.done → slice_get (begun_actions (effects es) n) i ≡ Some x → Had (applies S n (S.core.key_of x)) es
     pub released : told.fate ≡ Cancelled → (i : ℕ) (x : A) → i < told.done → slice_get (begun_actions (effects es) n) i ≡ Some x → Had (releases S n (S.core.key_of x)) es
 
-  -- the reason was told of the action with its verdict; where its table is gone there is none
+  -- the reason was told of the action, and is a refusal where the verdict isn't Accepted; where the verdict is that its table
+  -- is gone, a Prepare of the number was told so
   abbrev pub IsToldOf : List (Entry K V A F D Q B) → ℕ → A → Verdict → Reason V F → Type 0
   IsToldOf es n x Verdict.NoTable r = Had (finds_no_table n) es
   IsToldOf es n x v r = WasTold S es n x r × (is_accepted v ≡ false → r ≢ Reason.None)
