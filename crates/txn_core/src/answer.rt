@@ -12,11 +12,13 @@ pub struct HeldItem<K> {
     pub number: u64,
 }
 
-/// What a cell answers. `K` says which item or which row of an index, `V` what an item or a row holds, `A` is an action on
-/// one item, `F` why an action can't be evaluated, and `B` what is told of the catalog, or a page of rows.
+/// What a cell answers. `K` says which item or which row of an index, `V` what an item or a row
+/// holds, `A` is an action on one item, `F` why an action can't be evaluated, and `B` what is told
+/// of the catalog, or a page of rows.
 #[derive(Drop)]
 pub enum Answer<K, V, A, F, B> {
-    /// The item's table is gone; of a Begin, the table of one of its actions; of a page, its table or its index.
+    /// The item's table is gone; of a Begin, the table of one of its actions; of a page, its table
+    /// or its index.
     Stale,
     /// A Get: the committed item.
     Row {
@@ -56,7 +58,8 @@ pub enum Answer<K, V, A, F, B> {
     Applied,
     /// A Release: the item is let go.
     Released,
-    /// The transaction doesn't hold the item, or its record is gone; of an Ack, the change isn't the outbox's first.
+    /// The transaction doesn't hold the item, or its record is gone; of an Ack, the change isn't
+    /// the outbox's first.
     Nothing,
     /// A ReadVersion.
     Version {

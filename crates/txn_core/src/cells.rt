@@ -28,8 +28,8 @@ pub fn own_entries_answer<R: Rules>()
 {}
 
 /// Who has seen a beginning of the history with all entries of its own pass, and all those of the
-/// cells that it asks, may go by it: an answer and a moment that fit that beginning fit the whole. What
-/// may be sent is a question of its own, [`seen_is_enough`](crate::laws::seen_is_enough).
+/// cells that it asks, may go by it: an answer and a moment that fit that beginning fit the whole.
+/// What may be sent is a question of its own, [`seen_is_enough`](crate::laws::seen_is_enough).
 pub fn seen_cells_are_enough<R: Rules>()
     ensures { (n : ℕ) → SeenCellsAreEnough (R.protocol n) }
 {}

@@ -4,7 +4,8 @@ ghost use Rattle.txn_core.specs.Course.{Told, IsToldSo, next_move, with_verdict,
 use crate::fate::Fate;
 use crate::verdict::Verdict;
 
-/// What a driver of a transaction does next. An action is named by its place in the transaction, from 0.
+/// What a driver of a transaction does next. An action is named by its place in the transaction,
+/// from 0.
 #[derive(Clone, Copy, PartialEq, Eq, Debug, Drop)]
 pub enum Move {
     /// Ask the cell of this action's item to accept the action.
@@ -23,12 +24,14 @@ pub enum Move {
     End,
 }
 
-/// The way of one transaction from its begin to its end: what was told so far decides what comes next.
+/// The way of one transaction from its begin to its end: what was told so far decides what comes
+/// next.
 ///
-/// Every action is prepared, also after one was refused, since a cancellation names the reason of each item. Then the
-/// transaction is decided: committed where every action was accepted, else cancelled. Then each action is applied or
-/// released, by the fate that stands, and at last Done is sent. A driver may begin in the middle: it tells the fate
-/// that it found, and the course goes on from there.
+/// Every action is prepared, also after one was refused, since a cancellation names the reason of
+/// each item. Then the transaction is decided: committed where every action was accepted, else
+/// cancelled. Then each action is applied or released, by the fate that stands, and at last Done is
+/// sent. A driver may begin in the middle: it tells the fate that it found, and the course goes on
+/// from there.
 #[derive(Clone, Copy, Debug, Drop)]
 pub struct Course {
     actions: u32,
@@ -69,7 +72,8 @@ impl Course {
         }
     }
 
-    /// Takes the verdict on the action whose Prepare comes next. Where no Prepare does, nothing changes.
+    /// Takes the verdict on the action whose Prepare comes next. Where no Prepare does, nothing
+    /// changes.
     pub fn took_verdict(&mut self, verdict: Verdict)
         ensures { (told : Told) → IsToldSo self.old told → IsToldSo self.new (with_verdict told verdict) }
     {
@@ -81,8 +85,8 @@ impl Course {
         }
     }
 
-    /// Takes the transaction's fate, as a Decide or the recalled record told it. The first one that isn't Undecided
-    /// stands, and a later one changes nothing.
+    /// Takes the transaction's fate, as a Decide or the recalled record told it. The first one that
+    /// isn't Undecided stands, and a later one changes nothing.
     pub fn took_fate(&mut self, fate: Fate)
         ensures { (told : Told) → IsToldSo self.old told → IsToldSo self.new (with_fate told fate) }
     {
@@ -91,7 +95,8 @@ impl Course {
         }
     }
 
-    /// Takes that the Apply, the Release or the Done that comes next was done. Where none of them does, nothing changes.
+    /// Takes that the Apply, the Release or the Done that comes next was done. Where none of them
+    /// does, nothing changes.
     pub fn took_done(&mut self)
         ensures { (told : Told) → IsToldSo self.old told → IsToldSo self.new (with_done told) }
     {

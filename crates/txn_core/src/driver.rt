@@ -41,8 +41,8 @@ pub fn end_is_known<R: Rules>()
     ensures { (n : ℕ) → EndIsKnown (R.protocol n) }
 {}
 
-/// A number that a pass drew has its record until this pass has it forgotten, whatever others do. So
-/// until then the pass is told its fate, and its Done is answered Finished.
+/// A number that a pass drew has its record until this pass has it forgotten, whatever others do.
+/// So until then the pass is told its fate, and its Done is answered Finished.
 pub fn own_number_is_kept<R: Rules>()
     ensures { (n : ℕ) → OwnNumberIsKept (R.protocol n) }
 {}

@@ -10,7 +10,8 @@ use crate::reason::Reason;
 use crate::rules::Rules;
 use crate::stamp::Stamp;
 
-/// One step of a history: which pass took it, at which cell, what it asked and what it was answered, and when.
+/// One step of a history: which pass took it, at which cell, what it asked and what it was
+/// answered, and when.
 #[derive(Drop)]
 pub struct Entry<K, V, A, F, D, Q, B> {
     /// The number of the pass.
@@ -128,7 +129,8 @@ impl<K, V, A, F, D, Q, B> Entry<K, V, A, F, D, Q, B> {
         }
     }
 
-    /// The reasons that the number's decision carried, where this is its first Decide, else the older ones.
+    /// The reasons that the number's decision carried, where this is its first Decide, else the
+    /// older ones.
     pub fn reasons_or<'a>(&'a self, number: u64, older: &'a [Reason<V, F>]) -> &'a [Reason<V, F>]
         ensures { result.now ≡ reasons_in number self.now.message self.now.answer older.now }
     {

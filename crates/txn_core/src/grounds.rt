@@ -183,8 +183,8 @@ fn is_none<V, F>(reason: &Reason<V, F>) -> bool
     matches!(reason, Reason::None)
 }
 
-/// Whether a cancel of the number has its cause: the reasons were told and one of them is a refusal, or a table was gone
-/// and no reason is given.
+/// Whether a cancel of the number has its cause: the reasons were told and one of them is a
+/// refusal, or a table was gone and no reason is given.
 pub fn has_cause<R: Rules>(
     past: &[Event<R>],
     number: u64,

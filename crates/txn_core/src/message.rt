@@ -2,11 +2,12 @@ use crate::reason::Reason;
 use crate::stamp::Stamp;
 use expr_lexer::{Seq, Text};
 
-/// What is asked of a cell. `K` says which item or which row of an index, `V` what an item or a row holds, `A` is an
-/// action on one item, `F` why an action can't be evaluated, `D` a command that changes the catalog, and `Q` a question
-/// about it, or about a page of rows.
+/// What is asked of a cell. `K` says which item or which row of an index, `V` what an item or a row
+/// holds, `A` is an action on one item, `F` why an action can't be evaluated, `D` a command that
+/// changes the catalog, and `Q` a question about it, or about a page of rows.
 ///
-/// A message that has neither a key nor a page names the cell that it goes to, where there are several.
+/// A message that has neither a key nor a page names the cell that it goes to, where there are
+/// several.
 #[derive(Drop)]
 pub enum Message<K, V, A, F, D, Q> {
     /// The committed item.

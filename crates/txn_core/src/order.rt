@@ -26,8 +26,8 @@ pub type Asked<R> = Message<
     <R as Rules>::Question,
 >;
 
-/// Whether a Begin has 1 to 100 actions on items that differ, and a Prepare and a Decide name a begun number, a Prepare
-/// with its stamp and one of its actions.
+/// Whether a Begin has 1 to 100 actions on items that differ, and a Prepare and a Decide name a
+/// begun number, a Prepare with its stamp and one of its actions.
 pub fn names_begun<R: Rules>(past: &[Event<R>], message: &Asked<R>) -> bool
     ensures { (partitions pass : ℕ) → (IsTrue result ↔ NamesBegun (R.protocol partitions) (reverse past.now) pass message.now) }
 {
@@ -136,7 +136,8 @@ fn may_release<R: Rules>(past: &[Event<R>], number: u64) -> bool
     was::<R>(past, Deed::Cancelled, number) || was::<R>(past, Deed::Forgotten, number)
 }
 
-/// Whether a Done comes after an Apply of each action and the commit, or a Release of each and the cancel.
+/// Whether a Done comes after an Apply of each action and the commit, or a Release of each and the
+/// cancel.
 pub fn finishes_late<R: Rules>(past: &[Event<R>], message: &Asked<R>) -> bool
     ensures { (partitions pass : ℕ) → (IsTrue result ↔ FinishesLate (R.protocol partitions) (reverse past.now) pass message.now) }
 {
@@ -176,7 +177,8 @@ pub fn forgets_late<R: Rules>(past: &[Event<R>], pass: u32, message: &Asked<R>) 
     }
 }
 
-/// Whether a change is sent to its index after a PeekOut showed it, and acknowledged after it was sent.
+/// Whether a change is sent to its index after a PeekOut showed it, and acknowledged after it was
+/// sent.
 pub fn feeds_in_order<R: Rules>(partitions: u32, past: &[Event<R>], message: &Asked<R>) -> bool
     requires { 1 ≤ partitions }
     ensures { (pass : ℕ) → (IsTrue result ↔ FeedsInOrder (R.protocol partitions) (reverse past.now) pass message.now) }

@@ -1,4 +1,5 @@
-/// What an action makes of an item, which may be absent. `V` is what an item holds, `F` why an action can't be evaluated.
+/// What an action makes of an item, which may be absent. `V` is what an item holds, `F` why an
+/// action can't be evaluated.
 #[derive(Drop)]
 pub enum Outcome<V, F> {
     /// It is carried out.

@@ -1,7 +1,7 @@
 use crate::stamp::Stamp;
 
-/// Why an action of a cancelled transaction was not accepted, as the cancellation tells it. `V` is what an item holds,
-/// `F` why an action can't be evaluated.
+/// Why an action of a cancelled transaction was not accepted, as the cancellation tells it. `V` is
+/// what an item holds, `F` why an action can't be evaluated.
 #[derive(Drop)]
 pub enum Reason<V, F> {
     /// The action was accepted.

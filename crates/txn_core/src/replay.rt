@@ -18,12 +18,12 @@ pub struct Break {
     pub kind: BreakKind,
 }
 
-/// The first of these entries, in order of time, that nobody may send after those before it, and the first rule that it
-/// breaks; none where each may be sent. The answers are taken as they stand: whether a cell would give them isn't asked,
-/// so no break is of the kind WrongAnswer.
+/// The first of these entries, in order of time, that nobody may send after those before it, and
+/// the first rule that it breaks; none where each may be sent. The answers are taken as they stand:
+/// whether a cell would give them isn't asked, so no break is of the kind WrongAnswer.
 ///
-/// A checker for tests and tools: it takes no memory, and at most the square of the number of entries in steps, where
-/// the actions of a transaction, 100 at most, count as one step.
+/// A checker for tests and tools: it takes no memory, and at most the square of the number of
+/// entries in steps, where the actions of a transaction, 100 at most, count as one step.
 pub fn sending_check<R: Rules>(partitions: u32, entries: &[Event<R>]) -> Option<Break>
     requires { 1 ≤ partitions }
     ensures { MatchOption result (AllKeep (R.protocol partitions) of_sending (reverse entries.now)) (λ found. IsFirstBreak (R.protocol partitions) of_sending entries.now found.place found.kind) }

@@ -6,11 +6,12 @@ use crate::outcome::Outcome;
 use crate::ruling::Ruling;
 use std::alloc::{AllocError as NoMemory, Global};
 
-/// What the protocol needs to know of tables: which item a key stands for, where it lives, what actions do, and what
-/// the catalog answers.
+/// What the protocol needs to know of tables: which item a key stands for, where it lives, what
+/// actions do, and what the catalog answers.
 ///
-/// The laws of this crate hold for whatever meets this trait, for every number of partitions. Its calls compute what
-/// `protocol` says, so that a history can be replayed; those that make a value can answer `NoMemory`.
+/// The laws of this crate hold for whatever meets this trait, for every number of partitions. Its
+/// calls compute what `protocol` says, so that a history can be replayed; those that make a value
+/// can answer `NoMemory`.
 pub trait Rules {
     /// Which item: its table and its key there; or which row of an index.
     type Key: Drop;
@@ -41,7 +42,8 @@ pub trait Rules {
         requires { 1 ≤ partitions }
         ensures { result ≡ (protocol partitions).core.cell_of key.now };
 
-    /// The cell that comes after the partitions: that of the catalog's answers, of transactions and of tokens.
+    /// The cell that comes after the partitions: that of the catalog's answers, of transactions and
+    /// of tokens.
     fn control(partitions: u32) -> u32
         requires { 1 ≤ partitions }
         ensures { result ≡ (protocol partitions).control };
@@ -159,7 +161,7 @@ pub trait Rules {
     fn copy_of_action(alloc: Global, action: &Self::Action) -> Result<Self::Action, NoMemory>
         ensures { IfOk result (λ copy. copy ≡ action.now) };
 
-    /// Keys that stand for one item can't be told apart, the number of a table never comes again, and a command spares
-    /// the tables that it doesn't concern.
+    /// Keys that stand for one item can't be told apart, the number of a table never comes again,
+    /// and a command spares the tables that it doesn't concern.
     ghost lawful: { (partitions : ℕ) → IsServiceLawful (protocol partitions) };
 }

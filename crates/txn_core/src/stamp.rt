@@ -1,5 +1,6 @@
-/// The place of a transaction in the order of transactions: the moment at which it was begun, in microseconds, then
-/// its number. A single write has the number 0. Stamps are ordered by moment, then number.
+/// The place of a transaction in the order of transactions: the moment at which it was begun, in
+/// microseconds, then its number. A single write has the number 0. Stamps are ordered by moment,
+/// then number.
 #[derive(Clone, Copy, PartialEq, Eq, PartialOrd, Ord, Debug, Drop)]
 pub struct Stamp {
     /// Microseconds since 1970-01-01T00:00:00Z.

@@ -259,7 +259,8 @@ fn goes_on_from_a_fate_that_stands(rt: HostRuntime) -> Result<(), Fail> {
     Ok(())
 }
 
-/// An entry of a history over 16 partitions, in short. Transactions have a number and put 8 under 1 and 9 under 2.
+/// An entry of a history over 16 partitions, in short. Transactions have a number and put 8 under 1
+/// and 9 under 2.
 #[derive(Clone, Copy)]
 enum Line {
     Create,
