@@ -15,11 +15,16 @@
 //! it was told so far decides what it says. [`driver`] has the laws on what a driver knows, and
 //! that a driver who follows the course sends nothing that is forbidden.
 //!
+//! [`sending_check`] reads a list of entries and finds the first that nobody may send, with the
+//! first rule that it breaks. It takes answers as they stand. [`laws::rules_one_by_one`] says that
+//! its rules and that of answers are together what makes a history legal.
+//!
 //! The definitions stand in `specs/` in reading order: `Protocol` and `Service` (what is asked of
 //! tables), `Effects`, `World` and `Runs` (what entries change, and when that may happen), `Serial`
-//! (the one order and its tables), `Answers`, `History` and `Legal` (legal histories), `Tokens`,
-//! `Course` and `Driver`, `Cells` (what the cells hold apart), and `Laws`. `Simple` is one table of
-//! numbers on which they are tried; `proofs/Rows.antt` has worked histories, legal and not.
+//! (the one order and its tables), `Answers`, `History` and `Legal` (legal histories), `Breaks`
+//! (their rules one by one), `Replay` (words of the checker), `Tokens`, `Course` and `Driver`,
+//! `Cells` (what the cells hold apart), and `Laws`. `Simple` is one table of numbers on which they
+//! are tried; `proofs/Rows.antt` has worked histories, legal and not.
 //!
 //! Pages of rows and the feed of indexes change nothing that the laws speak of, and index rows and
 //! outboxes are no part of the state here: of a page it is said when it is Stale, of a feed message
