@@ -86,8 +86,8 @@ fn number_measures(rt: &impl Abort, digits: &str, size: u64) -> Result<(), Fail>
 
 #[test]
 fn sizes_of_numbers(rt: HostRuntime) -> Result<(), Fail> {
-    for (digits, size) in NUMBERS {
-        number_measures(&rt, digits, size)?;
+    for (digits, size) in NUMBERS.as_slice() {
+        number_measures(&rt, digits, *size)?;
     }
     Ok(())
 }
@@ -111,8 +111,8 @@ fn text_measures(rt: &impl Abort, alloc: Global, from: &str, size: u64) -> Resul
 
 #[test]
 fn sizes_of_texts_and_binaries(rt: HostRuntime) -> Result<(), Fail> {
-    for (from, size) in TEXTS {
-        text_measures(&rt, rt.alloc(), from, size)?;
+    for (from, size) in TEXTS.as_slice() {
+        text_measures(&rt, rt.alloc(), from, *size)?;
     }
     Ok(())
 }
@@ -145,13 +145,20 @@ fn nested_measures(rt: &impl Abort, alloc: Global, levels: u32, size: u64) -> Re
 
 #[test]
 fn sizes_and_depths_of_lists(rt: HostRuntime) -> Result<(), Fail> {
-    for (levels, size) in LEVELS {
-        nested_measures(&rt, rt.alloc(), levels, size)?;
+    for (levels, size) in LEVELS.as_slice() {
+        nested_measures(&rt, rt.alloc(), *levels, *size)?;
     }
     Ok(())
 }
 
 const LISTS: [&str; 3] = ["l", "m.y", "m.y.0"];
+
+fn put_lists(alloc: Global, item: &mut Item, places: &[&str]) -> Result<(), Fail> {
+    for steps in places {
+        set(alloc, item, steps, Value::L(Seq::new(alloc)))?;
+    }
+    Ok(())
+}
 
 const PLACES: [(&str, &str); 7] = [
     ("l.0", "10"),
@@ -163,16 +170,19 @@ const PLACES: [(&str, &str); 7] = [
     ("m.y.4294967295", "7"),
 ];
 
+fn put_numbers(alloc: Global, item: &mut Item, places: &[(&str, &str)]) -> Result<(), Fail> {
+    for (steps, digits) in places {
+        set(alloc, item, steps, number(digits)?)?;
+    }
+    Ok(())
+}
+
 /// `{ l: [10, 20, 30], m: { x: 1, y: [[5, 6], 7] } }`
 fn example(alloc: Global) -> Result<Item, Fail> {
     let mut item = Item::new(alloc);
-    set(alloc, &mut item, "m", Value::M(Item::new(alloc)))?;
-    for steps in LISTS {
-        set(alloc, &mut item, steps, Value::L(Seq::new(alloc)))?;
-    }
-    for (steps, digits) in PLACES {
-        set(alloc, &mut item, steps, number(digits)?)?;
-    }
+    item.put(Text::copied(alloc, "m")?, Value::M(Item::new(alloc)))?;
+    put_lists(alloc, &mut item, LISTS.as_slice())?;
+    put_numbers(alloc, &mut item, PLACES.as_slice())?;
     Ok(item)
 }
 
@@ -268,6 +278,19 @@ fn finds(
     Ok(())
 }
 
+/// Finds these numbers at these paths.
+fn finds_numbers(
+    rt: &impl Abort,
+    alloc: Global,
+    item: &Item,
+    places: &[(&str, &str)],
+) -> Result<(), Fail> {
+    for (steps, digits) in places {
+        finds(rt, alloc, item, steps, &number(digits)?)?;
+    }
+    Ok(())
+}
+
 const FOUND: [(&str, &str); 6] = [
     ("l.0", "10"),
     ("l.2", "30"),
@@ -280,16 +303,20 @@ const FOUND: [(&str, &str); 6] = [
 #[test]
 fn paths_that_find(rt: HostRuntime) -> Result<(), Fail> {
     let item = example(rt.alloc())?;
-    for (steps, digits) in FOUND {
-        finds(&rt, rt.alloc(), &item, steps, &number(digits)?)?;
-    }
-    Ok(())
+    finds_numbers(&rt, rt.alloc(), &item, FOUND.as_slice())
 }
 
-fn finds_nothing(rt: &impl Abort, alloc: Global, item: &mut Item, steps: &str) -> Result<(), Fail> {
-    let steps = path(alloc, steps)?;
-    assert!(rt; item.get(&steps).is_none());
-    assert!(rt; !item.remove(&steps));
+fn finds_nothing(
+    rt: &impl Abort,
+    alloc: Global,
+    item: &mut Item,
+    places: &[&str],
+) -> Result<(), Fail> {
+    for steps in places {
+        let steps = path(alloc, steps)?;
+        assert!(rt; item.get(&steps).is_none());
+        assert!(rt; !item.remove(&steps));
+    }
     Ok(())
 }
 
@@ -306,14 +333,18 @@ const NOT_FOUND: [&str; 10] = [
     "L",
 ];
 
+/// The item is still the example, and so is its copy.
+fn is_example(rt: &impl Abort, alloc: Global, item: &Item) -> Result<(), Fail> {
+    assert!(rt; *item == example(alloc)?);
+    assert!(rt; *item == item.try_clone()?);
+    Ok(())
+}
+
 #[test]
 fn paths_that_find_nothing(rt: HostRuntime) -> Result<(), Fail> {
     let mut item = example(rt.alloc())?;
-    for steps in NOT_FOUND {
-        finds_nothing(&rt, rt.alloc(), &mut item, steps)?;
-    }
-    assert!(rt; item == example(rt.alloc())?);
-    Ok(())
+    finds_nothing(&rt, rt.alloc(), &mut item, NOT_FOUND.as_slice())?;
+    is_example(&rt, rt.alloc(), &item)
 }
 
 fn refuses(
@@ -331,75 +362,112 @@ fn refuses(
 
 const BAD_PATHS: [&str; 7] = ["a.b", "0", "l.3.x", "l.x", "m.0", "m.z.y", "m.x.0"];
 
+fn refuses_paths(
+    rt: &impl Abort,
+    alloc: Global,
+    item: &mut Item,
+    places: &[&str],
+) -> Result<(), Fail> {
+    for steps in places {
+        refuses(rt, alloc, item, steps, Value::Null, ValueFault::BadPath)?;
+    }
+    Ok(())
+}
+
 #[test]
 fn bad_paths(rt: HostRuntime) -> Result<(), Fail> {
     let mut item = example(rt.alloc())?;
-    for steps in BAD_PATHS {
-        refuses(
-            &rt,
-            rt.alloc(),
-            &mut item,
-            steps,
-            Value::Null,
-            ValueFault::BadPath,
-        )?;
-    }
-    assert!(rt; item == example(rt.alloc())?);
-    assert!(rt; item == item.try_clone()?);
-    Ok(())
+    refuses_paths(&rt, rt.alloc(), &mut item, BAD_PATHS.as_slice())?;
+    is_example(&rt, rt.alloc(), &item)
 }
 
 const PUT: [(&str, &str); 4] = [("l.1", "l.1"), ("l.9", "l.3"), ("m.z", "m.z"), ("m", "m")];
 
+fn puts_true(
+    rt: &impl Abort,
+    alloc: Global,
+    item: &mut Item,
+    places: &[(&str, &str)],
+) -> Result<(), Fail> {
+    for (steps, found) in places {
+        set(alloc, item, steps, Value::Bool(true))?;
+        finds(rt, alloc, item, found, &Value::Bool(true))?;
+    }
+    Ok(())
+}
+
 #[test]
 fn values_put_in(rt: HostRuntime) -> Result<(), Fail> {
     let mut item = example(rt.alloc())?;
-    for (steps, found) in PUT {
-        set(rt.alloc(), &mut item, steps, Value::Bool(true))?;
-        finds(&rt, rt.alloc(), &item, found, &Value::Bool(true))?;
-    }
-    Ok(())
+    puts_true(&rt, rt.alloc(), &mut item, PUT.as_slice())
 }
 
 const TAKEN: [&str; 4] = ["l.0", "l.0", "m.y.0.0", "m.x"];
 
 const LEFT: [(&str, &str); 3] = [("l.0", "30"), ("m.y.0.0", "6"), ("m.y.1", "7")];
 
+fn takes(rt: &impl Abort, alloc: Global, item: &mut Item, places: &[&str]) -> Result<(), Fail> {
+    for steps in places {
+        assert!(rt; item.remove(&path(alloc, steps)?));
+    }
+    Ok(())
+}
+
 #[test]
 fn values_taken_out(rt: HostRuntime) -> Result<(), Fail> {
     let mut item = example(rt.alloc())?;
-    for steps in TAKEN {
-        assert!(rt; item.remove(&path(rt.alloc(), steps)?));
-    }
-    for (steps, digits) in LEFT {
-        finds(&rt, rt.alloc(), &item, steps, &number(digits)?)?;
-    }
+    takes(&rt, rt.alloc(), &mut item, TAKEN.as_slice())?;
     assert_eq!(rt; item.size(), 26);
-    Ok(())
+    finds_numbers(&rt, rt.alloc(), &item, LEFT.as_slice())
 }
 
 const DEEPEST: [(&str, u32); 3] = [("l", 32), ("l.0", 31), ("l.0.0", 30)];
 
+fn puts_nested(
+    rt: &impl Abort,
+    alloc: Global,
+    item: &mut Item,
+    places: &[(&str, u32)],
+) -> Result<(), Fail> {
+    for (steps, levels) in places {
+        set(alloc, item, steps, nested(alloc, *levels)?)?;
+        assert_eq!(rt; item.depth(), 32);
+    }
+    Ok(())
+}
+
 const TOO_DEEP: [(&str, u32); 4] = [("l", 33), ("a.b", 32), ("l.0", 32), ("l.0.0", 31)];
+
+fn refuses_nested(
+    rt: &impl Abort,
+    alloc: Global,
+    item: &mut Item,
+    places: &[(&str, u32)],
+) -> Result<(), Fail> {
+    for (steps, levels) in places {
+        let value = nested(alloc, *levels)?;
+        refuses(rt, alloc, item, steps, value, ValueFault::TooDeep)?;
+    }
+    Ok(())
+}
 
 #[test]
 fn deepest_values(rt: HostRuntime) -> Result<(), Fail> {
-    let alloc = rt.alloc();
-    let mut item = Item::new(alloc);
-    for (steps, levels) in DEEPEST {
-        set(alloc, &mut item, steps, nested(alloc, levels)?)?;
-        assert_eq!(rt; item.depth(), 32);
-    }
-    for (steps, levels) in TOO_DEEP {
-        let value = nested(alloc, levels)?;
-        refuses(&rt, alloc, &mut item, steps, value, ValueFault::TooDeep)?;
-    }
-    Ok(())
+    let mut item = Item::new(rt.alloc());
+    puts_nested(&rt, rt.alloc(), &mut item, DEEPEST.as_slice())?;
+    refuses_nested(&rt, rt.alloc(), &mut item, TOO_DEEP.as_slice())
 }
 
 // Attributes and orders.
 
 const NAMES: [&str; 5] = ["é", "b", "ab", "B", "b"];
+
+fn put_nulls(alloc: Global, item: &mut Item, names: &[&str]) -> Result<(), Fail> {
+    for name in names {
+        item.put(Text::copied(alloc, name)?, Value::Null)?;
+    }
+    Ok(())
+}
 
 fn joined_names(alloc: Global, item: &Item) -> Result<String, AllocError> {
     let mut joined = String::new(alloc);
@@ -413,9 +481,7 @@ fn joined_names(alloc: Global, item: &Item) -> Result<String, AllocError> {
 fn attributes_in_order(rt: HostRuntime) -> Result<(), Fail> {
     let mut item = Item::new(rt.alloc());
     assert!(rt; item.is_empty());
-    for name in NAMES {
-        item.put(Text::copied(rt.alloc(), name)?, Value::Null)?;
-    }
+    put_nulls(rt.alloc(), &mut item, NAMES.as_slice())?;
     assert!(rt; !item.is_empty());
     assert_eq!(rt; item.len(), 4);
     assert_eq!(rt; joined_names(rt.alloc(), &item)?.as_str(), "Babbé");
@@ -431,8 +497,8 @@ const ORDERS: [(&str, Ordering); 3] = [
 #[test]
 fn orders(rt: HostRuntime) -> Result<(), Fail> {
     let two = number("2")?;
-    for (digits, order) in ORDERS {
-        assert!(rt; two.compare(&number(digits)?) == Some(order));
+    for (digits, order) in ORDERS.as_slice() {
+        assert!(rt; two.compare(&number(digits)?) == Some(*order));
     }
     assert!(rt; two.compare(&text(rt.alloc(), "2")?).is_none());
     assert!(rt; Value::Null.compare(&Value::Null).is_none());
