@@ -1,0 +1,45 @@
+-- Which placeholders were used.
+use Rattle.std.specs.Prelude.{◌≡◌, ◌⊎◌, ◌↔◌, ◌++◌, ℕ, Bool, true, not, List, length, Option, None, Some, slice_get, position, filter_map, Contains}
+use Rattle.expr_parse.specs.declared.token.Token.{Token}
+use Rattle.expr_parse.specs.declared.token.TokenKind.{TokenKind}
+use Rattle.expr_parse.specs.declared.token.TokenKind.TheVariants as kind
+use Rattle.expr_parse.specs.declared.given.Given.{Given}
+use Rattle.expr_parse.specs.declared.given.Used.{Used}
+use Rattle.expr_parse.specs.Words.{bytes_of, name_place, value_place}
+use Rattle.expr_parse.specs.Lexed.{Lexes}
+use Rattle.std.specs.Prelude.{Ok}
+
+-- made for this given: a mark for each of its names and each of its values
+pub record IsMadeFor (given : Given) (used : Used) : Type 0 where
+  pub of_names : length used.names ≡ length given.names
+  pub of_values : length used.values ≡ length given.value_names
+
+-- the place that a token names among the names, and among the values
+abbrev pub name_used : Given → TokenKind → List ℕ → Option ℕ
+name_used given kind.NamePlaceholder bytes = name_place given bytes
+name_used given kind bytes = None
+
+abbrev pub value_used : Given → TokenKind → List ℕ → Option ℕ
+value_used given kind.ValuePlaceholder bytes = value_place given bytes
+value_used given kind bytes = None
+
+abbrev pub names_used : Given → List ℕ → List Token → List ℕ
+names_used given text tokens = filter_map (λ token. name_used given token.kind (bytes_of text token)) tokens
+
+abbrev pub values_used : Given → List ℕ → List Token → List ℕ
+values_used given text tokens = filter_map (λ token. value_used given token.kind (bytes_of text token)) tokens
+
+-- marked now is what was marked before and what stands at these places
+abbrev pub Marks : List ℕ → List Bool → List Bool → Type 0
+Marks places old new = (k : ℕ) → (slice_get new k ≡ Some true) ↔ ((slice_get old k ≡ Some true) ⊎ Contains places k)
+
+-- the placeholders of the text are marked besides those that were
+pub record IsMarked (given : Given) (text : List ℕ) (old new : Used) : Type 0 where
+  pub tokens : List Token
+  pub are_tokens : Lexes 0 text (Ok tokens)
+  pub names : Marks (names_used given text tokens) old.names new.names
+  pub values : Marks (values_used given text tokens) old.values new.values
+
+-- the place of the first without a mark, of the names and then the values
+abbrev pub first_unused : Used → Option ℕ
+first_unused used = position not (used.names ++ used.values)

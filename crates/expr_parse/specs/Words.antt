@@ -1,0 +1,87 @@
+-- The words of an expression: its tokens, with what their bytes mean.
+use Rattle.std.specs.Prelude.{ℕ, ◌+◌, ◌-◌, ◌*◌, List, [], ◌∷◌, map, fold, Option, None, Some, option_map, unwrap_or, position, filter_map, bytes_eq, slice_get, slice_range}
+use Rattle.expr_parse.specs.declared.token.Token.{Token}
+use Rattle.expr_parse.specs.declared.token.TokenKind.{TokenKind}
+use Rattle.expr_parse.specs.declared.token.TokenKind.TheVariants as kind
+use Rattle.expr_parse.specs.declared.given.Given.{Given}
+use Rattle.expr_parse.specs.declared.parse_end.ParseEnd.{ParseEnd}
+use Rattle.expr_parse.specs.declared.parse_end.ParseEnd.TheVariants.{UndefinedName, UndefinedValue}
+use Rattle.expr_parse.specs.declared.word.Word as code
+use Rattle.expr_parse.specs.declared.word.Word.TheVariants as shown
+
+pub data Word : Type 0 where
+  -- a name as it is written
+  Bare : List ℕ → Word
+  -- a placeholder of a name: the name that it stands for
+  Placed : List ℕ → Word
+  -- a placeholder of a value: the value's place
+  Held : ℕ → Word
+  -- the number of an index
+  Number : ℕ → Word
+  -- a keyword or a sign
+  Sign : TokenKind → Word
+  -- what no text has: it stands in the grammar where a limit bars the way
+  Barred : Word
+
+-- the number of decimal digits
+abbrev pub number : List ℕ → ℕ
+number digits = fold (λ n digit. n * 10 + (digit - 48)) 0 digits
+
+-- the place of the first name that is given with this placeholder
+abbrev pub name_place : Given → List ℕ → Option ℕ
+name_place given placeholder = position (λ pair. bytes_eq pair.placeholder placeholder) given.names
+
+-- the place of the first value that is given with this placeholder
+abbrev pub value_place : Given → List ℕ → Option ℕ
+value_place given placeholder = position (λ name. bytes_eq name placeholder) given.value_names
+
+-- the name at a place of those given
+abbrev pub name_at : Given → ℕ → List ℕ
+name_at given place = unwrap_or (option_map (λ pair. pair.name) (slice_get given.names place)) []
+
+-- the bytes of a token
+abbrev pub bytes_of : List ℕ → Token → List ℕ
+bytes_of text token = slice_range text token.from token.to
+
+-- What is not given stands for the empty name and the first value: it makes no difference to whether and where a
+-- text is at fault, and no such text has a tree.
+abbrev pub meaning : Given → TokenKind → List ℕ → Word
+meaning given kind.Name bytes = Bare bytes
+meaning given kind.NamePlaceholder bytes = Placed (unwrap_or (option_map (name_at given) (name_place given bytes)) [])
+meaning given kind.ValuePlaceholder bytes = Held (unwrap_or (value_place given bytes) 0)
+meaning given kind.Index bytes = Number (number bytes)
+meaning given kind bytes = Sign kind
+
+-- the word of a token
+abbrev pub word : Given → List ℕ → Token → Word
+word given text token = meaning given token.kind (bytes_of text token)
+
+abbrev pub words : Given → List ℕ → List Token → List Word
+words given text tokens = map (word given text) tokens
+
+-- a fault, where there is no place
+abbrev pub unless_placed : Option ℕ → ParseEnd → Option ParseEnd
+unless_placed None fault = Some fault
+unless_placed (Some place) fault = None
+
+-- the fault of a token by itself: a placeholder that is not given
+abbrev pub missing : Given → TokenKind → List ℕ → Option ParseEnd
+missing given kind.NamePlaceholder bytes = unless_placed (name_place given bytes) (UndefinedName bytes)
+missing given kind.ValuePlaceholder bytes = unless_placed (value_place given bytes) (UndefinedValue bytes)
+missing given kind bytes = None
+
+-- the first placeholder that is not given, in the order of the text
+abbrev pub undefined : Given → List ℕ → List Token → Option ParseEnd
+undefined given text tokens = slice_get (filter_map (λ token. missing given token.kind (bytes_of text token)) tokens) 0
+
+-- the word that one of the code's stands for
+abbrev pub meant : code.Word → Word
+meant (shown.Bare name) = Bare name.now
+meant (shown.Placed name) = Placed name.now
+meant (shown.Held value) = Held value
+meant (shown.Number index) = Number index
+meant (shown.Sign sign) = Sign sign
+
+abbrev pub meanings : List code.Word → List Word
+meanings [] = []
+meanings (w ∷ ws) = meant w ∷ meanings ws

@@ -1,0 +1,19 @@
+//! Expressions as trees: conditions and projections, read from their text.
+//!
+//! A text is read by its grammar, which `specs/Grammar.antt` states: a tree is answered exactly where the
+//! text is a sentence, and then it is that sentence's tree. Else the first fault is told, in the order
+//! of [`ParseEnd`]'s page.
+#![tactic(auto)]
+
+mod function;
+mod given;
+mod parse_end;
+mod stop;
+mod token;
+mod tree;
+mod word;
+
+pub use given::{Given, NamePair, Used};
+pub use parse_end::{Clause, ParseEnd};
+pub use token::{Token, TokenKind};
+pub use tree::{Comparison, Condition, Operand, Paths};
