@@ -54,12 +54,12 @@ pub data IsOperand (k : ℕ) (ts : List Word) (x : Operand) : Type 0 where
 
 -- = <> < <= > >=
 pub data IsComparison : Word → Comparison → Type 0 where
-  equal : IsComparison (Sign sign.Equal) comparison.Equal
-  unequal : IsComparison (Sign sign.Unequal) comparison.Unequal
-  less : IsComparison (Sign sign.Less) comparison.Less
-  at_most : IsComparison (Sign sign.AtMost) comparison.AtMost
-  more : IsComparison (Sign sign.More) comparison.More
-  at_least : IsComparison (Sign sign.AtLeast) comparison.AtLeast
+  equals : IsComparison (Sign sign.Equal) comparison.Equal
+  differs : IsComparison (Sign sign.Unequal) comparison.Unequal
+  is_less : IsComparison (Sign sign.Less) comparison.Less
+  is_at_most : IsComparison (Sign sign.AtMost) comparison.AtMost
+  is_more_than : IsComparison (Sign sign.More) comparison.More
+  is_at_least : IsComparison (Sign sign.AtLeast) comparison.AtLeast
 
 -- { "," operand }
 pub data AreMoreOperands (k : ℕ) : List Word → List Operand → Type 0 where

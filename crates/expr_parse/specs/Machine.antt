@@ -197,9 +197,13 @@ on_operand k ks (Some (Placed name)) = Take (MoreSteps ∷ Do MakePath ∷ []) (
 on_operand k ks (Some (Held value)) = Take [] (Side (operand.Value value) ∷ ks)
 on_operand k ks o = Refuse
 
+-- the comma behind a choice: another choice, or nothing where there are most_choices
+abbrev pub on_another : ℕ → ℕ → List Kept → Action
+on_another k (suc left) ks = Take (AnOperand k ∷ Do NextChoice ∷ MoreChoices k left ∷ []) ks
+on_another k zero ks = Take (ABar ∷ Do MakeChoice ∷ []) ks
+
 abbrev pub on_choices : ℕ → ℕ → List Kept → Option Word → Action
-on_choices k (suc left) ks (Some (Sign sign.Comma)) = Take (AnOperand k ∷ Do NextChoice ∷ MoreChoices k left ∷ []) ks
-on_choices k zero ks (Some (Sign sign.Comma)) = Take (ABar ∷ Do MakeChoice ∷ []) ks
+on_choices k left ks (Some (Sign sign.Comma)) = on_another k left ks
 on_choices k left ks (Some (Sign sign.CloseParenthesis)) = Take (Do MakeChoice ∷ []) ks
 on_choices k left ks o = Refuse
 

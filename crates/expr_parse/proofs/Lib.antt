@@ -1,0 +1,5 @@
+pub mod Names
+pub mod Owing
+pub mod Sound
+pub mod Viability
+
