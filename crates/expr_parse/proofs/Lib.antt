@@ -2,4 +2,5 @@ pub mod Names
 pub mod Owing
 pub mod Sound
 pub mod Viability
-
+pub mod Steps
+pub mod Complete
