@@ -4,3 +4,4 @@ pub mod Sound
 pub mod Viability
 pub mod Steps
 pub mod Complete
+pub mod Along

@@ -71,73 +71,118 @@ rest k x ks (Sign sign.Less) = compares k x ks (Sign sign.Less) comparison.Less 
 rest k x ks (Sign sign.AtMost) = compares k x ks (Sign sign.AtMost) comparison.AtMost is_at_most
 rest k x ks (Sign sign.More) = compares k x ks (Sign sign.More) comparison.More is_more_than
 rest k x ks (Sign sign.AtLeast) = compares k x ks (Sign sign.AtLeast) comparison.AtLeast is_at_least
-rest k x ks (Sign sign.Between) = λ P u (y, a, b, s, e, (b2, e2, (z, c, d, s2, e3, p))).
-    (Range x y z, Sign sign.Between ∷ (a ++ Sign sign.And ∷ c), d, (λ f g. a_range f a c x y z g s s2 refl refl),
-        ap (λ l. Sign sign.Between ∷ l) (two a (Sign sign.And ∷ c) d e (e2 ∙ ap (λ l. Sign sign.And ∷ l) e3)), p)
-rest (suc k) x ks (Sign sign.In) = λ P u (b, e, (y, a, b2, s, e2, (zs, a2, b3, l, e3, p))).
-    (Choice x (y ∷ zs), Sign sign.In ∷ Sign sign.OpenParenthesis ∷ (a ++ a2), b3, (λ f g. among k f a x y zs a2 g s l),
-        ap (λ l. Sign sign.In ∷ l) (e ∙ ap (λ l. Sign sign.OpenParenthesis ∷ l) (two a a2 b3 e2 e3)), p)
+rest k x ks (Sign sign.Between) = λ P u (y, a, b, s, e, (b2, e2, (z, c, d, s2, e3, p))). (
+  Range x y z,
+  Sign sign.Between ∷ (a ++ Sign sign.And ∷ c),
+  d,
+  (λ f g. a_range f a c x y z g s s2 refl refl),
+  ap (λ l. Sign sign.Between ∷ l) (two a (Sign sign.And ∷ c) d e (e2 ∙ ap (λ l. Sign sign.And ∷ l) e3)),
+  p,
+)
+rest (suc k) x ks (Sign sign.In) = λ P u (b, e, (y, a, b2, s, e2, (zs, a2, b3, l, e3, p))). (
+  Choice x (y ∷ zs),
+  Sign sign.In ∷ Sign sign.OpenParenthesis ∷ (a ++ a2),
+  b3,
+  (λ f g. among k f a x y zs a2 g s l),
+  ap (λ l. Sign sign.In ∷ l) (e ∙ ap (λ l. Sign sign.OpenParenthesis ∷ l) (two a a2 b3 e2 e3)),
+  p,
+)
 rest zero x ks (Sign sign.In) = λ P u (b, e, p).
     (Choice x [], Sign sign.In ∷ Barred ∷ [], b, (λ f g. a_barred_parenthesis f x refl g refl refl), ap (λ l. Sign sign.In ∷ l) e, p)
 rest k x ks t = tt
 
 part : (k : ℕ) (ks : List Kept) (t : Word) → Sound (APart k) ks t (on_part k ks (Some t))
 part k ks (Bare name) = λ P u (t, a, b, s, e, p). (t, Bare name ∷ a, b, s, ap (λ l. Bare name ∷ l) e, p)
-part k ks (Placed name) = λ P u (q, a, b, s, e, (t, a2, b2, f, e2, p)).
-    (t, Placed name ∷ (a ++ a2), b2, flat_part k (f (Placed name ∷ a) (a_path (path_of (step.Name name ∷ q)) (placed_path name a q s) refl)),
-        ap (λ l. Placed name ∷ l) (two a a2 b2 e e2), p)
+part k ks (Placed name) = λ P u (q, a, b, s, e, (t, a2, b2, f, e2, p)). (
+  t,
+  Placed name ∷ (a ++ a2),
+  b2,
+  flat_part k (f (Placed name ∷ a) (a_path (path_of (step.Name name ∷ q)) (placed_path name a q s) refl)),
+  ap (λ l. Placed name ∷ l) (two a a2 b2 e e2),
+  p,
+)
 part k ks (Held value) = λ P u (t, a, b, f, e, p).
     (t, Held value ∷ a, b, flat_part k (f (Held value ∷ []) (a_value value refl refl)), ap (λ l. Held value ∷ l) e, p)
-part (suc k) ks (Sign sign.Not) = λ P u (t, a, b, s, e, p).
-    (Negation t, Sign sign.Not ∷ a, b, inr (inl (record { inner = a; negated = t; is_inner = s; spelled = refl; tree_is = refl })),
-        ap (λ l. Sign sign.Not ∷ l) e, p)
-part (suc k) ks (Sign sign.OpenParenthesis) = λ P u (t, a, b, s, e, (b2, e2, p)).
-    (t, Sign sign.OpenParenthesis ∷ (a ++ Sign sign.CloseParenthesis ∷ []), b2, inr (inr (record { inner = a; is_inner = s; spelled = refl })),
-        ap (λ l. Sign sign.OpenParenthesis ∷ l) (closes a (Sign sign.CloseParenthesis) b2 e e2), p)
+part (suc k) ks (Sign sign.Not) = λ P u (t, a, b, s, e, p). (
+  Negation t,
+  Sign sign.Not ∷ a,
+  b,
+  inr (inl (record { inner = a; negated = t; is_inner = s; spelled = refl; tree_is = refl })),
+  ap (λ l. Sign sign.Not ∷ l) e,
+  p,
+)
+part (suc k) ks (Sign sign.OpenParenthesis) = λ P u (t, a, b, s, e, (b2, e2, p)). (
+  t,
+  Sign sign.OpenParenthesis ∷ (a ++ Sign sign.CloseParenthesis ∷ []),
+  b2,
+  inr (inr (record { inner = a; is_inner = s; spelled = refl })),
+  ap (λ l. Sign sign.OpenParenthesis ∷ l) (closes a (Sign sign.CloseParenthesis) b2 e e2),
+  p,
+)
 part k ks t = tt
 
 -- a call of one path
 path_call : (k : ℕ) (name : List ℕ) (ks : List Kept) (of : DocPath → Tree) → IsPathTest name of
     → Sound (NamedPart (suc k) name) ks (Sign sign.OpenParenthesis) (Take (APath ∷ AClose ∷ Do (OfPath of) ∷ []) ks)
-path_call k name ks of c = λ P u (p, a, b, s, e, (b2, e2, r)).
-    (of (path_of p), Sign sign.OpenParenthesis ∷ (a ++ Sign sign.CloseParenthesis ∷ []), b2,
-        inl (a_path_test name of a (path_of p) (omega arith) c s refl refl),
-        ap (λ l. Sign sign.OpenParenthesis ∷ l) (closes a (Sign sign.CloseParenthesis) b2 e e2), r)
+path_call k name ks of c = λ P u (p, a, b, s, e, (b2, e2, r)). (
+  of (path_of p),
+  Sign sign.OpenParenthesis ∷ (a ++ Sign sign.CloseParenthesis ∷ []),
+  b2,
+  inl (a_path_test name of a (path_of p) (omega arith) c s refl refl),
+  ap (λ l. Sign sign.OpenParenthesis ∷ l) (closes a (Sign sign.CloseParenthesis) b2 e e2),
+  r,
+)
 
 -- a call of two operands
 operand_call : (k : ℕ) (name : List ℕ) (ks : List Kept) (of : Operand → Operand → Tree) → IsOperandTest name of
     → Sound (NamedPart (suc k) name) ks (Sign sign.OpenParenthesis) (Take (AnOperand k ∷ AComma ∷ AnOperand k ∷ AClose ∷ Do (OfSides of) ∷ []) ks)
-operand_call k name ks of c = λ P u (x, a, b, s, e, (b2, e2, (y, a3, b3, s3, e3, (b4, e4, r)))).
-    (of x y, Sign sign.OpenParenthesis ∷ (a ++ Sign sign.Comma ∷ (a3 ++ Sign sign.CloseParenthesis ∷ [])), b4,
-        inl (an_operand_test name of a a3 x y k refl c s s3 refl refl),
-        ap (λ l. Sign sign.OpenParenthesis ∷ l)
-            (two a (Sign sign.Comma ∷ (a3 ++ Sign sign.CloseParenthesis ∷ [])) b4 e (e2 ∙ ap (λ l. Sign sign.Comma ∷ l) (closes a3 (Sign sign.CloseParenthesis) b4 e3 e4))), r)
+operand_call k name ks of c = λ P u (x, a, b, s, e, (b2, e2, (y, a3, b3, s3, e3, (b4, e4, r)))). (
+  of x y,
+  Sign sign.OpenParenthesis ∷ (a ++ Sign sign.Comma ∷ (a3 ++ Sign sign.CloseParenthesis ∷ [])),
+  b4,
+  inl (an_operand_test name of a a3 x y k refl c s s3 refl refl),
+  ap (λ l. Sign sign.OpenParenthesis ∷ l)
+      (two a (Sign sign.Comma ∷ (a3 ++ Sign sign.CloseParenthesis ∷ [])) b4 e (e2 ∙ ap (λ l. Sign sign.Comma ∷ l) (closes a3 (Sign sign.CloseParenthesis) b4 e3 e4))),
+  r,
+)
 
 call : (f : Function) (k : ℕ) (name : List ℕ) (ks : List Kept) → IsCalled f name
     → Sound (NamedPart k name) ks (Sign sign.OpenParenthesis) (on_call f k ks)
-call function.Size (suc k) name ks n = λ P u (p, a, b, s, e, (b2, e2, (t, a3, b3, f, e3, r))).
-    (t, Sign sign.OpenParenthesis ∷ ((a ++ Sign sign.CloseParenthesis ∷ []) ++ a3), b3,
-        inl (f (Bare name ∷ Sign sign.OpenParenthesis ∷ (a ++ Sign sign.CloseParenthesis ∷ []))
-            (a_size (path_of p) a (omega arith) s (ap (λ m. Bare m ∷ Sign sign.OpenParenthesis ∷ (a ++ Sign sign.CloseParenthesis ∷ [])) n) refl)),
-        ap (λ l. Sign sign.OpenParenthesis ∷ l) (three a (Sign sign.CloseParenthesis ∷ []) a3 b3 e e2 e3), r)
+call function.Size (suc k) name ks n = λ P u (p, a, b, s, e, (b2, e2, (t, a3, b3, f, e3, r))). (
+  t,
+  Sign sign.OpenParenthesis ∷ ((a ++ Sign sign.CloseParenthesis ∷ []) ++ a3),
+  b3,
+  inl (f (Bare name ∷ Sign sign.OpenParenthesis ∷ (a ++ Sign sign.CloseParenthesis ∷ []))
+      (a_size (path_of p) a (omega arith) s (ap (λ m. Bare m ∷ Sign sign.OpenParenthesis ∷ (a ++ Sign sign.CloseParenthesis ∷ [])) n) refl)),
+  ap (λ l. Sign sign.OpenParenthesis ∷ l) (three a (Sign sign.CloseParenthesis ∷ []) a3 b3 e e2 e3),
+  r,
+)
 call function.Exists (suc k) name ks n = path_call k name ks Presence (subst (λ m. IsPathTest m Presence) (sym n) exists)
 call function.NotExists (suc k) name ks n = path_call k name ks Absence (subst (λ m. IsPathTest m Absence) (sym n) not_exists)
-call function.HasType (suc k) name ks n = λ P u (p, a, b, s, e, (b2, e2, (v, b3, e3, (b4, e4, r)))).
-    (KindTest (path_of p) v, Sign sign.OpenParenthesis ∷ (a ++ Sign sign.Comma ∷ Held v ∷ Sign sign.CloseParenthesis ∷ []), b4,
-        inl (a_kind_test a (path_of p) v (omega arith) s
-            (ap (λ m. Bare m ∷ Sign sign.OpenParenthesis ∷ (a ++ Sign sign.Comma ∷ Held v ∷ Sign sign.CloseParenthesis ∷ [])) n) refl),
-        ap (λ l. Sign sign.OpenParenthesis ∷ l)
-            (two a (Sign sign.Comma ∷ Held v ∷ Sign sign.CloseParenthesis ∷ []) b4 e (e2 ∙ ap (λ l. Sign sign.Comma ∷ l) (e3 ∙ ap (λ l. Held v ∷ l) e4))), r)
+call function.HasType (suc k) name ks n = λ P u (p, a, b, s, e, (b2, e2, (v, b3, e3, (b4, e4, r)))). (
+  KindTest (path_of p) v,
+  Sign sign.OpenParenthesis ∷ (a ++ Sign sign.Comma ∷ Held v ∷ Sign sign.CloseParenthesis ∷ []),
+  b4,
+  inl (a_kind_test a (path_of p) v (omega arith) s
+      (ap (λ m. Bare m ∷ Sign sign.OpenParenthesis ∷ (a ++ Sign sign.Comma ∷ Held v ∷ Sign sign.CloseParenthesis ∷ [])) n) refl),
+  ap (λ l. Sign sign.OpenParenthesis ∷ l)
+      (two a (Sign sign.Comma ∷ Held v ∷ Sign sign.CloseParenthesis ∷ []) b4 e (e2 ∙ ap (λ l. Sign sign.Comma ∷ l) (e3 ∙ ap (λ l. Held v ∷ l) e4))),
+  r,
+)
 call function.BeginsWith (suc k) name ks n = operand_call k name ks FrontTest (subst (λ m. IsOperandTest m FrontTest) (sym n) begins)
 call function.Contains (suc k) name ks n = operand_call k name ks PartTest (subst (λ m. IsOperandTest m PartTest) (sym n) contains)
 call f k name ks n = tt
 
 operand_size : (f : Function) (k : ℕ) (name : List ℕ) (ks : List Kept) → IsCalled f name
     → Sound (NamedOperand k name) ks (Sign sign.OpenParenthesis) (on_operand_call f k ks)
-operand_size function.Size (suc k) name ks n = λ P u (p, a, b, s, e, (b2, e2, r)).
-    (operand.Size (path_of p), Sign sign.OpenParenthesis ∷ (a ++ Sign sign.CloseParenthesis ∷ []), b2,
-        a_size (path_of p) a (omega arith) s (ap (λ m. Bare m ∷ Sign sign.OpenParenthesis ∷ (a ++ Sign sign.CloseParenthesis ∷ [])) n) refl,
-        ap (λ l. Sign sign.OpenParenthesis ∷ l) (closes a (Sign sign.CloseParenthesis) b2 e e2), r)
+operand_size function.Size (suc k) name ks n = λ P u (p, a, b, s, e, (b2, e2, r)). (
+  operand.Size (path_of p),
+  Sign sign.OpenParenthesis ∷ (a ++ Sign sign.CloseParenthesis ∷ []),
+  b2,
+  a_size (path_of p) a (omega arith) s (ap (λ m. Bare m ∷ Sign sign.OpenParenthesis ∷ (a ++ Sign sign.CloseParenthesis ∷ [])) n) refl,
+  ap (λ l. Sign sign.OpenParenthesis ∷ l) (closes a (Sign sign.CloseParenthesis) b2 e e2),
+  r,
+)
 operand_size f k name ks n = tt
 
 -- a choice more at the front
@@ -145,19 +190,29 @@ more_end : (k left : ℕ) (a : List Word) (y : Operand) (zs : List Operand) (a2 
     → IsListEnd k (suc left) (y ∷ zs) (Sign sign.Comma ∷ (a ++ a2))
 more_end k left a y zs a2 s (closed m are few is) =
     closed (Sign sign.Comma ∷ (a ++ m)) (an_operand s are) (omega (arith, few))
-        (ap (λ l. Sign sign.Comma ∷ (a ++ l)) is ∙ ap (λ l. Sign sign.Comma ∷ l) (sym (append_assoc a m (Sign sign.CloseParenthesis ∷ []))))
+    (ap (λ l. Sign sign.Comma ∷ (a ++ l)) is ∙ ap (λ l. Sign sign.Comma ∷ l) (sym (append_assoc a m (Sign sign.CloseParenthesis ∷ []))))
 more_end k left a y zs a2 s (barred m are most is) =
     barred (Sign sign.Comma ∷ (a ++ m)) (an_operand s are) (omega (arith, most))
-        (ap (λ l. Sign sign.Comma ∷ (a ++ l)) is ∙ ap (λ l. Sign sign.Comma ∷ l) (sym (append_assoc a m (Sign sign.Comma ∷ Barred ∷ []))))
+    (ap (λ l. Sign sign.Comma ∷ (a ++ l)) is ∙ ap (λ l. Sign sign.Comma ∷ l) (sym (append_assoc a m (Sign sign.Comma ∷ Barred ∷ []))))
 
 choices : (k left : ℕ) (ys : List Operand) (x : Operand) (ks : List Kept) (t : Word)
     → Sound (MoreChoices k left) (Sides ys ∷ Side x ∷ ks) t (on_choices k left (Sides ys ∷ Side x ∷ ks) (Some t))
-choices k (suc left) ys x ks (Sign sign.Comma) = λ P u (y, a, b, s, e, (zs, a2, b2, l, e2, p)).
-    (y ∷ zs, Sign sign.Comma ∷ (a ++ a2), b2, more_end k left a y zs a2 s l, ap (λ l. Sign sign.Comma ∷ l) (two a a2 b2 e e2),
-        subst (λ l. P (Whole (Choice x l) ∷ ks) b2) (append_assoc ys (y ∷ []) zs) p)
-choices k zero ys x ks (Sign sign.Comma) = λ P u (b, e, p).
-    ([], Sign sign.Comma ∷ Barred ∷ [], b, barred [] no_operand refl refl, ap (λ l. Sign sign.Comma ∷ l) e,
-        subst (λ l. P (Whole (Choice x l) ∷ ks) b) (sym (append-nil ys)) p)
+choices k (suc left) ys x ks (Sign sign.Comma) = λ P u (y, a, b, s, e, (zs, a2, b2, l, e2, p)). (
+  y ∷ zs,
+  Sign sign.Comma ∷ (a ++ a2),
+  b2,
+  more_end k left a y zs a2 s l,
+  ap (λ l. Sign sign.Comma ∷ l) (two a a2 b2 e e2),
+  subst (λ l. P (Whole (Choice x l) ∷ ks) b2) (append_assoc ys (y ∷ []) zs) p,
+)
+choices k zero ys x ks (Sign sign.Comma) = λ P u (b, e, p). (
+  [],
+  Sign sign.Comma ∷ Barred ∷ [],
+  b,
+  barred [] no_operand refl refl,
+  ap (λ l. Sign sign.Comma ∷ l) e,
+  subst (λ l. P (Whole (Choice x l) ∷ ks) b) (sym (append-nil ys)) p,
+)
 choices k left ys x ks (Sign sign.CloseParenthesis) = λ P u p.
     ([], Sign sign.CloseParenthesis ∷ [], u, closed [] no_operand (omega arith) refl, refl, subst (λ l. P (Whole (Choice x l) ∷ ks) u) (sym (append-nil ys)) p)
 choices k left ys x ks t = tt
@@ -183,46 +238,76 @@ rest_takes k ks t = tt
 
 named_part : (k : ℕ) (name : List ℕ) (ks : List Kept) (t : Word) → Sound (NamedPart k name) ks t (on_named_part k name ks (Some t))
 named_part k name ks (Sign sign.OpenParenthesis) = call (function_of name) k name ks (is_called name)
-named_part k name ks (Sign sign.Dot) = λ P u (field, w, b, n, e, (q, a, b2, s, e2, (t, a3, b3, f, e3, p))).
-    (t, Sign sign.Dot ∷ w ∷ (a ++ a3), b3,
-        flat_part k (f (Bare name ∷ Sign sign.Dot ∷ w ∷ a) (a_path (path_of (step.Name name ∷ step.Name field ∷ q)) (bare_path name (Sign sign.Dot ∷ w ∷ a) (step.Name field ∷ q) (a_field n s)) refl)),
-        ap (λ l. Sign sign.Dot ∷ l) (e ∙ ap (λ l. w ∷ l) (two a a3 b3 e2 e3)), p)
-named_part k name ks (Sign sign.OpenBracket) = λ P u (i, b, e, (b2, e2, (q, a, b3, s, e3, (t, a4, b4, f, e4, p)))).
-    (t, Sign sign.OpenBracket ∷ Number i ∷ Sign sign.CloseBracket ∷ (a ++ a4), b4,
-        flat_part k (f (Bare name ∷ Sign sign.OpenBracket ∷ Number i ∷ Sign sign.CloseBracket ∷ a)
-            (a_path (path_of (step.Name name ∷ step.Index i ∷ q)) (bare_path name (Sign sign.OpenBracket ∷ Number i ∷ Sign sign.CloseBracket ∷ a) (step.Index i ∷ q) (an_element s)) refl)),
-        ap (λ l. Sign sign.OpenBracket ∷ l) (e ∙ ap (λ l. Number i ∷ l) (e2 ∙ ap (λ l. Sign sign.CloseBracket ∷ l) (two a a4 b4 e3 e4))), p)
+named_part k name ks (Sign sign.Dot) = λ P u (field, w, b, n, e, (q, a, b2, s, e2, (t, a3, b3, f, e3, p))). (
+  t,
+  Sign sign.Dot ∷ w ∷ (a ++ a3),
+  b3,
+  flat_part k (f (Bare name ∷ Sign sign.Dot ∷ w ∷ a) (a_path (path_of (step.Name name ∷ step.Name field ∷ q)) (bare_path name (Sign sign.Dot ∷ w ∷ a) (step.Name field ∷ q) (a_field n s)) refl)),
+  ap (λ l. Sign sign.Dot ∷ l) (e ∙ ap (λ l. w ∷ l) (two a a3 b3 e2 e3)),
+  p,
+)
+named_part k name ks (Sign sign.OpenBracket) = λ P u (i, b, e, (b2, e2, (q, a, b3, s, e3, (t, a4, b4, f, e4, p)))). (
+  t,
+  Sign sign.OpenBracket ∷ Number i ∷ Sign sign.CloseBracket ∷ (a ++ a4),
+  b4,
+  flat_part k (f (Bare name ∷ Sign sign.OpenBracket ∷ Number i ∷ Sign sign.CloseBracket ∷ a)
+      (a_path (path_of (step.Name name ∷ step.Index i ∷ q)) (bare_path name (Sign sign.OpenBracket ∷ Number i ∷ Sign sign.CloseBracket ∷ a) (step.Index i ∷ q) (an_element s)) refl)),
+  ap (λ l. Sign sign.OpenBracket ∷ l) (e ∙ ap (λ l. Number i ∷ l) (e2 ∙ ap (λ l. Sign sign.CloseBracket ∷ l) (two a a4 b4 e3 e4))),
+  p,
+)
 named_part k name ks t =
     named_rest k name ks t (on_rest k (Side (operand.Path (path_of (named name))) ∷ ks) (Some t)) (rest_takes k (Side (operand.Path (path_of (named name))) ∷ ks) t)
-        (rest k (operand.Path (path_of (named name))) ks t)
+    (rest k (operand.Path (path_of (named name))) ks t)
 
 named_operand : (k : ℕ) (name : List ℕ) (ks : List Kept) (t : Word) → Sound (NamedOperand k name) ks t (on_named_operand k name ks (Some t))
 named_operand k name ks (Sign sign.OpenParenthesis) = operand_size (function_of name) k name ks (is_called name)
-named_operand k name ks (Sign sign.Dot) = λ P u (field, w, b, n, e, (q, a, b2, s, e2, p)).
-    (operand.Path (path_of (step.Name name ∷ step.Name field ∷ q)), Sign sign.Dot ∷ w ∷ a, b2,
-        a_path (path_of (step.Name name ∷ step.Name field ∷ q)) (bare_path name (Sign sign.Dot ∷ w ∷ a) (step.Name field ∷ q) (a_field n s)) refl,
-        ap (λ l. Sign sign.Dot ∷ l) (e ∙ ap (λ l. w ∷ l) e2), p)
-named_operand k name ks (Sign sign.OpenBracket) = λ P u (i, b, e, (b2, e2, (q, a, b3, s, e3, p))).
-    (operand.Path (path_of (step.Name name ∷ step.Index i ∷ q)), Sign sign.OpenBracket ∷ Number i ∷ Sign sign.CloseBracket ∷ a, b3,
-        a_path (path_of (step.Name name ∷ step.Index i ∷ q)) (bare_path name (Sign sign.OpenBracket ∷ Number i ∷ Sign sign.CloseBracket ∷ a) (step.Index i ∷ q) (an_element s)) refl,
-        ap (λ l. Sign sign.OpenBracket ∷ l) (e ∙ ap (λ l. Number i ∷ l) (e2 ∙ ap (λ l. Sign sign.CloseBracket ∷ l) e3)), p)
+named_operand k name ks (Sign sign.Dot) = λ P u (field, w, b, n, e, (q, a, b2, s, e2, p)). (
+  operand.Path (path_of (step.Name name ∷ step.Name field ∷ q)),
+  Sign sign.Dot ∷ w ∷ a,
+  b2,
+  a_path (path_of (step.Name name ∷ step.Name field ∷ q)) (bare_path name (Sign sign.Dot ∷ w ∷ a) (step.Name field ∷ q) (a_field n s)) refl,
+  ap (λ l. Sign sign.Dot ∷ l) (e ∙ ap (λ l. w ∷ l) e2),
+  p,
+)
+named_operand k name ks (Sign sign.OpenBracket) = λ P u (i, b, e, (b2, e2, (q, a, b3, s, e3, p))). (
+  operand.Path (path_of (step.Name name ∷ step.Index i ∷ q)),
+  Sign sign.OpenBracket ∷ Number i ∷ Sign sign.CloseBracket ∷ a,
+  b3,
+  a_path (path_of (step.Name name ∷ step.Index i ∷ q)) (bare_path name (Sign sign.OpenBracket ∷ Number i ∷ Sign sign.CloseBracket ∷ a) (step.Index i ∷ q) (an_element s)) refl,
+  ap (λ l. Sign sign.OpenBracket ∷ l) (e ∙ ap (λ l. Number i ∷ l) (e2 ∙ ap (λ l. Sign sign.CloseBracket ∷ l) e3)),
+  p,
+)
 named_operand k name ks t = λ P u p.
     (operand.Path (path_of (named name)), [], u, a_path (path_of (named name)) (bare_path name [] [] no_step) refl, refl, p)
 
 steps : (p : List Step) (ks : List Kept) (t : Word) → Sound MoreSteps (Steps p ∷ ks) t (act MoreSteps (Steps p ∷ ks) (Some t))
-steps p ks (Sign sign.Dot) = λ P u (field, w, b, n, e, (q, a, b2, s, e2, r)).
-    (step.Name field ∷ q, Sign sign.Dot ∷ w ∷ a, b2, a_field n s, ap (λ l. Sign sign.Dot ∷ l) (e ∙ ap (λ l. w ∷ l) e2),
-        subst (λ l. P (Steps l ∷ ks) b2) (append_assoc p (step.Name field ∷ []) q) r)
-steps p ks (Sign sign.OpenBracket) = λ P u (i, b, e, (b2, e2, (q, a, b3, s, e3, r))).
-    (step.Index i ∷ q, Sign sign.OpenBracket ∷ Number i ∷ Sign sign.CloseBracket ∷ a, b3, an_element s,
-        ap (λ l. Sign sign.OpenBracket ∷ l) (e ∙ ap (λ l. Number i ∷ l) (e2 ∙ ap (λ l. Sign sign.CloseBracket ∷ l) e3)),
-        subst (λ l. P (Steps l ∷ ks) b3) (append_assoc p (step.Index i ∷ []) q) r)
+steps p ks (Sign sign.Dot) = λ P u (field, w, b, n, e, (q, a, b2, s, e2, r)). (
+  step.Name field ∷ q,
+  Sign sign.Dot ∷ w ∷ a,
+  b2,
+  a_field n s,
+  ap (λ l. Sign sign.Dot ∷ l) (e ∙ ap (λ l. w ∷ l) e2),
+  subst (λ l. P (Steps l ∷ ks) b2) (append_assoc p (step.Name field ∷ []) q) r,
+)
+steps p ks (Sign sign.OpenBracket) = λ P u (i, b, e, (b2, e2, (q, a, b3, s, e3, r))). (
+  step.Index i ∷ q,
+  Sign sign.OpenBracket ∷ Number i ∷ Sign sign.CloseBracket ∷ a,
+  b3,
+  an_element s,
+  ap (λ l. Sign sign.OpenBracket ∷ l) (e ∙ ap (λ l. Number i ∷ l) (e2 ∙ ap (λ l. Sign sign.CloseBracket ∷ l) e3)),
+  subst (λ l. P (Steps l ∷ ks) b3) (append_assoc p (step.Index i ∷ []) q) r,
+)
 steps p ks t = λ P u r. ([], [], u, no_step, refl, subst (λ l. P (Steps l ∷ ks) u) (sym (append-nil p)) r)
 
 more_paths : (ps : List DocPath) (ks : List Kept) (t : Word) → Sound MorePaths (Listed ps ∷ ks) t (act MorePaths (Listed ps ∷ ks) (Some t))
-more_paths ps ks (Sign sign.Comma) = λ P u (p, a, b, s, e, (qs, a2, b2, are, e2, r)).
-    (path_of p ∷ qs, Sign sign.Comma ∷ (a ++ a2), b2, another_path s are, ap (λ l. Sign sign.Comma ∷ l) (two a a2 b2 e e2),
-        subst (λ l. P (Listed l ∷ ks) b2) (append_assoc ps (path_of p ∷ []) qs) r)
+more_paths ps ks (Sign sign.Comma) = λ P u (p, a, b, s, e, (qs, a2, b2, are, e2, r)). (
+  path_of p ∷ qs,
+  Sign sign.Comma ∷ (a ++ a2),
+  b2,
+  another_path s are,
+  ap (λ l. Sign sign.Comma ∷ l) (two a a2 b2 e e2),
+  subst (λ l. P (Listed l ∷ ks) b2) (append_assoc ps (path_of p ∷ []) qs) r,
+)
 more_paths ps ks t = λ P u r. ([], [], u, no_path, refl, subst (λ l. P (Listed l ∷ ks) u) (sym (append-nil ps)) r)
 
 conjunction : (k : ℕ) (ks : List Kept) (P : Then) (u : List Word) → After (APart k) ks u (λ ks ts. AllAfter (MoreAnd k ∷ []) ks ts P)
@@ -232,11 +317,21 @@ conjunction k ks P u (t, a, b, s, e, (t2, a2, b2, s2, e2, p)) =
 
 condition : (k : ℕ) (ks : List Kept) (P : Then) (u : List Word)
     → After (APart k) ks u (λ ks ts. AllAfter (MoreAnd k ∷ MoreOr k ∷ []) ks ts P) → After (ACondition k) ks u P
-condition k ks P u (t, a, b, s, e, (t2, a2, b2, s2, e2, (t3, a3, b3, s3, e3, p))) =
-    (t3, (a ++ a2) ++ a3, b3,
-        record { first = a ++ a2; more = a3; left = t2; is_first = record { first = a; more = a2; left = t; is_first = s; is_more = s2; spelled = refl };
-            is_more = s3; spelled = refl },
-        three a a2 a3 b3 e e2 e3, p)
+condition k ks P u (t, a, b, s, e, (t2, a2, b2, s2, e2, (t3, a3, b3, s3, e3, p))) = (
+  t3,
+  (a ++ a2) ++ a3,
+  b3,
+  record {
+    first = a ++ a2;
+    more = a3;
+    left = t2;
+    is_first = record { first = a; more = a2; left = t; is_first = s; is_more = s2; spelled = refl };
+    is_more = s3;
+    spelled = refl;
+  },
+  three a a2 a3 b3 e e2 e3,
+  p,
+)
 
 pub sound : (o : Owed) (ks : List Kept) (t : Word) → Sound o ks t (act o ks (Some t))
 sound (ACondition k) ks t = also_sound (APart k) (ACondition k) ks t (MoreAnd k ∷ MoreOr k ∷ []) (on_part k ks (Some t)) (condition k ks) (part k ks t)
@@ -253,9 +348,14 @@ sound (MoreAnd k) ks t = junk (MoreAnd k) ks t (act (MoreAnd k) ks (Some t)) (λ
 sound (ARest k) (Side x ∷ ks) t = rest k x ks t
 sound (ARest k) ks t = junk (ARest k) ks t (on_rest k ks (Some t)) (λ P u. tt)
 sound (AnOperand k) ks (Bare name) = λ P u (x, a, b, s, e, p). (x, Bare name ∷ a, b, s, ap (λ l. Bare name ∷ l) e, p)
-sound (AnOperand k) ks (Placed name) = λ P u (q, a, b, s, e, p).
-    (operand.Path (path_of (step.Name name ∷ q)), Placed name ∷ a, b, a_path (path_of (step.Name name ∷ q)) (placed_path name a q s) refl,
-        ap (λ l. Placed name ∷ l) e, p)
+sound (AnOperand k) ks (Placed name) = λ P u (q, a, b, s, e, p). (
+  operand.Path (path_of (step.Name name ∷ q)),
+  Placed name ∷ a,
+  b,
+  a_path (path_of (step.Name name ∷ q)) (placed_path name a q s) refl,
+  ap (λ l. Placed name ∷ l) e,
+  p,
+)
 sound (AnOperand k) ks (Held value) = λ P u p. (operand.Value value, Held value ∷ [], u, a_value value refl refl, refl, p)
 sound (AnOperand k) ks t = tt
 sound (NamedPart k name) ks t = named_part k name ks t

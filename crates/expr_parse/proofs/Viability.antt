@@ -33,18 +33,38 @@ fill : (o : Owed) (ks : List Kept) (P : Then) → Reaches P → (ts : List Word)
 fill (ACondition k) ks P r =
     let t = Compared comparison.Equal (operand.Value 0) (operand.Value 0) in
     let front = Held 0 ∷ Sign sign.Equal ∷ Held 0 ∷ [] in
-    let n = r (Whole t ∷ ks) in
-    (front ++ n.0, (t, front, n.0,
-        record { first = front; more = []; left = t;
-            is_first = record { first = front; more = []; left = t; is_first = value_part k; is_more = tail_ends; spelled = refl };
-            is_more = tail_ends; spelled = refl },
-        refl, n.1))
+    let n = r (Whole t ∷ ks) in (
+      front ++ n.0,
+      (
+        t,
+        front,
+        n.0,
+        record {
+          first = front;
+          more = [];
+          left = t;
+          is_first = record { first = front; more = []; left = t; is_first = value_part k; is_more = tail_ends; spelled = refl };
+          is_more = tail_ends;
+          spelled = refl;
+        },
+        refl,
+        n.1,
+      ),
+    )
 fill (AConjunction k) ks P r =
     let t = Compared comparison.Equal (operand.Value 0) (operand.Value 0) in
     let front = Held 0 ∷ Sign sign.Equal ∷ Held 0 ∷ [] in
-    let n = r (Whole t ∷ ks) in
-    (front ++ n.0, (t, front, n.0,
-        record { first = front; more = []; left = t; is_first = value_part k; is_more = tail_ends; spelled = refl }, refl, n.1))
+    let n = r (Whole t ∷ ks) in (
+      front ++ n.0,
+      (
+        t,
+        front,
+        n.0,
+        record { first = front; more = []; left = t; is_first = value_part k; is_more = tail_ends; spelled = refl },
+        refl,
+        n.1,
+      ),
+    )
 fill (APart k) ks P r =
     let t = Compared comparison.Equal (operand.Value 0) (operand.Value 0) in
     let front = Held 0 ∷ Sign sign.Equal ∷ Held 0 ∷ [] in
@@ -58,9 +78,17 @@ fill (ARest k) (Side x ∷ ks) P r =
 fill (AnOperand k) ks P r = let n = r (Side (operand.Value 0) ∷ ks) in (Held 0 ∷ n.0, (operand.Value 0, Held 0 ∷ [], n.0, a_value 0 refl refl, refl, n.1))
 fill (NamedPart k name) ks P r =
     let x = operand.Path (path_of (named name)) in
-    let n = r (Whole (Compared comparison.Equal x (operand.Value 0)) ∷ ks) in
-    (Sign sign.Equal ∷ Held 0 ∷ n.0, (Compared comparison.Equal x (operand.Value 0), Sign sign.Equal ∷ Held 0 ∷ [], n.0,
-        flat_part k (compared k (Bare name ∷ []) x (a_path (path_of (named name)) (bare_path name [] [] no_step) refl)), refl, n.1))
+    let n = r (Whole (Compared comparison.Equal x (operand.Value 0)) ∷ ks) in (
+      Sign sign.Equal ∷ Held 0 ∷ n.0,
+      (
+        Compared comparison.Equal x (operand.Value 0),
+        Sign sign.Equal ∷ Held 0 ∷ [],
+        n.0,
+        flat_part k (compared k (Bare name ∷ []) x (a_path (path_of (named name)) (bare_path name [] [] no_step) refl)),
+        refl,
+        n.1,
+      ),
+    )
 fill (NamedOperand k name) ks P r =
     let x = operand.Path (path_of (named name)) in
     let n = r (Side x ∷ ks) in
@@ -144,8 +172,13 @@ fails (t ∷ ts) os ks left e = go (next os ks t) (next_right os ks t) e (fails 
   go None r e ih = record { front = []; back = t ∷ ts; split_is = refl; left_is = ap left_of e; goes_on = λ P r. fill_all os ks P r }
   go (Some p) r e ih =
       let f = ih p.owed p.kept left e in
-      record { front = t ∷ f.front; back = f.back; split_is = ap (λ l. t ∷ l) f.split_is; left_is = f.left_is;
-          goes_on = λ P q. let g = f.goes_on P q in (g.0, r P _ g.1) }
+      record {
+        front = t ∷ f.front;
+        back = f.back;
+        split_is = ap (λ l. t ∷ l) f.split_is;
+        left_is = f.left_is;
+        goes_on = λ P q. let g = f.goes_on P q in (g.0, r P _ g.1);
+      }
 
 -- all is settled, and this is kept
 abbrev Ends : List Kept → Then
@@ -198,16 +231,21 @@ pub is_fault : (S : List Word → Type 0) (os : List Owed)
     → (ts : List Word) (left : ℕ) → reads ts os [] ≡ Err left → IsFault S ts left
 is_fault S os settled complete ts left e =
     let f = fails ts os [] left e in
-    record { front = f.front; back = f.back; whole = f.split_is; left_is = f.left_is;
-        begins = (let g = f.goes_on (λ ks ts. ts ≡ []) (λ ks. ([], refl)) in record { more = g.0; is_sentence = settled (f.front ++ g.0) g.1 });
-        stops = stops f.front f.back (subst (λ l. reads l os [] ≡ Err left) f.split_is e) f.left_is } where
-  stops : (front back : List Word) → reads (front ++ back) os [] ≡ Err left → length back ≡ left → Stops S front back
-  stops front [] e is = λ s.
-      let read = complete front s in
-      let refused : reads front os [] ≡ Err left = subst (λ l. reads l os [] ≡ Err left) (append-nil front) e in
-      let h : ⊥ = cc in absurd h
-  stops front (t ∷ ts) e is = λ b.
-      let read = complete ((front ++ t ∷ []) ++ b.more) b.is_sentence in
-      let failed = stuck front t ts b.more os [] (subst (λ n. reads (front ++ t ∷ ts) os [] ≡ Err n) (sym is) e) in
-      let refused : reads ((front ++ t ∷ []) ++ b.more) os [] ≡ Err failed.0 = subst (λ l. reads l os [] ≡ Err failed.0) (sym (append_assoc front (t ∷ []) b.more)) failed.1 in
-      let h : ⊥ = cc in absurd h
+    record {
+      front = f.front;
+      back = f.back;
+      whole = f.split_is;
+      left_is = f.left_is;
+      begins = (let g = f.goes_on (λ ks ts. ts ≡ []) (λ ks. ([], refl)) in record { more = g.0; is_sentence = settled (f.front ++ g.0) g.1 });
+      stops = stops f.front f.back (subst (λ l. reads l os [] ≡ Err left) f.split_is e) f.left_is;
+    } where
+      stops : (front back : List Word) → reads (front ++ back) os [] ≡ Err left → length back ≡ left → Stops S front back
+      stops front [] e is = λ s.
+          let read = complete front s in
+          let refused : reads front os [] ≡ Err left = subst (λ l. reads l os [] ≡ Err left) (append-nil front) e in
+          let h : ⊥ = cc in absurd h
+      stops front (t ∷ ts) e is = λ b.
+          let read = complete ((front ++ t ∷ []) ++ b.more) b.is_sentence in
+          let failed = stuck front t ts b.more os [] (subst (λ n. reads (front ++ t ∷ ts) os [] ≡ Err n) (sym is) e) in
+          let refused : reads ((front ++ t ∷ []) ++ b.more) os [] ≡ Err failed.0 = subst (λ l. reads l os [] ≡ Err failed.0) (sym (append_assoc front (t ∷ []) b.more)) failed.1 in
+          let h : ⊥ = cc in absurd h

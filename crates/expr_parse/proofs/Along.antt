@@ -1,0 +1,80 @@
+-- From what the machine answers to the grammar: for conditions and for lists of paths.
+use Rattle.std.proofs.Common.{◌≡◌, ℕ, List, [], ◌∷◌, ◌++◌, Result, Ok, Err, refl, sym, ap, subst, ◌∙◌, append-nil}
+use Rattle.expr_lexer.specs.declared.path.DocPath.{DocPath}
+use Rattle.expr_parse.specs.Trees.{Tree, Negation}
+use Rattle.expr_parse.specs.Words.{Word}
+use Rattle.expr_parse.specs.Grammar.{IsCondition, ArePaths}
+use Rattle.expr_parse.specs.Faults.{IsFault}
+use Rattle.expr_parse.specs.Reading.{IsSentence}
+use Rattle.expr_parse.specs.Machine.{Kept, Whole, Listed, Owed, ACondition, APath, MorePaths, Do, FirstPath, path_of, reads}
+use Rattle.expr_parse.proofs.Owing.{Then, AllAfter}
+use Rattle.expr_parse.proofs.Viability.{ok_right, is_fault}
+use Rattle.expr_parse.proofs.Complete.{condition_reads, paths_read, kept_tree, kept_paths}
+
+-- the tree that is kept
+abbrev kept_whole : Tree → List Kept → Tree
+kept_whole d (Whole t ∷ ks) = t
+kept_whole d ks = d
+
+abbrev kept_listed : List Kept → List DocPath
+kept_listed (Listed paths ∷ ks) = paths
+kept_listed ks = []
+
+abbrev kept_in : Result (List Kept) ℕ → List Kept
+kept_in (Ok ks) = ks
+kept_in (Err left) = []
+
+-- what the machine reads is a condition, with the tree that it keeps
+pub condition_is : (k : ℕ) (ts : List Word) (t : Tree) → reads ts (ACondition k ∷ []) [] ≡ kept_tree t → IsCondition k ts t
+condition_is k ts t e = go (ok_right ts (ACondition k ∷ []) [] (Whole t ∷ []) e) where
+  go : AllAfter (ACondition k ∷ []) [] ts (λ ks ts. (ts ≡ []) × (ks ≡ Whole t ∷ [])) → IsCondition k ts t
+  go (u, a, b, s, e, (ends, kept)) =
+      let whole : a ≡ ts = sym (append-nil a) ∙ ap (λ l. a ++ l) (sym ends) ∙ sym e in
+      subst (λ w. IsCondition k w t) whole (subst (λ v. IsCondition k a v) (ap (kept_whole t) kept) s)
+
+condition_settled : (k : ℕ) (ts : List Word) → AllAfter (ACondition k ∷ []) [] ts (λ ks ts. ts ≡ []) → IsSentence (IsCondition k) ts
+condition_settled k ts (u, a, b, s, e, ends) = (u, subst (λ w. IsCondition k w u) (sym (append-nil a) ∙ ap (λ l. a ++ l) (sym ends) ∙ sym e) s)
+
+-- where it fails is the fault
+pub condition_fault : (k : ℕ) (ts : List Word) (left : ℕ) → reads ts (ACondition k ∷ []) [] ≡ Err left → IsFault (IsSentence (IsCondition k)) ts left
+condition_fault k = is_fault (IsSentence (IsCondition k)) (ACondition k ∷ []) (condition_settled k) (λ ts s. (Whole s.0 ∷ [], condition_reads k ts s.0 s.1))
+
+-- no sentence has two trees
+pub one_condition : (k : ℕ) (ts : List Word) (t u : Tree) → IsCondition k ts t → IsCondition k ts u → t ≡ u
+one_condition k ts t u s r = ap (λ x. kept_whole t (kept_in x)) (sym (condition_reads k ts t s) ∙ condition_reads k ts u r)
+
+pub paths_are : (ts : List Word) (paths : List DocPath) → reads ts (APath ∷ Do FirstPath ∷ MorePaths ∷ []) [] ≡ kept_paths paths → ArePaths ts paths
+paths_are ts paths e = go (ok_right ts (APath ∷ Do FirstPath ∷ MorePaths ∷ []) [] (Listed paths ∷ []) e) where
+  go : AllAfter (APath ∷ Do FirstPath ∷ MorePaths ∷ []) [] ts (λ ks ts. (ts ≡ []) × (ks ≡ Listed paths ∷ [])) → ArePaths ts paths
+  go (p, a, b, s, e, (qs, a2, b2, are, e2, (ends, kept))) =
+      record {
+        front = a;
+        more = a2;
+        path = path_of p;
+        others = qs;
+        is_first = s;
+        are_more = are;
+        spelled = e ∙ ap (λ l. a ++ l) (e2 ∙ ap (λ l. a2 ++ l) ends ∙ append-nil a2);
+        paths_are = sym (ap kept_listed kept);
+      }
+
+paths_settled : (ts : List Word) → AllAfter (APath ∷ Do FirstPath ∷ MorePaths ∷ []) [] ts (λ ks ts. ts ≡ []) → IsSentence ArePaths ts
+paths_settled ts (p, a, b, s, e, (qs, a2, b2, are, e2, ends)) = (
+  path_of p ∷ qs,
+  record {
+    front = a;
+    more = a2;
+    path = path_of p;
+    others = qs;
+    is_first = s;
+    are_more = are;
+    spelled = e ∙ ap (λ l. a ++ l) (e2 ∙ ap (λ l. a2 ++ l) ends ∙ append-nil a2);
+    paths_are = refl;
+  },
+)
+
+pub paths_fault : (ts : List Word) (left : ℕ) → reads ts (APath ∷ Do FirstPath ∷ MorePaths ∷ []) [] ≡ Err left → IsFault (IsSentence ArePaths) ts left
+paths_fault = is_fault (IsSentence ArePaths) (APath ∷ Do FirstPath ∷ MorePaths ∷ []) paths_settled (λ ts s. (Listed s.0 ∷ [], paths_read ts s.0 s.1))
+
+pub one_list : (ts : List Word) (ps qs : List DocPath) → ArePaths ts ps → ArePaths ts qs → ps ≡ qs
+one_list ts ps qs s r = ap (λ x. kept_listed (kept_in x)) (sym (paths_read ts ps s) ∙ paths_read ts qs r)
