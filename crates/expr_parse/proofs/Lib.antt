@@ -5,3 +5,4 @@ pub mod Viability
 pub mod Steps
 pub mod Complete
 pub mod Along
+pub mod Readings

@@ -24,22 +24,27 @@ place_of text tokens left = unwrap_or (option_map (λ token. token.from) (slice_
 abbrev pub IsSentence : {T : Type 0} → (List Word → T → Type 0) → List Word → Type 0
 IsSentence {T} Spells ts = (t : T) × Spells ts t
 
--- The readings of a text. Spells says which words are a sentence for which tree; FaultOf says what is at fault with a
--- tree by itself, which is told last.
+-- What a text's tokens read as. Spells says which words are a sentence for which tree; FaultOf says what is at fault with
+-- a tree by itself, which is told last.
+pub data ReadsTokens {T : Type 0} (Spells : List Word → T → Type 0) (FaultOf : T → Option ParseEnd → Type 0) (given : Given)
+    (text : List ℕ) (tokens : List Token) : Result T ParseEnd → Type 0 where
+  no_sentence : {left : ℕ} → IsFault (IsSentence Spells) (words given text tokens) left
+    → ReadsTokens Spells FaultOf given text tokens (Err (Syntax (place_of text tokens left)))
+  not_given : {t : T} {fault : ParseEnd} → Spells (words given text tokens) t → undefined given text tokens ≡ Some fault
+    → ReadsTokens Spells FaultOf given text tokens (Err fault)
+  at_fault : {t : T} {fault : ParseEnd} → Spells (words given text tokens) t → undefined given text tokens ≡ None
+    → FaultOf t (Some fault) → ReadsTokens Spells FaultOf given text tokens (Err fault)
+  sentence : {t : T} → Spells (words given text tokens) t → undefined given text tokens ≡ None
+    → FaultOf t None → ReadsTokens Spells FaultOf given text tokens (Ok t)
+
+-- What a text reads as.
 pub data Reads {T : Type 0} (Spells : List Word → T → Type 0) (FaultOf : T → Option ParseEnd → Type 0) (given : Given) (text : List ℕ)
     : Result T ParseEnd → Type 0 where
   too_long : most_bytes < length text → Reads Spells FaultOf given text (Err TooLong)
-  no_token : {place : ℕ} → length text ≤ most_bytes → Lexes 0 text (Err place) → Reads Spells FaultOf given text (Err (Syntax place))
-  no_sentence : {tokens : List Token} {left : ℕ} → length text ≤ most_bytes → Lexes 0 text (Ok tokens)
-      → IsFault (IsSentence Spells) (words given text tokens) left
-      → Reads Spells FaultOf given text (Err (Syntax (place_of text tokens left)))
-  not_given : {tokens : List Token} {t : T} {fault : ParseEnd} → length text ≤ most_bytes → Lexes 0 text (Ok tokens)
-      → Spells (words given text tokens) t → undefined given text tokens ≡ Some fault → Reads Spells FaultOf given text (Err fault)
-  at_fault : {tokens : List Token} {t : T} {fault : ParseEnd} → length text ≤ most_bytes → Lexes 0 text (Ok tokens)
-      → Spells (words given text tokens) t → undefined given text tokens ≡ None → FaultOf t (Some fault)
-      → Reads Spells FaultOf given text (Err fault)
-  sentence : {tokens : List Token} {t : T} → length text ≤ most_bytes → Lexes 0 text (Ok tokens)
-      → Spells (words given text tokens) t → undefined given text tokens ≡ None → FaultOf t None → Reads Spells FaultOf given text (Ok t)
+  no_token : {place : ℕ} → length text ≤ most_bytes → Lexes 0 text (Err place)
+    → Reads Spells FaultOf given text (Err (Syntax place))
+  lexed : {tokens : List Token} {reading : Result T ParseEnd} → length text ≤ most_bytes → Lexes 0 text (Ok tokens)
+    → ReadsTokens Spells FaultOf given text tokens reading → Reads Spells FaultOf given text reading
 
 -- a condition's tree has no fault of its own
 abbrev pub ConditionFault : Tree → Option ParseEnd → Type 0

@@ -1,0 +1,128 @@
+-- No text reads in two ways.
+use Rattle.std.proofs.Common.{◌≡◌, ◌+◌, ◌<◌, ◌≤◌, ◌⊎◌, inl, inr, ℕ, zero, suc, List, [], ◌∷◌, ◌++◌, length, Option, Some, None, Result, Ok, Err, refl, sym, ap, subst, ◌∙◌, append_assoc, append-nil, length-append, arith}
+use Rattle.expr_lexer.specs.declared.path.DocPath.{DocPath}
+use Rattle.expr_parse.specs.declared.token.Token.{Token}
+use Rattle.expr_parse.specs.declared.given.Given.{Given}
+use Rattle.expr_parse.specs.declared.parse_end.ParseEnd.{ParseEnd}
+use Rattle.expr_parse.specs.declared.parse_end.ParseEnd.TheVariants.{Syntax, TooLong, Overlap, NoMemory, UndefinedName, UndefinedValue, TooManyOperators, ClauseTwice}
+use Rattle.expr_parse.specs.Trees.{Tree}
+use Rattle.expr_parse.specs.Words.{Word, words, undefined}
+use Rattle.expr_parse.specs.Grammar.{IsCondition, ArePaths, most_levels}
+use Rattle.expr_parse.specs.Faults.{IsBeginning, Stops, IsFault}
+use Rattle.expr_parse.specs.Lexed.{Lexes}
+use Rattle.expr_parse.specs.Reading.{IsSentence, place_of, ReadsTokens, no_sentence, not_given, at_fault, sentence, Reads, too_long, no_token, lexed, ConditionFault, ReadsCondition, PathsFault, ReadsPaths}
+use Rattle.expr_parse.proofs.Along.{one_condition, one_list}
+
+abbrev first_or : Word → List Word → Word
+first_or t [] = t
+first_or t (u ∷ us) = u
+
+abbrev rest_of : List Word → List Word
+rest_of [] = []
+rest_of (u ∷ us) = us
+
+-- of two ways to part a list, the longer front goes on from the shorter
+goes_on : (a b c d : List Word) → a ++ b ≡ c ++ d → length a ≤ length c → (mid : List Word) × (c ≡ a ++ mid)
+goes_on [] b c d e short = (c, refl)
+goes_on (x ∷ a) b [] d e short = let h : ⊥ = omega (arith, short) in absurd h
+goes_on (x ∷ a) b (y ∷ c) d e short =
+    let r = goes_on a b c d (ap rest_of e) (omega (arith, short)) in
+    (r.0, ap (λ z. z ∷ c) (sym (ap (first_or x) e)) ∙ ap (λ l. x ∷ l) r.1)
+
+-- no fault stands before another
+not_before : (S : List Word → Type 0) (ts : List Word) (m n : ℕ) → IsFault S ts m → IsFault S ts n → m < n → ⊥
+not_before S ts m n f g less = go g.front g.back g.whole g.left_is g.stops where
+  go : (front back : List Word) → ts ≡ front ++ back → length back ≡ n → Stops S front back → ⊥
+  go front [] whole is stops = let h : ⊥ = omega (arith, less, is) in absurd h
+  go front (t ∷ back) whole is stops =
+      let parted : (front ++ t ∷ []) ++ back ≡ f.front ++ f.back = append_assoc front (t ∷ []) back ∙ sym whole ∙ f.whole in
+      let sizes : length (front ++ t ∷ []) + length back ≡ length f.front + length f.back =
+          sym (length-append (front ++ t ∷ []) back) ∙ ap length parted ∙ length-append f.front f.back in
+      let r = goes_on (front ++ t ∷ []) back f.front f.back parted (omega (arith, sizes, is, f.left_is, less)) in
+      stops (record { more = r.0 ++ f.begins.more;
+          is_sentence = subst S (ap (λ l. l ++ f.begins.more) r.1 ∙ append_assoc (front ++ t ∷ []) r.0 f.begins.more) f.begins.is_sentence })
+
+one_fault : (S : List Word → Type 0) (ts : List Word) (m n : ℕ) → IsFault S ts m → IsFault S ts n → m ≡ n
+one_fault S ts m n f g =
+    let not_below : m < n → ⊥ = not_before S ts m n f g in
+    let not_above : n < m → ⊥ = not_before S ts n m g f in
+    omega (arith, not_below, not_above)
+
+-- a sentence has no fault
+no_fault : (S : List Word → Type 0) (ts : List Word) (left : ℕ) → S ts → IsFault S ts left → ⊥
+no_fault S ts left s f = go f.front f.back f.whole f.stops where
+  go : (front back : List Word) → ts ≡ front ++ back → Stops S front back → ⊥
+  go front [] whole stops = stops (subst S (whole ∙ append-nil front) s)
+  go front (t ∷ back) whole stops = stops (record { more = back; is_sentence = subst S (whole ∙ sym (append_assoc front (t ∷ []) back)) s })
+
+-- FaultOf says one thing of each tree
+abbrev IsSingle : {T : Type 0} → (T → Option ParseEnd → Type 0) → Type 0
+IsSingle {T} FaultOf = (t : T) (m n : Option ParseEnd) → FaultOf t m → FaultOf t n → m ≡ n
+
+-- no words are sentences for two trees
+abbrev IsUnambiguous : {T : Type 0} → (List Word → T → Type 0) → Type 0
+IsUnambiguous {T} Spells = (ts : List Word) (t u : T) → Spells ts t → Spells ts u → t ≡ u
+
+abbrev fault_or : ParseEnd → Option ParseEnd → ParseEnd
+fault_or d None = d
+fault_or d (Some fault) = fault
+
+
+module _ {T : Type 0} (Spells : List Word → T → Type 0) (FaultOf : T → Option ParseEnd → Type 0) (one_tree : IsUnambiguous Spells)
+    (single : IsSingle FaultOf) (given : Given) (text : List ℕ) where
+  abbrev Reading : Type 0
+  Reading = Result T ParseEnd
+
+  abbrev refused : ParseEnd → Reading
+  refused fault = Err fault
+
+  abbrev answered : T → Reading
+  answered t = Ok t
+
+  one_judgement : (tokens : List Token) (r s : Reading) → ReadsTokens Spells FaultOf given text tokens r → ReadsTokens Spells FaultOf given text tokens s → r ≡ s
+  one_judgement tokens _ _ (no_sentence {left = m} f) (no_sentence {left = n} g) =
+      ap (λ left. refused (Syntax (place_of text tokens left))) (one_fault (IsSentence Spells) (words given text tokens) m n f g)
+  one_judgement tokens _ _ (no_sentence {left = m} f) (not_given {t = t} s u) = absurd (no_fault (IsSentence Spells) (words given text tokens) m (t, s) f)
+  one_judgement tokens _ _ (no_sentence {left = m} f) (at_fault {t = t} s u w) = absurd (no_fault (IsSentence Spells) (words given text tokens) m (t, s) f)
+  one_judgement tokens _ _ (no_sentence {left = m} f) (sentence {t = t} s u w) = absurd (no_fault (IsSentence Spells) (words given text tokens) m (t, s) f)
+  one_judgement tokens _ _ (not_given {t = t} s u) (no_sentence {left = m} f) = absurd (no_fault (IsSentence Spells) (words given text tokens) m (t, s) f)
+  one_judgement tokens _ _ (at_fault {t = t} s u w) (no_sentence {left = m} f) = absurd (no_fault (IsSentence Spells) (words given text tokens) m (t, s) f)
+  one_judgement tokens _ _ (sentence {t = t} s u w) (no_sentence {left = m} f) = absurd (no_fault (IsSentence Spells) (words given text tokens) m (t, s) f)
+  one_judgement tokens _ _ (not_given {fault = a} s u) (not_given {fault = b} s' u') = ap (λ o. refused (fault_or a o)) (sym u ∙ u')
+  one_judgement tokens _ _ (not_given s u) (at_fault s' u' w) = let h : ⊥ = cc in absurd h
+  one_judgement tokens _ _ (not_given s u) (sentence s' u' w) = let h : ⊥ = cc in absurd h
+  one_judgement tokens _ _ (at_fault s u w) (not_given s' u') = let h : ⊥ = cc in absurd h
+  one_judgement tokens _ _ (sentence s u w) (not_given s' u') = let h : ⊥ = cc in absurd h
+  one_judgement tokens _ _ (at_fault {t = t} {fault = a} s u w) (at_fault {t = t'} {fault = b} s' u' w') =
+      ap (λ o. refused (fault_or a o)) (single t (Some a) (Some b) w (subst (λ v. FaultOf v (Some b)) (one_tree (words given text tokens) t' t s' s) w'))
+  one_judgement tokens _ _ (at_fault {t = t} {fault = a} s u w) (sentence {t = t'} s' u' w') =
+      let e : Some a ≡ None = single t (Some a) None w (subst (λ v. FaultOf v None) (one_tree (words given text tokens) t' t s' s) w') in
+      let h : ⊥ = cc in absurd h
+  one_judgement tokens _ _ (sentence {t = t} s u w) (at_fault {t = t'} {fault = a} s' u' w') =
+      let e : Some a ≡ None = single t (Some a) None (subst (λ v. FaultOf v (Some a)) (one_tree (words given text tokens) t' t s' s) w') w in
+      let h : ⊥ = cc in absurd h
+  one_judgement tokens _ _ (sentence {t = t} s u w) (sentence {t = t'} s' u' w') = ap answered (one_tree (words given text tokens) t t' s s')
+
+  abbrev Lexing : Type 0
+  Lexing = Result (List Token) ℕ
+
+  abbrev tokens_in : Lexing → List Token
+  tokens_in (Ok tokens) = tokens
+  tokens_in (Err place) = []
+
+  abbrev place_in : Lexing → ℕ
+  place_in (Ok tokens) = 0
+  place_in (Err place) = place
+
+  one_reading : ((r s : Lexing) → Lexes 0 text r → Lexes 0 text s → r ≡ s)
+      → (r s : Reading) → Reads Spells FaultOf given text r → Reads Spells FaultOf given text s → r ≡ s
+  one_reading one_lexing _ _ (too_long l) (too_long l') = refl
+  one_reading one_lexing _ _ (too_long l) (no_token room x) = let h : ⊥ = omega (arith, l, room) in absurd h
+  one_reading one_lexing _ _ (too_long l) (lexed room x y) = let h : ⊥ = omega (arith, l, room) in absurd h
+  one_reading one_lexing _ _ (no_token room x) (too_long l) = let h : ⊥ = omega (arith, l, room) in absurd h
+  one_reading one_lexing _ _ (lexed room x y) (too_long l) = let h : ⊥ = omega (arith, l, room) in absurd h
+  one_reading one_lexing _ _ (no_token room x) (no_token room' x') = ap (λ o. refused (Syntax (place_in o))) (one_lexing _ _ x x')
+  one_reading one_lexing _ _ (no_token room x) (lexed room' x' y) = let e = one_lexing _ _ x x' in let h : ⊥ = cc in absurd h
+  one_reading one_lexing _ _ (lexed room x y) (no_token room' x') = let e = one_lexing _ _ x x' in let h : ⊥ = cc in absurd h
+  one_reading one_lexing _ _ (lexed {tokens = a} {reading = r} room x y) (lexed {tokens = b} {reading = s} room' x' y') =
+      one_judgement a r s y (subst (λ l. ReadsTokens Spells FaultOf given text l s) (sym (ap tokens_in (one_lexing _ _ x x'))) y')
