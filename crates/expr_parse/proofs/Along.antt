@@ -1,13 +1,13 @@
 -- From what the machine answers to the grammar: for conditions and for lists of paths.
 use Rattle.std.proofs.Common.{◌≡◌, ℕ, List, [], ◌∷◌, ◌++◌, Result, Ok, Err, refl, sym, ap, subst, ◌∙◌, append-nil}
 use Rattle.expr_lexer.specs.declared.path.DocPath.{DocPath}
-use Rattle.expr_parse.specs.Trees.{Tree, Negation}
+use Rattle.expr_parse.specs.Trees.{Tree}
 use Rattle.expr_parse.specs.Words.{Word}
 use Rattle.expr_parse.specs.Grammar.{IsCondition, ArePaths}
 use Rattle.expr_parse.specs.Faults.{IsFault}
 use Rattle.expr_parse.specs.Reading.{IsSentence}
-use Rattle.expr_parse.specs.Machine.{Kept, Whole, Listed, Owed, ACondition, APath, MorePaths, Do, FirstPath, path_of, reads}
-use Rattle.expr_parse.proofs.Owing.{Then, AllAfter}
+use Rattle.expr_parse.specs.Machine.{Kept, Whole, Listed, ACondition, APath, MorePaths, Do, FirstPath, path_of, reads}
+use Rattle.expr_parse.proofs.Owing.{AllAfter}
 use Rattle.expr_parse.proofs.Viability.{ok_right, is_fault}
 use Rattle.expr_parse.proofs.Complete.{condition_reads, paths_read, kept_tree, kept_paths}
 

@@ -1,17 +1,15 @@
 -- The machine reads every sentence, and keeps its tree.
-use Rattle.std.proofs.Common.{◌≡◌, ◌+◌, ◌≤◌, ℕ, zero, suc, Bool, true, false, List, [], ◌∷◌, ◌++◌, length, Result, Ok, Err, refl, sym, ap, subst, ◌∙◌, inl, inr, true≢false, append_assoc, append-nil, arith, codes}
+use Rattle.std.proofs.Common.{◌≡◌, ◌≤◌, ℕ, zero, suc, Bool, true, false, List, [], ◌∷◌, ◌++◌, length, Result, Ok, refl, sym, ap, subst, ◌∙◌, inl, inr, true≢false, append_assoc, append-nil, arith}
 use Rattle.expr_lexer.specs.declared.path.DocPath.{DocPath}
 use Rattle.expr_lexer.specs.declared.path.Step.{Step}
 use Rattle.expr_lexer.specs.declared.path.Step.TheVariants as step
-use Rattle.expr_parse.specs.declared.token.TokenKind.TheVariants as sign
+use Rattle.expr_lexer.specs.declared.token.TokenKind.TheVariants as sign
 use Rattle.expr_parse.specs.declared.tree.Comparison.{Comparison}
-use Rattle.expr_parse.specs.declared.tree.Comparison.TheVariants as comparison
 use Rattle.expr_parse.specs.declared.tree.Operand.{Operand}
-use Rattle.expr_parse.specs.declared.tree.Operand.TheVariants as operand
-use Rattle.expr_parse.specs.Trees.{Tree, Disjunction, Conjunction, Negation, Compared, Range, Choice, Presence, Absence, KindTest, FrontTest, PartTest}
-use Rattle.expr_parse.specs.Words.{Word, Bare, Placed, Held, Number, Sign, Barred}
-use Rattle.expr_parse.specs.Grammar.{IsName, written, placed, AreSteps, no_step, a_field, an_element, IsPath, IsOperand, a_path, a_value, a_size, IsComparison, equals, differs, is_less, is_at_most, is_more_than, is_at_least, AreMoreOperands, no_operand, an_operand, IsPathTest, exists, not_exists, IsOperandTest, begins, contains, IsFlat, a_comparison, a_range, a_choice, a_path_test, a_kind_test, an_operand_test, a_barred_parenthesis, a_barred_choice, IsTail, tail_ends, tail_goes, IsChain, IsPart, IsConjunction, IsCondition, AreMorePaths, no_path, another_path, ArePaths}
-use Rattle.expr_parse.specs.Machine.{Kept, Whole, Side, Sides, Steps, Place, Listed, Owed, ACondition, AConjunction, APart, MoreOr, MoreAnd, ARest, AnOperand, NamedPart, NamedOperand, MoreChoices, APath, MoreSteps, AField, AnIndex, AValue, MorePaths, AnOpen, AClose, ACloseBracket, AnAnd, AComma, ABar, Do, Joins, Negates, MakePath, MakeSize, OfPath, OfSides, MakeRange, FirstChoice, NextChoice, MakeChoice, MakeKindTest, FirstPath, NextPath, path_of, named, reads}
+use Rattle.expr_parse.specs.Trees.{Tree, Disjunction, Conjunction, Compared, Choice}
+use Rattle.expr_parse.specs.Words.{Word, Bare, Held, Sign, Barred}
+use Rattle.expr_parse.specs.Grammar.{IsName, written, placed, AreSteps, no_step, a_field, an_element, IsPath, IsOperand, a_path, a_value, a_size, IsComparison, equals, differs, is_less, is_at_most, is_more_than, is_at_least, AreMoreOperands, no_operand, an_operand, IsPathTest, exists, not_exists, IsOperandTest, begins, contains, IsFlat, a_comparison, a_range, a_choice, a_path_test, a_kind_test, an_operand_test, a_barred_parenthesis, a_barred_choice, IsTail, tail_ends, tail_goes, IsPart, IsConjunction, IsCondition, AreMorePaths, no_path, another_path, ArePaths}
+use Rattle.expr_parse.specs.Machine.{Kept, Whole, Side, Sides, Steps, Place, Listed, Owed, ACondition, AConjunction, APart, MoreOr, MoreAnd, ARest, AnOperand, MoreChoices, APath, MoreSteps, AValue, MorePaths, AClose, AnAnd, AComma, Do, Joins, Negates, MakePath, MakeSize, OfPath, OfSides, MakeRange, FirstChoice, NextChoice, MakeChoice, MakeKindTest, FirstPath, NextPath, named, reads}
 use Rattle.expr_parse.proofs.Steps.{do_it, conjunction_starts, condition_starts, calls, named_operand, named_part}
 
 -- a path, or a name, goes on with the next word

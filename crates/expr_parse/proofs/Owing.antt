@@ -1,8 +1,8 @@
 -- What it means that something is owed: which words settle it, and what is kept then. P says of the rest what has to come.
-use Rattle.std.proofs.Common.{◌≡◌, ◌+◌, ◌≤◌, ℕ, zero, suc, List, [], ◌∷◌, ◌++◌, length, Option, Some, None, refl, sym, ap, ◌∙◌, append_assoc}
+use Rattle.std.proofs.Common.{◌≡◌, ◌≤◌, ℕ, List, [], ◌∷◌, ◌++◌, length, sym, ap, ◌∙◌, append_assoc}
 use Rattle.expr_lexer.specs.declared.path.Step.{Step}
 use Rattle.expr_lexer.specs.declared.path.Step.TheVariants as step
-use Rattle.expr_parse.specs.declared.token.TokenKind.TheVariants as sign
+use Rattle.expr_lexer.specs.declared.token.TokenKind.TheVariants as sign
 use Rattle.expr_lexer.specs.declared.path.DocPath.{DocPath}
 use Rattle.expr_parse.specs.declared.tree.Operand.{Operand}
 use Rattle.expr_parse.specs.Trees.{Tree, Disjunction, Conjunction, Choice}

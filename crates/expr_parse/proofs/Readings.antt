@@ -1,15 +1,15 @@
 -- No text reads in two ways.
-use Rattle.std.proofs.Common.{◌≡◌, ◌+◌, ◌<◌, ◌≤◌, ◌⊎◌, inl, inr, ℕ, zero, suc, List, [], ◌∷◌, ◌++◌, length, Option, Some, None, Result, Ok, Err, refl, sym, ap, subst, ◌∙◌, append_assoc, append-nil, length-append, arith}
+use Rattle.std.proofs.Common.{◌≡◌, ◌+◌, ◌<◌, ◌≤◌, ℕ, List, [], ◌∷◌, ◌++◌, length, Option, Some, None, Result, Ok, Err, refl, sym, ap, subst, ◌∙◌, append_assoc, append-nil, length-append, arith}
 use Rattle.expr_lexer.specs.declared.path.DocPath.{DocPath}
-use Rattle.expr_parse.specs.declared.token.Token.{Token}
+use Rattle.expr_lexer.specs.declared.token.Token.{Token}
 use Rattle.expr_parse.specs.declared.given.Given.{Given}
 use Rattle.expr_parse.specs.declared.parse_end.ParseEnd.{ParseEnd}
-use Rattle.expr_parse.specs.declared.parse_end.ParseEnd.TheVariants.{Syntax, TooLong, Overlap, NoMemory, UndefinedName, UndefinedValue, TooManyOperators, ClauseTwice}
+use Rattle.expr_parse.specs.declared.parse_end.ParseEnd.TheVariants.{Syntax, Overlap}
 use Rattle.expr_parse.specs.Trees.{Tree}
-use Rattle.expr_parse.specs.Words.{Word, words, undefined}
+use Rattle.expr_parse.specs.Words.{Word, words}
 use Rattle.expr_parse.specs.Grammar.{IsCondition, ArePaths, most_levels}
-use Rattle.expr_parse.specs.Faults.{IsBeginning, Stops, IsFault}
-use Rattle.expr_parse.specs.Lexed.{Lexes}
+use Rattle.expr_parse.specs.Faults.{Stops, IsFault}
+use Rattle.expr_lexer.specs.Lexes.{Lexes}
 use Rattle.expr_parse.specs.Reading.{IsSentence, place_of, ReadsTokens, no_sentence, not_given, at_fault, sentence, Reads, too_long, no_token, lexed, ConditionFault, ReadsCondition, PathsFault, ReadsPaths}
 use Rattle.expr_parse.proofs.Along.{one_condition, one_list}
 
@@ -37,10 +37,12 @@ not_before S ts m n f g less = go g.front g.back g.whole g.left_is g.stops where
   go front (t ∷ back) whole is stops =
       let parted : (front ++ t ∷ []) ++ back ≡ f.front ++ f.back = append_assoc front (t ∷ []) back ∙ sym whole ∙ f.whole in
       let sizes : length (front ++ t ∷ []) + length back ≡ length f.front + length f.back =
-          sym (length-append (front ++ t ∷ []) back) ∙ ap length parted ∙ length-append f.front f.back in
+      sym (length-append (front ++ t ∷ []) back) ∙ ap length parted ∙ length-append f.front f.back in
       let r = goes_on (front ++ t ∷ []) back f.front f.back parted (omega (arith, sizes, is, f.left_is, less)) in
-      stops (record { more = r.0 ++ f.begins.more;
-          is_sentence = subst S (ap (λ l. l ++ f.begins.more) r.1 ∙ append_assoc (front ++ t ∷ []) r.0 f.begins.more) f.begins.is_sentence })
+      stops (record {
+        more = r.0 ++ f.begins.more;
+        is_sentence = subst S (ap (λ l. l ++ f.begins.more) r.1 ∙ append_assoc (front ++ t ∷ []) r.0 f.begins.more) f.begins.is_sentence;
+      })
 
 one_fault : (S : List Word → Type 0) (ts : List Word) (m n : ℕ) → IsFault S ts m → IsFault S ts n → m ≡ n
 one_fault S ts m n f g =
@@ -66,7 +68,6 @@ IsUnambiguous {T} Spells = (ts : List Word) (t u : T) → Spells ts t → Spells
 abbrev fault_or : ParseEnd → Option ParseEnd → ParseEnd
 fault_or d None = d
 fault_or d (Some fault) = fault
-
 
 module _ {T : Type 0} (Spells : List Word → T → Type 0) (FaultOf : T → Option ParseEnd → Type 0) (one_tree : IsUnambiguous Spells)
     (single : IsSingle FaultOf) (given : Given) (text : List ℕ) where
@@ -126,3 +127,27 @@ module _ {T : Type 0} (Spells : List Word → T → Type 0) (FaultOf : T → Opt
   one_reading one_lexing _ _ (lexed room x y) (no_token room' x') = let e = one_lexing _ _ x x' in let h : ⊥ = cc in absurd h
   one_reading one_lexing _ _ (lexed {tokens = a} {reading = r} room x y) (lexed {tokens = b} {reading = s} room' x' y') =
       one_judgement a r s y (subst (λ l. ReadsTokens Spells FaultOf given text l s) (sym (ap tokens_in (one_lexing _ _ x x'))) y')
+
+-- lists of words, and conditions, have one reading where texts have one lexing
+abbrev pub LexesOnce : Type 0
+LexesOnce = (text : List ℕ) (r s : Result (List Token) ℕ) → Lexes 0 text r → Lexes 0 text s → r ≡ s
+
+single_condition : IsSingle ConditionFault
+single_condition t m n e e' = e ∙ sym e'
+
+single_paths : IsSingle PathsFault
+single_paths t None None a b = refl
+single_paths t (Some Overlap) (Some Overlap) a b = refl
+single_paths t None (Some Overlap) a b = absurd (a b)
+single_paths t (Some Overlap) None a b = absurd (b a)
+single_paths t None (Some fault) a b = absurd b
+single_paths t (Some fault) None a b = absurd a
+single_paths t (Some Overlap) (Some fault) a b = absurd b
+single_paths t (Some fault) n a b = absurd a
+
+pub one_condition_reading : LexesOnce → (given : Given) (text : List ℕ) (r s : Result Tree ParseEnd) → ReadsCondition given text r → ReadsCondition given text s → r ≡ s
+one_condition_reading lexing given text =
+    one_reading (IsCondition most_levels) ConditionFault (one_condition most_levels) single_condition given text (lexing text)
+
+pub one_paths_reading : LexesOnce → (given : Given) (text : List ℕ) (r s : Result (List DocPath) ParseEnd) → ReadsPaths given text r → ReadsPaths given text s → r ≡ s
+one_paths_reading lexing given text = one_reading ArePaths PathsFault one_list single_paths given text (lexing text)

@@ -1,22 +1,22 @@
 -- What the machine does is right: where a word is taken, settling what is owed then settles what was owed before.
-use Rattle.std.proofs.Common.{◌≡◌, ◌+◌, ◌≤◌, ℕ, zero, suc, List, [], ◌∷◌, ◌++◌, length, Option, Some, None, Result, Ok, Err, refl, sym, ap, subst, ◌∙◌, inl, inr, append_assoc, append-nil, arith, codes}
+use Rattle.std.proofs.Common.{◌≡◌, ℕ, zero, suc, List, [], ◌∷◌, ◌++◌, Some, None, refl, sym, ap, subst, ◌∙◌, inl, inr, append_assoc, append-nil, arith}
 use Rattle.expr_lexer.specs.declared.path.DocPath.{DocPath}
 use Rattle.expr_lexer.specs.declared.path.Step.{Step}
 use Rattle.expr_lexer.specs.declared.path.Step.TheVariants as step
-use Rattle.expr_parse.specs.declared.token.TokenKind.TheVariants as sign
+use Rattle.expr_lexer.specs.declared.token.TokenKind.TheVariants as sign
 use Rattle.expr_parse.specs.declared.tree.Comparison.{Comparison}
 use Rattle.expr_parse.specs.declared.tree.Comparison.TheVariants as comparison
 use Rattle.expr_parse.specs.declared.tree.Operand.{Operand}
 use Rattle.expr_parse.specs.declared.tree.Operand.TheVariants as operand
 use Rattle.expr_parse.specs.declared.function.Function.{Function}
 use Rattle.expr_parse.specs.declared.function.Function.TheVariants as function
-use Rattle.expr_parse.specs.Trees.{Tree, Disjunction, Conjunction, Negation, Compared, Range, Choice, Presence, Absence, KindTest, FrontTest, PartTest}
+use Rattle.expr_parse.specs.Trees.{Tree, Negation, Compared, Range, Choice, Presence, Absence, KindTest, FrontTest, PartTest}
 use Rattle.expr_parse.specs.Words.{Word, Bare, Placed, Held, Number, Sign, Barred}
 use Rattle.expr_parse.specs.Functions.{function_of}
-use Rattle.expr_parse.specs.Grammar.{IsName, written, placed, AreSteps, no_step, a_field, an_element, IsPath, IsOperand, a_path, a_value, a_size, IsComparison, equals, differs, is_less, is_at_most, is_more_than, is_at_least, AreMoreOperands, no_operand, an_operand, IsPathTest, exists, not_exists, IsOperandTest, begins, contains, IsFlat, a_comparison, a_range, a_choice, a_path_test, a_kind_test, an_operand_test, a_barred_parenthesis, a_barred_choice, IsTail, tail_ends, tail_goes, IsChain, IsPart, IsConjunction, IsCondition, AreMorePaths, no_path, another_path}
-use Rattle.expr_parse.specs.Machine.{Kept, Whole, Side, Sides, Steps, Place, Listed, Owed, ACondition, AConjunction, APart, MoreOr, MoreAnd, ARest, AnOperand, NamedPart, NamedOperand, MoreChoices, APath, MoreSteps, AField, AnIndex, AValue, MorePaths, AnOpen, AClose, ACloseBracket, AnAnd, AComma, ABar, Do, Action, OfPath, OfSides, Take, Pass, Refuse, also, act, apply, path_of, named, on_call, on_operand_call, on_rest, on_part, on_choices, on_named_part, on_named_operand}
+use Rattle.expr_parse.specs.Grammar.{written, placed, AreSteps, no_step, a_field, an_element, IsPath, IsOperand, a_path, a_value, a_size, IsComparison, equals, differs, is_less, is_at_most, is_more_than, is_at_least, no_operand, an_operand, IsPathTest, exists, not_exists, IsOperandTest, begins, contains, IsFlat, a_comparison, a_range, a_choice, a_path_test, a_kind_test, an_operand_test, a_barred_parenthesis, a_barred_choice, tail_ends, tail_goes, IsPart, no_path, another_path}
+use Rattle.expr_parse.specs.Machine.{Kept, Whole, Side, Sides, Steps, Listed, Owed, ACondition, AConjunction, APart, MoreOr, MoreAnd, ARest, AnOperand, NamedPart, NamedOperand, MoreChoices, APath, MoreSteps, AField, AnIndex, AValue, MorePaths, AnOpen, AClose, ACloseBracket, AnAnd, AComma, ABar, Do, Action, OfPath, OfSides, Take, Pass, Refuse, also, act, path_of, named, on_call, on_operand_call, on_rest, on_part, on_choices, on_named_part, on_named_operand}
 use Rattle.expr_parse.proofs.Names.{IsCalled, is_called}
-use Rattle.expr_parse.proofs.Owing.{Then, After, AllAfter, After_map, split, two, three, IsListEnd, closed, barred}
+use Rattle.expr_parse.proofs.Owing.{Then, After, AllAfter, split, two, three, IsListEnd, closed, barred}
 
 -- what an action at the word t says of what was owed
 abbrev pub Sound : Owed → List Kept → Word → Action → Type 1

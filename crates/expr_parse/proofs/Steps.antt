@@ -1,9 +1,8 @@
 -- Steps of the machine, as the parser takes them.
-use Rattle.std.proofs.Common.{◌≡◌, ℕ, zero, suc, Bool, true, false, List, [], ◌∷◌, ◌++◌, refl, true≢false}
-use Rattle.expr_parse.specs.declared.token.TokenKind.TheVariants as sign
-use Rattle.expr_parse.specs.declared.tree.Operand.TheVariants as operand
-use Rattle.expr_parse.specs.Words.{Word, Bare, Placed, Held, Number, Sign, Barred}
-use Rattle.expr_parse.specs.Machine.{Kept, Side, Steps, Owed, ACondition, AConjunction, APart, MoreOr, MoreAnd, ARest, NamedPart, NamedOperand, MoreSteps, Do, Effect, MakePath, apply, path_of, named, reads}
+use Rattle.std.proofs.Common.{◌≡◌, ℕ, zero, suc, Bool, true, false, List, [], ◌∷◌, refl, true≢false}
+use Rattle.expr_lexer.specs.declared.token.TokenKind.TheVariants as sign
+use Rattle.expr_parse.specs.Words.{Word, Sign}
+use Rattle.expr_parse.specs.Machine.{Kept, Steps, Owed, ACondition, AConjunction, APart, MoreOr, MoreAnd, ARest, NamedPart, NamedOperand, MoreSteps, Do, Effect, MakePath, apply, named, reads}
 
 -- an effect takes no word
 pub do_it : (ts : List Word) (effect : Effect) (os : List Owed) (ks : List Kept) → reads ts (Do effect ∷ os) ks ≡ reads ts os (apply effect ks)

@@ -1,17 +1,15 @@
 -- Where the machine refuses a word, what was read begins a sentence, and no sentence goes on with that word.
-use Rattle.std.proofs.Common.{◌≡◌, ◌+◌, ◌≤◌, ◌<◌, ℕ, zero, suc, List, [], ◌∷◌, ◌++◌, length, Option, Some, None, Result, Ok, Err, refl, sym, ap, subst, ◌∙◌, inl, inr, append_assoc, append-nil, arith, codes}
-use Rattle.expr_lexer.specs.declared.path.DocPath.{DocPath}
-use Rattle.expr_lexer.specs.declared.path.Step.{Step}
+use Rattle.std.proofs.Common.{◌≡◌, ◌≤◌, ℕ, List, [], ◌∷◌, ◌++◌, length, Option, Some, None, Result, Ok, Err, refl, sym, ap, subst, append_assoc, append-nil, arith, codes}
 use Rattle.expr_lexer.specs.declared.path.Step.TheVariants as step
-use Rattle.expr_parse.specs.declared.token.TokenKind.TheVariants as sign
+use Rattle.expr_lexer.specs.declared.token.TokenKind.TheVariants as sign
 use Rattle.expr_parse.specs.declared.tree.Comparison.TheVariants as comparison
 use Rattle.expr_parse.specs.declared.tree.Operand.{Operand}
 use Rattle.expr_parse.specs.declared.tree.Operand.TheVariants as operand
-use Rattle.expr_parse.specs.Trees.{Tree, Compared, Choice}
-use Rattle.expr_parse.specs.Words.{Word, Bare, Placed, Held, Number, Sign, Barred}
+use Rattle.expr_parse.specs.Trees.{Compared, Choice}
+use Rattle.expr_parse.specs.Words.{Word, Bare, Held, Number, Sign, Barred}
 use Rattle.expr_parse.specs.Grammar.{written, no_step, IsOperand, a_path, a_value, no_operand, equals, IsFlat, a_comparison, tail_ends, IsPart, no_path}
 use Rattle.expr_parse.specs.Machine.{Kept, Whole, Side, Sides, Steps, Place, Listed, Owed, ACondition, AConjunction, APart, MoreOr, MoreAnd, ARest, AnOperand, NamedPart, NamedOperand, MoreChoices, APath, MoreSteps, AField, AnIndex, AValue, MorePaths, AnOpen, AClose, ACloseBracket, AnAnd, AComma, ABar, Do, Action, Take, Pass, Refuse, act, apply, path_of, named, Point, after, next, ended, closing, going, reads}
-use Rattle.expr_parse.specs.Faults.{IsBeginning, Stops, IsFault}
+use Rattle.expr_parse.specs.Faults.{Stops, IsFault}
 use Rattle.expr_parse.proofs.Owing.{Then, After, AllAfter, split, closed}
 use Rattle.expr_parse.proofs.Sound.{Sound, sound, SoundEnd, sound_end, flat_part, bare_path}
 

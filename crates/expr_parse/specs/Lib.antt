@@ -2,7 +2,6 @@ pub mod Trees
 pub mod Words
 pub mod Grammar
 pub mod Faults
-pub mod Lexed
 pub mod Reading
 pub mod Marks
 pub mod Functions

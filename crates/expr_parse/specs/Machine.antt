@@ -5,7 +5,7 @@ use Rattle.std.specs.Prelude.{◌≡◌, ℕ, zero, suc, List, [], ◌∷◌, �
 use Rattle.expr_lexer.specs.declared.path.DocPath.{DocPath}
 use Rattle.expr_lexer.specs.declared.path.Step.{Step}
 use Rattle.expr_lexer.specs.declared.path.Step.TheVariants as step
-use Rattle.expr_parse.specs.declared.token.TokenKind.TheVariants as sign
+use Rattle.expr_lexer.specs.declared.token.TokenKind.TheVariants as sign
 use Rattle.expr_parse.specs.declared.tree.Comparison.TheVariants as comparison
 use Rattle.expr_parse.specs.declared.tree.Operand.{Operand}
 use Rattle.expr_parse.specs.declared.tree.Operand.TheVariants as operand

@@ -1,12 +1,13 @@
 -- Which placeholders were used.
 use Rattle.std.specs.Prelude.{◌≡◌, ◌⊎◌, ◌↔◌, ◌++◌, ℕ, Bool, true, not, List, length, Option, None, Some, slice_get, position, filter_map, Contains}
-use Rattle.expr_parse.specs.declared.token.Token.{Token}
-use Rattle.expr_parse.specs.declared.token.TokenKind.{TokenKind}
-use Rattle.expr_parse.specs.declared.token.TokenKind.TheVariants as kind
+use Rattle.expr_lexer.specs.declared.token.Token.{Token}
+use Rattle.expr_lexer.specs.declared.token.TokenKind.{TokenKind}
+use Rattle.expr_lexer.specs.declared.token.TokenKind.TheVariants as kind
 use Rattle.expr_parse.specs.declared.given.Given.{Given}
 use Rattle.expr_parse.specs.declared.given.Used.{Used}
-use Rattle.expr_parse.specs.Words.{bytes_of, name_place, value_place}
-use Rattle.expr_parse.specs.Lexed.{Lexes}
+use Rattle.expr_lexer.specs.Spans.{word_of}
+use Rattle.expr_parse.specs.Words.{name_place, value_place}
+use Rattle.expr_lexer.specs.Lexes.{Lexes}
 use Rattle.std.specs.Prelude.{Ok}
 
 -- made for this given: a mark for each of its names and each of its values
@@ -24,10 +25,10 @@ value_used given kind.ValuePlaceholder bytes = value_place given bytes
 value_used given kind bytes = None
 
 abbrev pub names_used : Given → List ℕ → List Token → List ℕ
-names_used given text tokens = filter_map (λ token. name_used given token.kind (bytes_of text token)) tokens
+names_used given text tokens = filter_map (λ token. name_used given token.kind (word_of text token)) tokens
 
 abbrev pub values_used : Given → List ℕ → List Token → List ℕ
-values_used given text tokens = filter_map (λ token. value_used given token.kind (bytes_of text token)) tokens
+values_used given text tokens = filter_map (λ token. value_used given token.kind (word_of text token)) tokens
 
 -- marked now is what was marked before and what stands at these places
 abbrev pub Marks : List ℕ → List Bool → List Bool → Type 0

@@ -1,8 +1,8 @@
 -- What a text reads as: a tree, or its first fault in the stated order.
-use Rattle.std.specs.Prelude.{◌≡◌, ◌<◌, ◌≤◌, ◌⊎◌, ◌-◌, ℕ, List, [], ◌∷◌, ◌++◌, length, Option, None, Some, Result, Ok, Err, option_map, unwrap_or, slice_get}
+use Rattle.std.specs.Prelude.{◌≡◌, ◌<◌, ◌≤◌, ◌⊎◌, ◌-◌, ℕ, List, ◌++◌, length, Option, None, Some, Result, Ok, Err, option_map, unwrap_or, slice_get}
 use Rattle.expr_lexer.specs.declared.path.DocPath.{DocPath}
 use Rattle.expr_lexer.specs.declared.path.Step.{Step}
-use Rattle.expr_parse.specs.declared.token.Token.{Token}
+use Rattle.expr_lexer.specs.declared.token.Token.{Token}
 use Rattle.expr_parse.specs.declared.given.Given.{Given}
 use Rattle.expr_parse.specs.declared.parse_end.ParseEnd.{ParseEnd}
 use Rattle.expr_parse.specs.declared.parse_end.ParseEnd.TheVariants.{Syntax, TooLong, Overlap, NoMemory}
@@ -10,7 +10,7 @@ use Rattle.expr_parse.specs.Trees.{Tree}
 use Rattle.expr_parse.specs.Words.{Word, words, undefined}
 use Rattle.expr_parse.specs.Grammar.{IsCondition, ArePaths, most_levels}
 use Rattle.expr_parse.specs.Faults.{IsFault}
-use Rattle.expr_parse.specs.Lexed.{Lexes}
+use Rattle.expr_lexer.specs.Lexes.{Lexes}
 
 -- the most bytes of a text
 abbrev pub most_bytes : ℕ
@@ -29,22 +29,22 @@ IsSentence {T} Spells ts = (t : T) × Spells ts t
 pub data ReadsTokens {T : Type 0} (Spells : List Word → T → Type 0) (FaultOf : T → Option ParseEnd → Type 0) (given : Given)
     (text : List ℕ) (tokens : List Token) : Result T ParseEnd → Type 0 where
   no_sentence : {left : ℕ} → IsFault (IsSentence Spells) (words given text tokens) left
-    → ReadsTokens Spells FaultOf given text tokens (Err (Syntax (place_of text tokens left)))
+      → ReadsTokens Spells FaultOf given text tokens (Err (Syntax (place_of text tokens left)))
   not_given : {t : T} {fault : ParseEnd} → Spells (words given text tokens) t → undefined given text tokens ≡ Some fault
-    → ReadsTokens Spells FaultOf given text tokens (Err fault)
+      → ReadsTokens Spells FaultOf given text tokens (Err fault)
   at_fault : {t : T} {fault : ParseEnd} → Spells (words given text tokens) t → undefined given text tokens ≡ None
-    → FaultOf t (Some fault) → ReadsTokens Spells FaultOf given text tokens (Err fault)
+      → FaultOf t (Some fault) → ReadsTokens Spells FaultOf given text tokens (Err fault)
   sentence : {t : T} → Spells (words given text tokens) t → undefined given text tokens ≡ None
-    → FaultOf t None → ReadsTokens Spells FaultOf given text tokens (Ok t)
+      → FaultOf t None → ReadsTokens Spells FaultOf given text tokens (Ok t)
 
 -- What a text reads as.
 pub data Reads {T : Type 0} (Spells : List Word → T → Type 0) (FaultOf : T → Option ParseEnd → Type 0) (given : Given) (text : List ℕ)
     : Result T ParseEnd → Type 0 where
   too_long : most_bytes < length text → Reads Spells FaultOf given text (Err TooLong)
   no_token : {place : ℕ} → length text ≤ most_bytes → Lexes 0 text (Err place)
-    → Reads Spells FaultOf given text (Err (Syntax place))
+      → Reads Spells FaultOf given text (Err (Syntax place))
   lexed : {tokens : List Token} {reading : Result T ParseEnd} → length text ≤ most_bytes → Lexes 0 text (Ok tokens)
-    → ReadsTokens Spells FaultOf given text tokens reading → Reads Spells FaultOf given text reading
+      → ReadsTokens Spells FaultOf given text tokens reading → Reads Spells FaultOf given text reading
 
 -- a condition's tree has no fault of its own
 abbrev pub ConditionFault : Tree → Option ParseEnd → Type 0

@@ -1,8 +1,9 @@
 -- The words of an expression: its tokens, with what their bytes mean.
-use Rattle.std.specs.Prelude.{ℕ, ◌+◌, ◌-◌, ◌*◌, List, [], ◌∷◌, map, fold, Option, None, Some, option_map, unwrap_or, position, filter_map, bytes_eq, slice_get, slice_range}
-use Rattle.expr_parse.specs.declared.token.Token.{Token}
-use Rattle.expr_parse.specs.declared.token.TokenKind.{TokenKind}
-use Rattle.expr_parse.specs.declared.token.TokenKind.TheVariants as kind
+use Rattle.std.specs.Prelude.{ℕ, ◌+◌, ◌-◌, ◌*◌, List, [], ◌∷◌, map, fold, Option, None, Some, option_map, unwrap_or, position, filter_map, bytes_eq, slice_get}
+use Rattle.expr_lexer.specs.declared.token.Token.{Token}
+use Rattle.expr_lexer.specs.Spans.{word_of}
+use Rattle.expr_lexer.specs.declared.token.TokenKind.{TokenKind}
+use Rattle.expr_lexer.specs.declared.token.TokenKind.TheVariants as kind
 use Rattle.expr_parse.specs.declared.given.Given.{Given}
 use Rattle.expr_parse.specs.declared.parse_end.ParseEnd.{ParseEnd}
 use Rattle.expr_parse.specs.declared.parse_end.ParseEnd.TheVariants.{UndefinedName, UndefinedValue}
@@ -39,10 +40,6 @@ value_place given placeholder = position (λ name. bytes_eq name placeholder) gi
 abbrev pub name_at : Given → ℕ → List ℕ
 name_at given place = unwrap_or (option_map (λ pair. pair.name) (slice_get given.names place)) []
 
--- the bytes of a token
-abbrev pub bytes_of : List ℕ → Token → List ℕ
-bytes_of text token = slice_range text token.from token.to
-
 -- What is not given stands for the empty name and the first value: it makes no difference to whether and where a
 -- text is at fault, and no such text has a tree.
 abbrev pub meaning : Given → TokenKind → List ℕ → Word
@@ -54,7 +51,7 @@ meaning given kind bytes = Sign kind
 
 -- the word of a token
 abbrev pub word : Given → List ℕ → Token → Word
-word given text token = meaning given token.kind (bytes_of text token)
+word given text token = meaning given token.kind (word_of text token)
 
 abbrev pub words : Given → List ℕ → List Token → List Word
 words given text tokens = map (word given text) tokens
@@ -72,7 +69,7 @@ missing given kind bytes = None
 
 -- the first placeholder that is not given, in the order of the text
 abbrev pub undefined : Given → List ℕ → List Token → Option ParseEnd
-undefined given text tokens = slice_get (filter_map (λ token. missing given token.kind (bytes_of text token)) tokens) 0
+undefined given text tokens = slice_get (filter_map (λ token. missing given token.kind (word_of text token)) tokens) 0
 
 -- the word that one of the code's stands for
 abbrev pub meant : code.Word → Word

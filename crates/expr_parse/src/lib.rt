@@ -7,13 +7,13 @@
 
 mod function;
 mod given;
+mod laws;
 mod parse_end;
 mod stop;
-mod token;
 mod tree;
 mod word;
 
 pub use given::{Given, NamePair, Used};
+pub use laws::{one_reading, one_tree};
 pub use parse_end::{Clause, ParseEnd};
-pub use token::{Token, TokenKind};
 pub use tree::{Comparison, Condition, Operand, Paths};

@@ -1,6 +1,6 @@
 //! The words that the parsers read.
 
-use crate::token::TokenKind;
+use expr_lexer::TokenKind;
 
 /// A token with what its bytes mean.
 #[derive(Debug, Clone, Copy)]
