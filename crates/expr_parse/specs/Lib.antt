@@ -1,4 +1,5 @@
 pub mod Trees
+pub mod Given
 pub mod Words
 pub mod Grammar
 pub mod Faults

@@ -1,19 +1,25 @@
 -- Which placeholders were used.
-use Rattle.std.specs.Prelude.{◌≡◌, ◌⊎◌, ◌↔◌, ◌++◌, ℕ, Bool, true, not, List, length, Option, None, Some, slice_get, position, filter_map, Contains}
+use Rattle.std.specs.Prelude.{◌≡◌, ◌⊎◌, ◌↔◌, ◌++◌, ℕ, Bool, true, false, not, replicate, List, length, Option, None, Some, slice_get, position, filter_map, option_map, nat_eq, ◌||◌}
+use Rattle.std.specs.List.{list_any}
 use Rattle.expr_lexer.specs.declared.token.Token.{Token}
 use Rattle.expr_lexer.specs.declared.token.TokenKind.{TokenKind}
 use Rattle.expr_lexer.specs.declared.token.TokenKind.TheVariants as kind
 use Rattle.expr_parse.specs.declared.given.Given.{Given}
 use Rattle.expr_parse.specs.declared.given.Used.{Used}
 use Rattle.expr_lexer.specs.Spans.{word_of}
-use Rattle.expr_parse.specs.Words.{name_place, value_place}
+use Rattle.expr_parse.specs.Given.{name_place, value_place}
 use Rattle.expr_lexer.specs.Lexes.{Lexes}
 use Rattle.std.specs.Prelude.{Ok}
 
 -- made for this given: a mark for each of its names and each of its values
 pub record IsMadeFor (given : Given) (used : Used) : Type 0 where
-  pub of_names : length used.names ≡ length given.names
-  pub of_values : length used.values ≡ length given.value_names
+  pub of_names : length used.names.items ≡ length given.names
+  pub of_values : length used.values.items ≡ length given.value_names
+
+-- nothing is marked
+pub record IsUnmarked (used : Used) : Type 0 where
+  pub names : used.names.items ≡ replicate (length used.names.items) false
+  pub values : used.values.items ≡ replicate (length used.values.items) false
 
 -- the place that a token names among the names, and among the values
 abbrev pub name_used : Given → TokenKind → List ℕ → Option ℕ
@@ -30,17 +36,17 @@ names_used given text tokens = filter_map (λ token. name_used given token.kind 
 abbrev pub values_used : Given → List ℕ → List Token → List ℕ
 values_used given text tokens = filter_map (λ token. value_used given token.kind (word_of text token)) tokens
 
--- marked now is what was marked before and what stands at these places
+-- each mark is what it was, and is set where its place is among these
 abbrev pub Marks : List ℕ → List Bool → List Bool → Type 0
-Marks places old new = (k : ℕ) → (slice_get new k ≡ Some true) ↔ ((slice_get old k ≡ Some true) ⊎ Contains places k)
+Marks places old new = (k : ℕ) → slice_get new k ≡ option_map (λ was. was || list_any (nat_eq k) places) (slice_get old k)
 
 -- the placeholders of the text are marked besides those that were
 pub record IsMarked (given : Given) (text : List ℕ) (old new : Used) : Type 0 where
   pub tokens : List Token
   pub are_tokens : Lexes 0 text (Ok tokens)
-  pub names : Marks (names_used given text tokens) old.names new.names
-  pub values : Marks (values_used given text tokens) old.values new.values
+  pub names : Marks (names_used given text tokens) old.names.items new.names.items
+  pub values : Marks (values_used given text tokens) old.values.items new.values.items
 
 -- the place of the first without a mark, of the names and then the values
 abbrev pub first_unused : Used → Option ℕ
-first_unused used = position not (used.names ++ used.values)
+first_unused used = position not (used.names.items ++ used.values.items)

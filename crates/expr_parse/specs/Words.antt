@@ -1,12 +1,17 @@
 -- The words of an expression: its tokens, with what their bytes mean.
 use Rattle.std.specs.Prelude.{ℕ, ◌+◌, ◌-◌, ◌*◌, List, [], ◌∷◌, map, fold, Option, None, Some, option_map, unwrap_or, position, filter_map, bytes_eq, slice_get}
 use Rattle.expr_lexer.specs.declared.token.Token.{Token}
+use Rattle.std.specs.Option.{option_or}
+use Rattle.std.specs.Str.Parse.{digits_value}
 use Rattle.expr_lexer.specs.Spans.{word_of}
 use Rattle.expr_lexer.specs.declared.token.TokenKind.{TokenKind}
 use Rattle.expr_lexer.specs.declared.token.TokenKind.TheVariants as kind
 use Rattle.expr_parse.specs.declared.given.Given.{Given}
+use Rattle.expr_parse.specs.Given.{name_place, value_place, name_at}
 use Rattle.expr_parse.specs.declared.parse_end.ParseEnd.{ParseEnd}
 use Rattle.expr_parse.specs.declared.parse_end.ParseEnd.TheVariants.{UndefinedName, UndefinedValue}
+use Rattle.expr_parse.specs.declared.words.Missing.{Missing}
+use Rattle.expr_parse.specs.declared.words.Missing.TheVariants as absent
 use Rattle.expr_parse.specs.declared.word.Word as code
 use Rattle.expr_parse.specs.declared.word.Word.TheVariants as shown
 
@@ -24,37 +29,23 @@ pub data Word : Type 0 where
   -- what no text has: it stands in the grammar where a limit bars the way
   Barred : Word
 
--- the number of decimal digits
-abbrev pub number : List ℕ → ℕ
-number digits = fold (λ n digit. n * 10 + (digit - 48)) 0 digits
-
--- the place of the first name that is given with this placeholder
-abbrev pub name_place : Given → List ℕ → Option ℕ
-name_place given placeholder = position (λ pair. bytes_eq pair.placeholder placeholder) given.names
-
--- the place of the first value that is given with this placeholder
-abbrev pub value_place : Given → List ℕ → Option ℕ
-value_place given placeholder = position (λ name. bytes_eq name placeholder) given.value_names
-
--- the name at a place of those given
-abbrev pub name_at : Given → ℕ → List ℕ
-name_at given place = unwrap_or (option_map (λ pair. pair.name) (slice_get given.names place)) []
-
 -- What is not given stands for the empty name and the first value: it makes no difference to whether and where a
 -- text is at fault, and no such text has a tree.
 abbrev pub meaning : Given → TokenKind → List ℕ → Word
 meaning given kind.Name bytes = Bare bytes
 meaning given kind.NamePlaceholder bytes = Placed (unwrap_or (option_map (name_at given) (name_place given bytes)) [])
 meaning given kind.ValuePlaceholder bytes = Held (unwrap_or (value_place given bytes) 0)
-meaning given kind.Index bytes = Number (number bytes)
+meaning given kind.Index bytes = Number (digits_value 10 bytes)
 meaning given kind bytes = Sign kind
 
 -- the word of a token
 abbrev pub word : Given → List ℕ → Token → Word
 word given text token = meaning given token.kind (word_of text token)
 
+-- the words of a text
 abbrev pub words : Given → List ℕ → List Token → List Word
-words given text tokens = map (word given text) tokens
+words given text [] = []
+words given text (token ∷ tokens) = word given text token ∷ words given text tokens
 
 -- a fault, where there is no place
 abbrev pub unless_placed : Option ℕ → ParseEnd → Option ParseEnd
@@ -69,7 +60,13 @@ missing given kind bytes = None
 
 -- the first placeholder that is not given, in the order of the text
 abbrev pub undefined : Given → List ℕ → List Token → Option ParseEnd
-undefined given text tokens = slice_get (filter_map (λ token. missing given token.kind (word_of text token)) tokens) 0
+undefined given text [] = None
+undefined given text (token ∷ tokens) = option_or (missing given token.kind (word_of text token)) (undefined given text tokens)
+
+-- the fault of a placeholder that the code found not to be given
+abbrev pub fault_of : Missing → ParseEnd
+fault_of (absent.Name placeholder) = UndefinedName placeholder.now
+fault_of (absent.Value placeholder) = UndefinedValue placeholder.now
 
 -- the word that one of the code's stands for
 abbrev pub meant : code.Word → Word

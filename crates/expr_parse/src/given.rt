@@ -1,6 +1,11 @@
 //! What an expression's placeholders stand for, and which of them are used.
 
+ghost use Rattle.std.specs.Prelude.{◌≡◌, ◌<◌, ◌^◌, length, IfOk, IfSome, IsSome};
+ghost use Rattle.expr_parse.specs.Given.{name_place, value_place, name_at};
+ghost use Rattle.expr_parse.specs.Marks.{IsMadeFor, IsUnmarked, first_unused};
+
 use expr_lexer::{Seq, Text};
+use std::alloc::{AllocError as NoMemory, Global};
 
 /// The placeholders that a request gives, each with its sign: `#name` of names, `:name` of values.
 /// Where one is given twice, the first counts.
@@ -17,9 +22,66 @@ pub struct NamePair {
     pub name: Text,
 }
 
+impl Given {
+    /// The place of the first name that is given with this placeholder, which has its `#`.
+    pub(crate) fn name_place(&self, placeholder: &str) -> Option<usize>
+        ensures place { result ≡ name_place self.now placeholder.now }
+        ensures within { IfSome result (λ place. place < length self.now.names) }
+    {
+        self.names
+            .iter()
+            .position(|pair| pair.placeholder.as_str() == placeholder)
+    }
+
+    /// The place of the first value that is given with this placeholder, which has its `:`.
+    pub(crate) fn value_place(&self, placeholder: &str) -> Option<usize>
+        ensures place { result ≡ value_place self.now placeholder.now }
+        ensures within { IfSome result (λ place. place < length self.now.value_names) }
+    {
+        self.value_names
+            .iter()
+            .position(|name| name.as_str() == placeholder)
+    }
+
+    /// The name at a place of those given, if there is such a place.
+    pub(crate) fn name_at(&self, place: usize) -> &str
+        ensures { result.now ≡ name_at self.now place }
+    {
+        match self.names.get(place) {
+            Some(pair) => pair.name.as_str(),
+            None => "",
+        }
+    }
+}
+
 /// Which placeholders of a [`Given`] were used by the expressions read so far.
 #[derive(Debug, Drop)]
 pub struct Used {
-    pub(crate) names: Seq<bool>,
-    pub(crate) values: Seq<bool>,
+    pub(crate) names: Vec<bool>,
+    pub(crate) values: Vec<bool>,
+}
+
+impl Used {
+    /// The marks for what is given, of which none is used yet.
+    pub fn make(alloc: Global, given: &Given) -> Result<Used, NoMemory>
+        ensures made_for { IfOk result (λ used. IsMadeFor given.now used) }
+        ensures unmarked { IfOk result IsUnmarked }
+    {
+        Ok(Used {
+            names: vec![in alloc; false; given.names.len()]?,
+            values: vec![in alloc; false; given.value_names.len()]?,
+        })
+    }
+
+    /// The place of the first placeholder that is not used, in the list of all names followed by all value
+    /// names, from 0. These marks have to be made for what is given.
+    pub fn unused(&self, given: &Given) -> Option<usize>
+        requires { IsMadeFor given.now self.now }
+        ensures { result ≡ first_unused self.now }
+    {
+        self.names
+            .iter()
+            .chain(self.values.iter())
+            .position(|used| !*used)
+    }
 }

@@ -12,6 +12,7 @@ mod parse_end;
 mod stop;
 mod tree;
 mod word;
+mod words;
 
 pub use given::{Given, NamePair, Used};
 pub use laws::{one_reading, one_tree};

@@ -1,0 +1,90 @@
+//! From the tokens of a text to its words.
+
+ghost use Rattle.std.specs.Prelude.{◌≡◌, ◌<◌, ◌≤◌, ◌^◌, ◌∷◌, [], length, true, All, IfOk, OnOk, IfErr, IsOk, option_map, option_to_list, IsTrue};
+ghost use Rattle.std.specs.Str.{all_ascii_digits};
+ghost use Rattle.std.specs.Str.Parse.{digits_value};
+ghost use Rattle.expr_lexer.specs.Spans.{IsPart};
+ghost use Rattle.expr_lexer.specs.declared.token.TokenKind.TheVariants.{NamePlaceholder, ValuePlaceholder};
+ghost use Rattle.expr_parse.specs.Given.{name_place, value_place};
+ghost use Rattle.expr_parse.specs.Words.{meant, meanings, meaning, missing, words, undefined, fault_of};
+ghost use Rattle.expr_parse.specs.Marks.{IsMadeFor, Marks, name_used, value_used, names_used, values_used};
+
+use crate::given::{Given, Used};
+use crate::word::Word;
+use expr_lexer::{Token, TokenKind};
+use std::alloc::{AllocError as NoMemory, Global};
+
+/// A placeholder that is not given.
+#[derive(Debug, Clone, Copy)]
+pub(crate) enum Missing<'a> {
+    Name(&'a str),
+    Value(&'a str),
+}
+
+/// The number of an index.
+fn number(digits: &str) -> u32
+    requires digits { all_ascii_digits digits.now ≡ true }
+    requires some { 0 < length digits.now }
+    requires few { length digits.now ≤ 9 }
+    ensures { result ≡ digits_value 10 digits.now }
+{
+    digits.parse::<u32>().unwrap_or(0)
+}
+
+/// Marks a place as used.
+fn mark(marks: &mut Vec<bool>, place: usize)
+    requires { place < length marks.old.items }
+    ensures marks { Marks (place ∷ []) marks.old.items marks.new.items }
+    ensures same_length { length marks.new.items ≡ length marks.old.items }
+{
+    marks[place] = true;
+}
+
+/// What a placeholder of a name means. Where it is given it counts as used.
+fn name_meaning<'a>(
+    bytes: &'a str,
+    given: &'a Given,
+    used: &mut Used,
+) -> (Word<'a>, Option<Missing<'a>>)
+    requires { IsMadeFor given.now used.old }
+    ensures word { meant result.0 ≡ meaning given.now NamePlaceholder bytes.now }
+    ensures missing { option_map fault_of result.1 ≡ missing given.now NamePlaceholder bytes.now }
+    ensures names {
+        Marks (option_to_list (name_place given.now bytes.now)) used.old.names.items used.new.names.items
+    }
+    ensures values { used.new.values ≡ used.old.values }
+    ensures made_for { IsMadeFor given.now used.new }
+{
+    match given.name_place(bytes) {
+        Some(place) => {
+            mark(&mut used.names, place);
+            (Word::Placed(given.name_at(place)), None)
+        }
+        None => (Word::Placed(""), Some(Missing::Name(bytes))),
+    }
+}
+
+/// What a placeholder of a value means. Where it is given it counts as used.
+fn value_meaning<'a>(
+    bytes: &'a str,
+    given: &Given,
+    used: &mut Used,
+) -> (Word<'a>, Option<Missing<'a>>)
+    requires made_for { IsMadeFor given.now used.old }
+    requires few_values { length given.now.value_names < 2 ^ 32 }
+    ensures word { meant result.0 ≡ meaning given.now ValuePlaceholder bytes.now }
+    ensures missing { option_map fault_of result.1 ≡ missing given.now ValuePlaceholder bytes.now }
+    ensures names { used.new.names ≡ used.old.names }
+    ensures values {
+        Marks (option_to_list (value_place given.now bytes.now)) used.old.values.items used.new.values.items
+    }
+    ensures made_for { IsMadeFor given.now used.new }
+{
+    match given.value_place(bytes) {
+        Some(place) => {
+            mark(&mut used.values, place);
+            (Word::Held(place as u32), None)
+        }
+        None => (Word::Held(0), Some(Missing::Value(bytes))),
+    }
+}
