@@ -6,3 +6,4 @@ pub mod Steps
 pub mod Complete
 pub mod Along
 pub mod Readings
+pub mod Resolve

@@ -1,13 +1,11 @@
 //! From the tokens of a text to its words.
 
 ghost use Rattle.std.specs.Prelude.{◌≡◌, ◌<◌, ◌≤◌, ◌^◌, ◌∷◌, [], length, true, All, IfOk, OnOk, IfErr, IsOk, option_map, option_to_list, IsTrue};
-ghost use Rattle.std.specs.Str.{all_ascii_digits};
 ghost use Rattle.std.specs.Str.Parse.{digits_value};
-ghost use Rattle.expr_lexer.specs.Spans.{IsPart};
-ghost use Rattle.expr_lexer.specs.declared.token.TokenKind.TheVariants.{NamePlaceholder, ValuePlaceholder};
+ghost use Rattle.expr_lexer.specs.declared.token.TokenKind.TheVariants.{NamePlaceholder, ValuePlaceholder, Index};
 ghost use Rattle.expr_parse.specs.Given.{name_place, value_place};
-ghost use Rattle.expr_parse.specs.Words.{meant, meanings, meaning, missing, words, undefined, fault_of};
-ghost use Rattle.expr_parse.specs.Marks.{IsMadeFor, Marks, name_used, value_used, names_used, values_used};
+ghost use Rattle.expr_parse.specs.Words.{meant, meanings, meaning, missing, words, undefined, fault_of, IsNumeral, AreReadable};
+ghost use Rattle.expr_parse.specs.Marks.{IsMadeFor, Marks, name_used, value_used, MarksAll};
 
 use crate::given::{Given, Used};
 use crate::word::Word;
@@ -21,11 +19,17 @@ pub(crate) enum Missing<'a> {
     Value(&'a str),
 }
 
+/// The words of a text, as far as they are given.
+#[derive(Drop)]
+pub(crate) struct Reading<'a> {
+    pub words: Vec<Word<'a>>,
+    /// The first placeholder that is not given.
+    pub undefined: Option<Missing<'a>>,
+}
+
 /// The number of an index.
 fn number(digits: &str) -> u32
-    requires digits { all_ascii_digits digits.now ≡ true }
-    requires some { 0 < length digits.now }
-    requires few { length digits.now ≤ 9 }
+    requires { IsNumeral digits.now }
     ensures { result ≡ digits_value 10 digits.now }
 {
     digits.parse::<u32>().unwrap_or(0)
@@ -87,4 +91,61 @@ fn value_meaning<'a>(
         }
         None => (Word::Held(0), Some(Missing::Value(bytes))),
     }
+}
+
+/// What a token means.
+fn meaning<'a>(
+    kind: TokenKind,
+    bytes: &'a str,
+    given: &'a Given,
+    used: &mut Used,
+) -> (Word<'a>, Option<Missing<'a>>)
+    requires numeral { kind ≡ Index → IsNumeral bytes.now }
+    requires made_for { IsMadeFor given.now used.old }
+    requires few_values { length given.now.value_names < 2 ^ 32 }
+    ensures word { meant result.0 ≡ meaning given.now kind bytes.now }
+    ensures missing { option_map fault_of result.1 ≡ missing given.now kind bytes.now }
+    ensures names {
+        Marks (option_to_list (name_used given.now kind bytes.now)) used.old.names.items used.new.names.items
+    }
+    ensures values {
+        Marks (option_to_list (value_used given.now kind bytes.now)) used.old.values.items used.new.values.items
+    }
+    ensures made_for { IsMadeFor given.now used.new }
+{
+    match kind {
+        TokenKind::Name => (Word::Bare(bytes), None),
+        TokenKind::NamePlaceholder => name_meaning(bytes, given, used),
+        TokenKind::ValuePlaceholder => value_meaning(bytes, given, used),
+        TokenKind::Index => (Word::Number(number(bytes)), None),
+        sign => (Word::Sign(sign), None),
+    }
+}
+
+/// The words of the tokens of a text. The placeholders that are given count as used.
+pub(crate) fn words<'a>(
+    alloc: Global,
+    text: &'a str,
+    tokens: &[Token],
+    given: &'a Given,
+    used: &mut Used,
+) -> Result<Reading<'a>, NoMemory>
+    requires readable { AreReadable text.now tokens.now }
+    requires made_for { IsMadeFor given.now used.old }
+    requires few_values { length given.now.value_names < 2 ^ 32 }
+    ensures words { IfOk result (λ r. meanings r.words.items ≡ words given.now text.now tokens.now) }
+    ensures undefined {
+        IfOk result (λ r. option_map fault_of r.undefined ≡ undefined given.now text.now tokens.now)
+    }
+    ensures marks { OnOk result (MarksAll given.now text.now tokens.now used.old used.new) }
+    ensures made_for { IsMadeFor given.now used.new }
+{
+    let mut words = Vec::with_capacity(alloc, tokens.len())?;
+    let mut undefined = None;
+    for token in tokens {
+        let (word, missing) = meaning(token.kind, token.word(text), given, used);
+        words.push(word)?;
+        undefined = undefined.or(missing);
+    }
+    Ok(Reading { words, undefined })
 }

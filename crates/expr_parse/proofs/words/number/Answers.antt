@@ -9,6 +9,6 @@ own = numerals_by_value _ (search rules)
 
 pub returns : goal.returns
 returns c =
-    let short = digits_value_short own c.args.digits.now 9 c.requires.digits c.requires.few in
-    let e = parse_gives own 32 c.args.digits.now _ c.parse.ensures.value.0 c.requires.digits c.requires.some (omega (arith, short)) in
+    let short = digits_value_short own c.args.digits.now 9 c.requires.digits_only c.requires.few in
+    let e = parse_gives own 32 c.args.digits.now _ c.parse.ensures.value.0 c.requires.digits_only c.requires.some (omega (arith, short)) in
     search (rules, e)
