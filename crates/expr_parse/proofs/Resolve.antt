@@ -9,7 +9,7 @@ use Rattle.expr_parse.specs.declared.given.Used.{Used}
 use Rattle.expr_parse.specs.declared.parse_end.ParseEnd.{ParseEnd}
 use Rattle.expr_parse.specs.declared.words.Missing.{Missing}
 use Rattle.expr_parse.specs.declared.word.Word as code
-use Rattle.expr_parse.specs.Words.{Word, meant, meanings, word, meaning, words, missing, undefined, fault_of, AreReadable}
+use Rattle.expr_parse.specs.Words.{Word, meant, meanings, word, meaning, words, missing, undefined, fault_of}
 use Rattle.expr_parse.specs.Marks.{IsMadeFor, Marks, name_used, value_used, names_used, values_used, MarksAll}
 
 -- what is kept before the tokens `rest`, where the marks were `old` before all tokens
@@ -18,7 +18,6 @@ pub record Keeps (given : Given) (text : List ℕ) (tokens rest : List Token) (w
   pub undefined_is : option_or (option_map fault_of gone) (undefined given text rest) ≡ undefined given text tokens
   pub names : (final : List Bool) → Marks (names_used given text rest) used.names.items final → Marks (names_used given text tokens) old.names.items final
   pub values : (final : List Bool) → Marks (values_used given text rest) used.values.items final → Marks (values_used given text tokens) old.values.items final
-  pub readable : AreReadable text rest
   pub made_for : IsMadeFor given used
 
 pushed : (ws : List code.Word) (w : code.Word) (rest : List Word) → meanings (ws ++ w ∷ []) ++ rest ≡ meanings ws ++ meant w ∷ rest
@@ -57,10 +56,10 @@ no_marks a k = go (slice_get a k) where
   go None = refl
   go (Some was) = ap (λ b. Some b) (cases was)
 
-pub keeps_begin : (given : Given) (text : List ℕ) (tokens : List Token) (used : Used) → AreReadable text tokens → IsMadeFor given used
+pub keeps_begin : (given : Given) (text : List ℕ) (tokens : List Token) (used : Used) → IsMadeFor given used
     → Keeps given text tokens tokens [] None used used
-keeps_begin given text tokens used readable made =
-    record { words_are = refl; undefined_is = refl; names = (λ final m. m); values = (λ final m. m); readable = readable; made_for = made }
+keeps_begin given text tokens used made =
+    record { words_are = refl; undefined_is = refl; names = (λ final m. m); values = (λ final m. m); made_for = made }
 
 pub keeps_step : (given : Given) (text : List ℕ) (tokens : List Token) (token : Token) (rest : List Token) (ws : List code.Word)
     (gone : Option Missing) (old used used' : Used) (w : code.Word) (m : Option Missing)
@@ -80,7 +79,6 @@ keeps_step given text tokens token rest ws gone old used used' w m h w_is m_is n
             used.names.items used'.names.items final names n));
         values = (λ final n. h.values final (marks_step (option_to_list (value_used given token.kind (word_of text token))) (values_used given text rest)
             used.values.items used'.values.items final values n));
-        readable = h.readable.2;
         made_for = made
     }
 

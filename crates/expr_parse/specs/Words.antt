@@ -1,10 +1,9 @@
 -- The words of an expression: its tokens, with what their bytes mean.
-use Rattle.std.specs.Prelude.{◌≡◌, ◌<◌, ◌≤◌, ℕ, true, length, ◌+◌, ◌-◌, ◌*◌, List, [], ◌∷◌, map, fold, Option, None, Some, option_map, unwrap_or, position, filter_map, bytes_eq, slice_get}
+use Rattle.std.specs.Prelude.{ℕ, ◌+◌, ◌-◌, ◌*◌, List, [], ◌∷◌, map, fold, Option, None, Some, option_map, unwrap_or, position, filter_map, bytes_eq, slice_get}
 use Rattle.expr_lexer.specs.declared.token.Token.{Token}
 use Rattle.std.specs.Option.{option_or}
-use Rattle.std.specs.Str.{all_ascii_digits}
 use Rattle.std.specs.Str.Parse.{digits_value}
-use Rattle.expr_lexer.specs.Spans.{word_of, IsPart}
+use Rattle.expr_lexer.specs.Spans.{word_of}
 use Rattle.expr_lexer.specs.declared.token.TokenKind.{TokenKind}
 use Rattle.expr_lexer.specs.declared.token.TokenKind.TheVariants as kind
 use Rattle.expr_parse.specs.declared.given.Given.{Given}
@@ -80,15 +79,3 @@ meant (shown.Sign sign) = Sign sign
 abbrev pub meanings : List code.Word → List Word
 meanings [] = []
 meanings (w ∷ ws) = meant w ∷ meanings ws
-
--- the digits of an index
-pub record IsNumeral (digits : List ℕ) : Type 0 where
-  pub digits_only : all_ascii_digits digits ≡ true
-  pub some : 0 < length digits
-  pub few : length digits ≤ 9
-
--- each token can be cut out of the text, and an index is a numeral, as the lexer has them
-abbrev pub AreReadable : List ℕ → List Token → Type 0
-AreReadable text [] = Unit {0}
-AreReadable text (token ∷ tokens) =
-    IsPart text token × ((token.kind ≡ kind.Index) → IsNumeral (word_of text token)) × AreReadable text tokens

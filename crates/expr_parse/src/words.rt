@@ -2,9 +2,11 @@
 
 ghost use Rattle.std.specs.Prelude.{◌≡◌, ◌<◌, ◌≤◌, ◌^◌, ◌∷◌, [], length, true, All, IfOk, OnOk, IfErr, IsOk, option_map, option_to_list, IsTrue};
 ghost use Rattle.std.specs.Str.Parse.{digits_value};
-ghost use Rattle.expr_lexer.specs.declared.token.TokenKind.TheVariants.{NamePlaceholder, ValuePlaceholder, Index};
+ghost use Rattle.expr_lexer.specs.declared.token.TokenKind.TheVariants.{NamePlaceholder, ValuePlaceholder};
+ghost use Rattle.expr_lexer.specs.Spans.{IsPart};
+ghost use Rattle.expr_lexer.specs.Spelling.{IsIndex, Spells, IsSpelled};
 ghost use Rattle.expr_parse.specs.Given.{name_place, value_place};
-ghost use Rattle.expr_parse.specs.Words.{meant, meanings, meaning, missing, words, undefined, fault_of, IsNumeral, AreReadable};
+ghost use Rattle.expr_parse.specs.Words.{meant, meanings, meaning, missing, words, undefined, fault_of};
 ghost use Rattle.expr_parse.specs.Marks.{IsMadeFor, Marks, name_used, value_used, MarksAll};
 
 use crate::given::{Given, Used};
@@ -29,7 +31,7 @@ pub(crate) struct Reading<'a> {
 
 /// The number of an index.
 fn number(digits: &str) -> u32
-    requires { IsNumeral digits.now }
+    requires { IsIndex digits.now }
     ensures { result ≡ digits_value 10 digits.now }
 {
     digits.parse::<u32>().unwrap_or(0)
@@ -100,7 +102,7 @@ fn meaning<'a>(
     given: &'a Given,
     used: &mut Used,
 ) -> (Word<'a>, Option<Missing<'a>>)
-    requires numeral { kind ≡ Index → IsNumeral bytes.now }
+    requires spelled { Spells kind bytes.now }
     requires made_for { IsMadeFor given.now used.old }
     requires few_values { length given.now.value_names < 2 ^ 32 }
     ensures word { meant result.0 ≡ meaning given.now kind bytes.now }
@@ -130,7 +132,8 @@ pub(crate) fn words<'a>(
     given: &'a Given,
     used: &mut Used,
 ) -> Result<Reading<'a>, NoMemory>
-    requires readable { AreReadable text.now tokens.now }
+    requires parts { All (IsPart text.now) tokens.now }
+    requires spelled { All (IsSpelled text.now) tokens.now }
     requires made_for { IsMadeFor given.now used.old }
     requires few_values { length given.now.value_names < 2 ^ 32 }
     ensures words { IfOk result (λ r. meanings r.words.items ≡ words given.now text.now tokens.now) }
