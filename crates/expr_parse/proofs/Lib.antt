@@ -7,3 +7,4 @@ pub mod Complete
 pub mod Along
 pub mod Readings
 pub mod Resolve
+pub mod Agreement

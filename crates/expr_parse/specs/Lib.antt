@@ -4,6 +4,7 @@ pub mod Words
 pub mod Grammar
 pub mod Faults
 pub mod Reading
+pub mod Agreement
 pub mod Marks
 pub mod Functions
 pub mod Machine

@@ -5,7 +5,8 @@ use Rattle.expr_lexer.specs.declared.path.Step.{Step}
 use Rattle.expr_lexer.specs.declared.token.Token.{Token}
 use Rattle.expr_parse.specs.declared.given.Given.{Given}
 use Rattle.expr_parse.specs.declared.parse_end.ParseEnd.{ParseEnd}
-use Rattle.expr_parse.specs.declared.parse_end.ParseEnd.TheVariants.{Syntax, TooLong, Overlap, NoMemory}
+use Rattle.expr_parse.specs.declared.parse_end.ParseEnd.TheVariants.{Syntax, TooLong, NoMemory}
+use Rattle.expr_parse.specs.declared.parse_end.ParseEnd.TheVariants as parse_end
 use Rattle.expr_parse.specs.Trees.{Tree}
 use Rattle.expr_parse.specs.Words.{Word, words, undefined}
 use Rattle.expr_parse.specs.Grammar.{IsCondition, ArePaths, most_levels}
@@ -57,6 +58,10 @@ ReadsCondition = Reads (IsCondition most_levels) ConditionFault
 abbrev pub Begins : DocPath → DocPath → Type 0
 Begins p q = (more : List Step) × (p.steps ++ more ≡ q.steps)
 
+-- one begins the other
+abbrev pub Overlap : DocPath → DocPath → Type 0
+Overlap p q = Begins p q ⊎ Begins q p
+
 -- two of the paths, at different places, of which one begins the other
 pub record HaveOverlap (paths : List DocPath) : Type 0 where
   pub i : ℕ
@@ -66,11 +71,11 @@ pub record HaveOverlap (paths : List DocPath) : Type 0 where
   pub apart : i < j
   pub first : slice_get paths i ≡ Some p
   pub second : slice_get paths j ≡ Some q
-  pub overlap : Begins p q ⊎ Begins q p
+  pub overlap : Overlap p q
 
 abbrev pub PathsFault : List DocPath → Option ParseEnd → Type 0
 PathsFault paths None = ¬ HaveOverlap paths
-PathsFault paths (Some Overlap) = HaveOverlap paths
+PathsFault paths (Some parse_end.Overlap) = HaveOverlap paths
 PathsFault paths (Some fault) = ⊥
 
 abbrev pub ReadsPaths : Given → List ℕ → Result (List DocPath) ParseEnd → Type 0

@@ -8,6 +8,7 @@
 mod function;
 mod given;
 mod laws;
+mod overlap;
 mod parse_end;
 mod stop;
 mod tree;
