@@ -8,3 +8,4 @@ pub mod Along
 pub mod Readings
 pub mod Resolve
 pub mod Agreement
+pub mod Parsing

@@ -8,3 +8,4 @@ pub mod Agreement
 pub mod Marks
 pub mod Functions
 pub mod Machine
+pub mod Fronts

@@ -5,11 +5,17 @@
 //! of [`ParseEnd`]'s page.
 #![tactic(auto)]
 
+mod choice;
 mod function;
 mod given;
 mod laws;
 mod overlap;
+mod logic;
+mod operand;
 mod parse_end;
+mod path;
+mod predicate;
+mod sign;
 mod stop;
 mod tree;
 mod word;

@@ -1,0 +1,109 @@
+//! The choices of an IN.
+#![tactic(auto)]
+
+ghost use Rattle.std.specs.Prelude.{◌≡◌, ◌<◌, ◌∷◌, length, IfOk, IfSome};
+ghost use Rattle.expr_parse.specs.Trees.{tree};
+ghost use Rattle.expr_parse.specs.Words.{meanings, Sign};
+ghost use Rattle.expr_parse.specs.Fronts.{IsBehindComma};
+ghost use Rattle.expr_lexer.specs.declared.token.TokenKind.TheVariants as sign;
+ghost use Rattle.expr_parse.specs.Machine.{Goes, reads, choice, Whole, Side, Sides, ARest, AnOperand, MoreChoices, AnOpen, AClose, Do, FirstChoice, NextChoice, MakeChoice};
+
+use crate::operand::{fewer, operand};
+use crate::sign::{close_parenthesis, open_parenthesis, stuck};
+use crate::stop::Stop;
+use expr_lexer::TokenKind;
+use crate::tree::{Condition, Operand};
+use crate::word::Word;
+use expr_lexer::Seq;
+use std::alloc::Global;
+
+/// The most choices of an IN behind the first.
+const MOST_FURTHER_CHOICES: usize = 99;
+
+/// Behind the comma that is first.
+fn behind_comma<'t, 'a>(words: &'t [Word<'a>]) -> Option<&'t [Word<'a>]>
+    ensures comma { IsBehindComma (λ x. meanings x.now) (meanings words.now) result }
+    ensures shorter { IfSome result (λ x. length x.now < length words.now) }
+{
+    match words {
+        [Word::Sign(TokenKind::Comma), rest @ ..] => Some(rest),
+        _ => None,
+    }
+}
+
+/// Adds the choice behind a comma.
+#[tactic(auto, using(crate::proofs::Parsing::do_it))]
+fn further_choice<'t, 'a>(
+    alloc: Global,
+    choices: &mut Seq<Operand>,
+    words: &'t [Word<'a>],
+    levels: usize,
+) -> Result<&'t [Word<'a>], Stop>
+    ensures goes { Goes (λ os ks. reads (meanings words.now) (AnOperand levels ∷ Do NextChoice ∷ os) (Sides choices.old ∷ ks)) (λ x ks. Sides choices.new ∷ ks) (λ x. meanings x.now) result }
+    ensures shorter { IfOk result (λ x. length x.now < length words.now) }
+{
+    let (choice, rest) = operand(alloc, words, levels)?;
+    choices.push(choice)?;
+    Ok(rest)
+}
+
+/// The choices behind an opening parenthesis, as far as the closing one.
+#[tactic(auto, using(crate::proofs::Parsing::do_it, crate::proofs::Parsing::barred, crate::proofs::Parsing::choices_end))]
+fn choices<'t, 'a>(
+    alloc: Global,
+    words: &'t [Word<'a>],
+    levels: usize,
+) -> Result<(Seq<Operand>, &'t [Word<'a>]), Stop>
+    ensures goes { Goes (λ os ks. reads (meanings words.now) (AnOperand levels ∷ Do FirstChoice ∷ MoreChoices levels 99 ∷ os) ks) (λ x ks. choice (Sides x.0 ∷ ks)) (λ x. meanings x.1.now) result }
+    ensures shorter { IfOk result (λ x. length x.1.now < length words.now) }
+{
+    let (choice, after) = operand(alloc, words, levels)?;
+    let mut choices = Seq::new(alloc);
+    choices.push(choice)?;
+    let mut rest = after;
+    let mut left = MOST_FURTHER_CHOICES;
+    while let Some(after) = behind_comma(rest) {
+        let Some(fewer_left) = fewer(left) else {
+            return Err(stuck(after));
+        };
+        rest = further_choice(alloc, &mut choices, after, levels)?;
+        left = fewer_left;
+    }
+    closed(choices, rest)
+}
+
+/// These choices, before the closing parenthesis.
+#[tactic(auto, using(crate::proofs::Parsing::do_it))]
+fn closed<'t, 'a>(
+    choices: Seq<Operand>,
+    words: &'t [Word<'a>],
+) -> Result<(Seq<Operand>, &'t [Word<'a>]), Stop>
+    ensures goes { Goes (λ os ks. reads (meanings words.now) (AClose ∷ Do MakeChoice ∷ os) (Sides choices ∷ ks)) (λ x ks. choice (Sides x.0 ∷ ks)) (λ x. meanings x.1.now) result }
+    ensures shorter { IfOk result (λ x. length x.1.now < length words.now) }
+{
+    let rest = close_parenthesis(words)?;
+    Ok((choices, rest))
+}
+
+/// The choices of an IN, for its first operand. Their parenthesis takes a level.
+#[tactic(auto, using(crate::proofs::Parsing::barred))]
+pub(crate) fn choice<'t, 'a>(
+    alloc: Global,
+    first: Operand,
+    words: &'t [Word<'a>],
+    levels: usize,
+) -> Result<(Condition, &'t [Word<'a>]), Stop>
+    ensures goes { Goes (λ os ks. reads (Sign sign.In ∷ meanings words.now) (ARest levels ∷ os) (Side first ∷ ks)) (λ x ks. Whole (tree x.0) ∷ ks) (λ x. meanings x.1.now) result }
+    ensures shorter { IfOk result (λ x. length x.1.now < length words.now) }
+{
+    let Some(inner) = fewer(levels) else {
+        return Err(stuck(words));
+    };
+    let rest = open_parenthesis(words)?;
+    let (choices, rest) = choices(alloc, rest, inner)?;
+    let choice = Condition::Among {
+        operand: first,
+        choices,
+    };
+    Ok((choice, rest))
+}

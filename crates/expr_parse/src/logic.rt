@@ -1,0 +1,163 @@
+//! Conditions: parts joined by AND and OR, NOT and parentheses.
+#![tactic(auto, using(crate::proofs::Parsing::do_it))]
+
+ghost use Rattle.std.specs.Prelude.{◌≡◌, ◌<◌, ◌∷◌, length, IfOk};
+ghost use Rattle.expr_parse.specs.Trees.{tree, Conjunction, Disjunction};
+ghost use Rattle.expr_parse.specs.Words.{meanings};
+ghost use Rattle.expr_parse.specs.Fronts.{IsOpening, IsLess};
+ghost use Rattle.expr_parse.specs.Machine.{Goes, reads, Whole, ACondition, AConjunction, APart, AClose, Do, Joins, Negates};
+
+use crate::operand::fewer;
+use crate::predicate::flat;
+use crate::sign::{close_parenthesis, stuck};
+use crate::stop::Stop;
+use expr_lexer::TokenKind;
+use crate::tree::Condition;
+use crate::word::Word;
+use std::alloc::Global;
+
+/// How a part of a condition begins.
+#[derive(Clone, Copy)]
+pub(crate) enum Opening<'t, 'a> {
+    /// With NOT, before these words.
+    Negation(&'t [Word<'a>]),
+    /// With an opening parenthesis, before these words.
+    Group(&'t [Word<'a>]),
+    /// With neither.
+    Flat,
+}
+
+/// How the part that begins here begins.
+fn opening_of<'t, 'a>(words: &'t [Word<'a>]) -> Opening<'t, 'a>
+    ensures begins { IsOpening (meanings words.now) result }
+    ensures shorter { IsLess words.now result }
+{
+    match words {
+        [Word::Sign(TokenKind::Not), rest @ ..] => Opening::Negation(rest),
+        [Word::Sign(TokenKind::OpenParenthesis), rest @ ..] => Opening::Group(rest),
+        _ => Opening::Flat,
+    }
+}
+
+/// The part that NOT denies.
+#[cycle(condition)]
+fn negation<'t, 'a>(
+    alloc: Global,
+    words: &'t [Word<'a>],
+    levels: usize,
+) -> Result<(Condition, &'t [Word<'a>]), Stop>
+    ensures goes { Goes (λ os ks. reads (meanings words.now) (APart levels ∷ Do Negates ∷ os) ks) (λ x ks. Whole (tree x.0) ∷ ks) (λ x. meanings x.1.now) result }
+    ensures shorter { IfOk result (λ x. length x.1.now < length words.now) }
+{
+    let (denied, rest) = part(alloc, words, levels)?;
+    Ok((Condition::Not(Box::new(alloc, denied)?), rest))
+}
+
+/// The condition behind an opening parenthesis, as far as the closing one.
+#[cycle(condition)]
+fn group<'t, 'a>(
+    alloc: Global,
+    words: &'t [Word<'a>],
+    levels: usize,
+) -> Result<(Condition, &'t [Word<'a>]), Stop>
+    ensures goes { Goes (λ os ks. reads (meanings words.now) (ACondition levels ∷ AClose ∷ os) ks) (λ x ks. Whole (tree x.0) ∷ ks) (λ x. meanings x.1.now) result }
+    ensures shorter { IfOk result (λ x. length x.1.now < length words.now) }
+{
+    let (condition, rest) = disjunction(alloc, words, levels)?;
+    let rest = close_parenthesis(rest)?;
+    Ok((condition, rest))
+}
+
+/// A part of a condition between AND and OR. NOT and an opening parenthesis take a level.
+#[cycle(condition)]
+fn part<'t, 'a>(
+    alloc: Global,
+    words: &'t [Word<'a>],
+    levels: usize,
+) -> Result<(Condition, &'t [Word<'a>]), Stop>
+    ensures goes { Goes (λ os ks. reads (meanings words.now) (APart levels ∷ os) ks) (λ x ks. Whole (tree x.0) ∷ ks) (λ x. meanings x.1.now) result }
+    ensures shorter { IfOk result (λ x. length x.1.now < length words.now) }
+{
+    match (opening_of(words), fewer(levels)) {
+        (Opening::Flat, _) => flat(alloc, words, levels),
+        (Opening::Negation(rest), Some(inner)) => negation(alloc, rest, inner),
+        (Opening::Group(rest), Some(inner)) => group(alloc, rest, inner),
+        _ => Err(stuck(words)),
+    }
+}
+
+/// Joins the part behind AND.
+#[cycle(condition)]
+fn and_part<'t, 'a>(
+    alloc: Global,
+    left: Condition,
+    words: &'t [Word<'a>],
+    levels: usize,
+) -> Result<(Condition, &'t [Word<'a>]), Stop>
+    ensures goes { Goes (λ os ks. reads (meanings words.now) (APart levels ∷ Do (Joins Conjunction) ∷ os) (Whole (tree left) ∷ ks)) (λ x ks. Whole (tree x.0) ∷ ks) (λ x. meanings x.1.now) result }
+    ensures shorter { IfOk result (λ x. length x.1.now < length words.now) }
+{
+    let (right, rest) = part(alloc, words, levels)?;
+    let joined = Condition::And(Box::new(alloc, left)?, Box::new(alloc, right)?);
+    Ok((joined, rest))
+}
+
+/// Parts joined by AND, from the left.
+#[cycle(condition)]
+#[tactic(auto, using(crate::proofs::Parsing::conjunction_starts))]
+fn conjunction<'t, 'a>(
+    alloc: Global,
+    words: &'t [Word<'a>],
+    levels: usize,
+) -> Result<(Condition, &'t [Word<'a>]), Stop>
+    ensures goes { Goes (λ os ks. reads (meanings words.now) (AConjunction levels ∷ os) ks) (λ x ks. Whole (tree x.0) ∷ ks) (λ x. meanings x.1.now) result }
+    ensures shorter { IfOk result (λ x. length x.1.now < length words.now) }
+{
+    let (first, after) = part(alloc, words, levels)?;
+    let mut left = first;
+    let mut rest = after;
+    while let [Word::Sign(TokenKind::And), after @ ..] = rest {
+        let (joined, after) = and_part(alloc, left, after, levels)?;
+        left = joined;
+        rest = after;
+    }
+    Ok((left, rest))
+}
+
+/// Joins the conjunction behind OR.
+#[cycle(condition)]
+fn or_part<'t, 'a>(
+    alloc: Global,
+    left: Condition,
+    words: &'t [Word<'a>],
+    levels: usize,
+) -> Result<(Condition, &'t [Word<'a>]), Stop>
+    ensures goes { Goes (λ os ks. reads (meanings words.now) (AConjunction levels ∷ Do (Joins Disjunction) ∷ os) (Whole (tree left) ∷ ks)) (λ x ks. Whole (tree x.0) ∷ ks) (λ x. meanings x.1.now) result }
+    ensures shorter { IfOk result (λ x. length x.1.now < length words.now) }
+{
+    let (right, rest) = conjunction(alloc, words, levels)?;
+    let joined = Condition::Or(Box::new(alloc, left)?, Box::new(alloc, right)?);
+    Ok((joined, rest))
+}
+
+/// Conjunctions joined by OR, from the left.
+#[cycle(condition)]
+#[tactic(auto, using(crate::proofs::Parsing::condition_starts))]
+pub(crate) fn disjunction<'t, 'a>(
+    alloc: Global,
+    words: &'t [Word<'a>],
+    levels: usize,
+) -> Result<(Condition, &'t [Word<'a>]), Stop>
+    ensures goes { Goes (λ os ks. reads (meanings words.now) (ACondition levels ∷ os) ks) (λ x ks. Whole (tree x.0) ∷ ks) (λ x. meanings x.1.now) result }
+    ensures shorter { IfOk result (λ x. length x.1.now < length words.now) }
+{
+    let (first, after) = conjunction(alloc, words, levels)?;
+    let mut left = first;
+    let mut rest = after;
+    while let [Word::Sign(TokenKind::Or), after @ ..] = rest {
+        let (joined, after) = or_part(alloc, left, after, levels)?;
+        left = joined;
+        rest = after;
+    }
+    Ok((left, rest))
+}

@@ -1,0 +1,279 @@
+//! The parts of a condition that hold no other: comparisons, ranges, choices and functions.
+#![tactic(auto, using(crate::proofs::Parsing::do_it))]
+
+ghost use Rattle.std.specs.Prelude.{◌≡◌, ◌<◌, ◌∷◌, true, false, length, IfOk, IfSome};
+ghost use Rattle.expr_parse.specs.Trees.{tree, Compared, Presence, Absence, FrontTest, PartTest};
+ghost use Rattle.expr_parse.specs.Words.{meanings};
+ghost use Rattle.expr_parse.specs.Fronts.{opens, calls, compares, is_deeper, IsComparing};
+ghost use Rattle.expr_parse.specs.Machine.{Goes, reads, Whole, Side, Steps, Place, APart, NamedPart, ARest, AnOperand, APath, AValue, AnOpen, AClose, AComma, AnAnd, Do, OfSides, OfPath, MakeRange, MakeSize, MakeKindTest};
+
+use crate::choice::choice;
+use crate::function::{Function, function_of};
+use crate::operand::{called, fewer, operand, plain_operand, size_of};
+use crate::path::document_path;
+use crate::sign::{and, close_parenthesis, comma, open_parenthesis, stuck};
+use crate::stop::Stop;
+use expr_lexer::TokenKind;
+use crate::tree::{Comparison, Condition, Operand};
+use crate::word::Word;
+use expr_lexer::DocPath;
+use std::alloc::Global;
+
+/// The comparison of an operand with the one that follows.
+fn compared<'t, 'a>(
+    alloc: Global,
+    op: Comparison,
+    left: Operand,
+    words: &'t [Word<'a>],
+    levels: usize,
+) -> Result<(Condition, &'t [Word<'a>]), Stop>
+    ensures goes { Goes (λ os ks. reads (meanings words.now) (AnOperand levels ∷ Do (OfSides (Compared op)) ∷ os) (Side left ∷ ks)) (λ x ks. Whole (tree x.0) ∷ ks) (λ x. meanings x.1.now) result }
+    ensures shorter { IfOk result (λ x. length x.1.now < length words.now) }
+{
+    let (right, rest) = operand(alloc, words, levels)?;
+    Ok((Condition::Compare { op, left, right }, rest))
+}
+
+/// The range behind BETWEEN, for its first operand.
+fn range<'t, 'a>(
+    alloc: Global,
+    first: Operand,
+    words: &'t [Word<'a>],
+    levels: usize,
+) -> Result<(Condition, &'t [Word<'a>]), Stop>
+    ensures goes { Goes (λ os ks. reads (meanings words.now) (AnOperand levels ∷ AnAnd ∷ AnOperand levels ∷ Do MakeRange ∷ os) (Side first ∷ ks)) (λ x ks. Whole (tree x.0) ∷ ks) (λ x. meanings x.1.now) result }
+    ensures shorter { IfOk result (λ x. length x.1.now < length words.now) }
+{
+    let (low, rest) = operand(alloc, words, levels)?;
+    let rest = and(rest)?;
+    let (high, rest) = operand(alloc, rest, levels)?;
+    let range = Condition::Between {
+        operand: first,
+        low,
+        high,
+    };
+    Ok((range, rest))
+}
+
+/// The comparison whose sign is first, and what is behind it.
+fn comparison<'t, 'a>(words: &'t [Word<'a>]) -> Option<(Comparison, &'t [Word<'a>])>
+    ensures comparison { IsComparing (λ x. x.0) (λ x. meanings x.1.now) (meanings words.now) result }
+    ensures shorter { IfSome result (λ x. length x.1.now < length words.now) }
+{
+    match words {
+        [Word::Sign(TokenKind::Equal), rest @ ..] => Some((Comparison::Equal, rest)),
+        [Word::Sign(TokenKind::Unequal), rest @ ..] => Some((Comparison::Unequal, rest)),
+        [Word::Sign(TokenKind::Less), rest @ ..] => Some((Comparison::Less, rest)),
+        [Word::Sign(TokenKind::AtMost), rest @ ..] => Some((Comparison::AtMost, rest)),
+        [Word::Sign(TokenKind::More), rest @ ..] => Some((Comparison::More, rest)),
+        [Word::Sign(TokenKind::AtLeast), rest @ ..] => Some((Comparison::AtLeast, rest)),
+        _ => None,
+    }
+}
+
+/// What is said of the first operand of a part, where it is not compared.
+fn membership<'t, 'a>(
+    alloc: Global,
+    first: Operand,
+    words: &'t [Word<'a>],
+    levels: usize,
+) -> Result<(Condition, &'t [Word<'a>]), Stop>
+    requires { compares (meanings words.now) ≡ false }
+    ensures goes { Goes (λ os ks. reads (meanings words.now) (ARest levels ∷ os) (Side first ∷ ks)) (λ x ks. Whole (tree x.0) ∷ ks) (λ x. meanings x.1.now) result }
+    ensures shorter { IfOk result (λ x. length x.1.now < length words.now) }
+{
+    match words {
+        [Word::Sign(TokenKind::Between), rest @ ..] => range(alloc, first, rest, levels),
+        [Word::Sign(TokenKind::In), rest @ ..] => choice(alloc, first, rest, levels),
+        _ => Err(stuck(words)),
+    }
+}
+
+/// What is said of the first operand of a part.
+pub(crate) fn predicate<'t, 'a>(
+    alloc: Global,
+    first: Operand,
+    words: &'t [Word<'a>],
+    levels: usize,
+) -> Result<(Condition, &'t [Word<'a>]), Stop>
+    ensures goes { Goes (λ os ks. reads (meanings words.now) (ARest levels ∷ os) (Side first ∷ ks)) (λ x ks. Whole (tree x.0) ∷ ks) (λ x. meanings x.1.now) result }
+    ensures shorter { IfOk result (λ x. length x.1.now < length words.now) }
+{
+    match comparison(words) {
+        Some((op, rest)) => compared(alloc, op, first, rest, levels),
+        None => membership(alloc, first, words, levels),
+    }
+}
+
+/// A path in parentheses.
+fn path_argument<'t, 'a>(
+    alloc: Global,
+    words: &'t [Word<'a>],
+) -> Result<(DocPath, &'t [Word<'a>]), Stop>
+    ensures goes { Goes (λ os ks. reads (meanings words.now) (AnOpen ∷ APath ∷ AClose ∷ os) ks) (λ x ks. Steps x.0.steps ∷ ks) (λ x. meanings x.1.now) result }
+    ensures shorter { IfOk result (λ x. length x.1.now < length words.now) }
+{
+    let rest = open_parenthesis(words)?;
+    let (path, rest) = document_path(alloc, rest)?;
+    let rest = close_parenthesis(rest)?;
+    Ok((path, rest))
+}
+
+/// The argument of `attribute_exists`.
+fn exists<'t, 'a>(
+    alloc: Global,
+    words: &'t [Word<'a>],
+) -> Result<(Condition, &'t [Word<'a>]), Stop>
+    ensures goes { Goes (λ os ks. reads (meanings words.now) (AnOpen ∷ APath ∷ AClose ∷ Do (OfPath Presence) ∷ os) ks) (λ x ks. Whole (tree x.0) ∷ ks) (λ x. meanings x.1.now) result }
+    ensures shorter { IfOk result (λ x. length x.1.now < length words.now) }
+{
+    let (path, rest) = path_argument(alloc, words)?;
+    Ok((Condition::Exists(path), rest))
+}
+
+/// The argument of `attribute_not_exists`.
+fn absent<'t, 'a>(
+    alloc: Global,
+    words: &'t [Word<'a>],
+) -> Result<(Condition, &'t [Word<'a>]), Stop>
+    ensures goes { Goes (λ os ks. reads (meanings words.now) (AnOpen ∷ APath ∷ AClose ∷ Do (OfPath Absence) ∷ os) ks) (λ x ks. Whole (tree x.0) ∷ ks) (λ x. meanings x.1.now) result }
+    ensures shorter { IfOk result (λ x. length x.1.now < length words.now) }
+{
+    let (path, rest) = path_argument(alloc, words)?;
+    Ok((Condition::Absent(path), rest))
+}
+
+/// A value, by its place.
+fn value<'t, 'a>(words: &'t [Word<'a>]) -> Result<(u32, &'t [Word<'a>]), Stop>
+    ensures goes { Goes (λ os ks. reads (meanings words.now) (AValue ∷ os) ks) (λ x ks. Place x.0 ∷ ks) (λ x. meanings x.1.now) result }
+    ensures shorter { IfOk result (λ x. length x.1.now < length words.now) }
+{
+    match words {
+        [Word::Held(place), rest @ ..] => Ok((*place, rest)),
+        _ => Err(stuck(words)),
+    }
+}
+
+/// The arguments of `attribute_type`.
+fn of_kind<'t, 'a>(
+    alloc: Global,
+    words: &'t [Word<'a>],
+) -> Result<(Condition, &'t [Word<'a>]), Stop>
+    ensures goes { Goes (λ os ks. reads (meanings words.now) (AnOpen ∷ APath ∷ AComma ∷ AValue ∷ AClose ∷ Do MakeKindTest ∷ os) ks) (λ x ks. Whole (tree x.0) ∷ ks) (λ x. meanings x.1.now) result }
+    ensures shorter { IfOk result (λ x. length x.1.now < length words.now) }
+{
+    let rest = open_parenthesis(words)?;
+    let (path, rest) = document_path(alloc, rest)?;
+    let rest = comma(rest)?;
+    let (value, rest) = value(rest)?;
+    let rest = close_parenthesis(rest)?;
+    Ok((Condition::OfKind { path, value }, rest))
+}
+
+/// Two operands in parentheses.
+fn two_operands<'t, 'a>(
+    alloc: Global,
+    words: &'t [Word<'a>],
+    levels: usize,
+) -> Result<(Operand, Operand, &'t [Word<'a>]), Stop>
+    ensures goes { Goes (λ os ks. reads (meanings words.now) (AnOpen ∷ AnOperand levels ∷ AComma ∷ AnOperand levels ∷ AClose ∷ os) ks) (λ x ks. Side x.1 ∷ Side x.0 ∷ ks) (λ x. meanings x.2.now) result }
+    ensures shorter { IfOk result (λ x. length x.2.now < length words.now) }
+{
+    let rest = open_parenthesis(words)?;
+    let (first, rest) = operand(alloc, rest, levels)?;
+    let rest = comma(rest)?;
+    let (second, rest) = operand(alloc, rest, levels)?;
+    let rest = close_parenthesis(rest)?;
+    Ok((first, second, rest))
+}
+
+/// The arguments of `begins_with`.
+fn begins<'t, 'a>(
+    alloc: Global,
+    words: &'t [Word<'a>],
+    levels: usize,
+) -> Result<(Condition, &'t [Word<'a>]), Stop>
+    ensures goes { Goes (λ os ks. reads (meanings words.now) (AnOpen ∷ AnOperand levels ∷ AComma ∷ AnOperand levels ∷ AClose ∷ Do (OfSides FrontTest) ∷ os) ks) (λ x ks. Whole (tree x.0) ∷ ks) (λ x. meanings x.1.now) result }
+    ensures shorter { IfOk result (λ x. length x.1.now < length words.now) }
+{
+    let (operand, front, rest) = two_operands(alloc, words, levels)?;
+    Ok((Condition::Begins(operand, front), rest))
+}
+
+/// The arguments of `contains`.
+fn contains<'t, 'a>(
+    alloc: Global,
+    words: &'t [Word<'a>],
+    levels: usize,
+) -> Result<(Condition, &'t [Word<'a>]), Stop>
+    ensures goes { Goes (λ os ks. reads (meanings words.now) (AnOpen ∷ AnOperand levels ∷ AComma ∷ AnOperand levels ∷ AClose ∷ Do (OfSides PartTest) ∷ os) ks) (λ x ks. Whole (tree x.0) ∷ ks) (λ x. meanings x.1.now) result }
+    ensures shorter { IfOk result (λ x. length x.1.now < length words.now) }
+{
+    let (operand, part, rest) = two_operands(alloc, words, levels)?;
+    Ok((Condition::Contains(operand, part), rest))
+}
+
+/// The argument of `size`, and what is said of the size.
+fn size_predicate<'t, 'a>(
+    alloc: Global,
+    words: &'t [Word<'a>],
+    levels: usize,
+) -> Result<(Condition, &'t [Word<'a>]), Stop>
+    ensures goes { Goes (λ os ks. reads (meanings words.now) (AnOpen ∷ APath ∷ AClose ∷ Do MakeSize ∷ ARest levels ∷ os) ks) (λ x ks. Whole (tree x.0) ∷ ks) (λ x. meanings x.1.now) result }
+    ensures shorter { IfOk result (λ x. length x.1.now < length words.now) }
+{
+    let (size, rest) = size_of(alloc, words)?;
+    predicate(alloc, size, rest, levels)
+}
+
+/// The part that begins with the function of this name, whose parenthesis, which takes a level, is first.
+#[tactic(auto, using(crate::proofs::Parsing::call_size, crate::proofs::Parsing::call_exists, crate::proofs::Parsing::call_not_exists, crate::proofs::Parsing::call_has_type, crate::proofs::Parsing::call_begins_with, crate::proofs::Parsing::call_contains))]
+fn call<'t, 'a>(
+    alloc: Global,
+    name: &str,
+    words: &'t [Word<'a>],
+    levels: usize,
+) -> Result<(Condition, &'t [Word<'a>]), Stop>
+    requires { opens (meanings words.now) ≡ true }
+    ensures goes { Goes (λ os ks. reads (meanings words.now) (NamedPart levels name.now ∷ os) ks) (λ x ks. Whole (tree x.0) ∷ ks) (λ x. meanings x.1.now) result }
+    ensures shorter { IfOk result (λ x. length x.1.now < length words.now) }
+{
+    match (function_of(name), fewer(levels)) {
+        (Function::Size, Some(_)) => size_predicate(alloc, words, levels),
+        (Function::Exists, Some(_)) => exists(alloc, words),
+        (Function::NotExists, Some(_)) => absent(alloc, words),
+        (Function::HasType, Some(_)) => of_kind(alloc, words),
+        (Function::BeginsWith, Some(inner)) => begins(alloc, words, inner),
+        (Function::Contains, Some(inner)) => contains(alloc, words, inner),
+        _ => Err(stuck(words)),
+    }
+}
+
+/// A value or a path, where no function is called, and what is said of it.
+fn plain_predicate<'t, 'a>(
+    alloc: Global,
+    words: &'t [Word<'a>],
+    levels: usize,
+) -> Result<(Condition, &'t [Word<'a>]), Stop>
+    requires { calls (meanings words.now) ≡ false }
+    ensures goes { Goes (λ os ks. reads (meanings words.now) (AnOperand 0 ∷ ARest levels ∷ os) ks) (λ x ks. Whole (tree x.0) ∷ ks) (λ x. meanings x.1.now) result }
+    ensures shorter { IfOk result (λ x. length x.1.now < length words.now) }
+{
+    let (first, rest) = plain_operand(alloc, words)?;
+    predicate(alloc, first, rest, levels)
+}
+
+/// A part that begins with no NOT and no parenthesis. Where it does, nothing is said of the answer.
+pub(crate) fn flat<'t, 'a>(
+    alloc: Global,
+    words: &'t [Word<'a>],
+    levels: usize,
+) -> Result<(Condition, &'t [Word<'a>]), Stop>
+    ensures goes { is_deeper (meanings words.now) ≡ false → Goes (λ os ks. reads (meanings words.now) (APart levels ∷ os) ks) (λ x ks. Whole (tree x.0) ∷ ks) (λ x. meanings x.1.now) result }
+    ensures shorter { IfOk result (λ x. length x.1.now < length words.now) }
+{
+    match called(words) {
+        Some((name, rest)) => call(alloc, name, rest, levels),
+        None => plain_predicate(alloc, words, levels),
+    }
+}

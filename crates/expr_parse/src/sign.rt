@@ -1,0 +1,72 @@
+//! Single signs, where nothing else may stand.
+
+ghost use Rattle.std.specs.Prelude.{◌≡◌, ◌<◌, ◌∷◌, length, IfOk};
+ghost use Rattle.expr_parse.specs.Words.{meanings};
+ghost use Rattle.expr_parse.specs.Machine.{Goes, reads, AnOpen, AClose, ACloseBracket, AnAnd, AComma};
+
+use crate::stop::Stop;
+use expr_lexer::TokenKind;
+use crate::word::Word;
+
+/// What is answered where no sentence goes on with the first of these words.
+#[tactic(auto, using(crate::proofs::Parsing::length_meanings))]
+pub(crate) fn stuck<'a>(words: &[Word<'a>]) -> Stop
+    ensures { result ≡ Stop.Syntax (length (meanings words.now)) }
+{
+    Stop::Syntax(words.len())
+}
+
+/// Behind an opening parenthesis.
+pub(crate) fn open_parenthesis<'t, 'a>(words: &'t [Word<'a>]) -> Result<&'t [Word<'a>], Stop>
+    ensures goes { Goes (λ os ks. reads (meanings words.now) (AnOpen ∷ os) ks) (λ x ks. ks) (λ x. meanings x.now) result }
+    ensures shorter { IfOk result (λ x. length x.now < length words.now) }
+{
+    match words {
+        [Word::Sign(TokenKind::OpenParenthesis), rest @ ..] => Ok(rest),
+        _ => Err(stuck(words)),
+    }
+}
+
+/// Behind a closing parenthesis.
+pub(crate) fn close_parenthesis<'t, 'a>(words: &'t [Word<'a>]) -> Result<&'t [Word<'a>], Stop>
+    ensures goes { Goes (λ os ks. reads (meanings words.now) (AClose ∷ os) ks) (λ x ks. ks) (λ x. meanings x.now) result }
+    ensures shorter { IfOk result (λ x. length x.now < length words.now) }
+{
+    match words {
+        [Word::Sign(TokenKind::CloseParenthesis), rest @ ..] => Ok(rest),
+        _ => Err(stuck(words)),
+    }
+}
+
+/// Behind a closing bracket.
+pub(crate) fn close_bracket<'t, 'a>(words: &'t [Word<'a>]) -> Result<&'t [Word<'a>], Stop>
+    ensures goes { Goes (λ os ks. reads (meanings words.now) (ACloseBracket ∷ os) ks) (λ x ks. ks) (λ x. meanings x.now) result }
+    ensures shorter { IfOk result (λ x. length x.now < length words.now) }
+{
+    match words {
+        [Word::Sign(TokenKind::CloseBracket), rest @ ..] => Ok(rest),
+        _ => Err(stuck(words)),
+    }
+}
+
+/// Behind a comma.
+pub(crate) fn comma<'t, 'a>(words: &'t [Word<'a>]) -> Result<&'t [Word<'a>], Stop>
+    ensures goes { Goes (λ os ks. reads (meanings words.now) (AComma ∷ os) ks) (λ x ks. ks) (λ x. meanings x.now) result }
+    ensures shorter { IfOk result (λ x. length x.now < length words.now) }
+{
+    match words {
+        [Word::Sign(TokenKind::Comma), rest @ ..] => Ok(rest),
+        _ => Err(stuck(words)),
+    }
+}
+
+/// Behind an AND.
+pub(crate) fn and<'t, 'a>(words: &'t [Word<'a>]) -> Result<&'t [Word<'a>], Stop>
+    ensures goes { Goes (λ os ks. reads (meanings words.now) (AnAnd ∷ os) ks) (λ x ks. ks) (λ x. meanings x.now) result }
+    ensures shorter { IfOk result (λ x. length x.now < length words.now) }
+{
+    match words {
+        [Word::Sign(TokenKind::And), rest @ ..] => Ok(rest),
+        _ => Err(stuck(words)),
+    }
+}
