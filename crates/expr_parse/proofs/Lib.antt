@@ -9,3 +9,4 @@ pub mod Readings
 pub mod Resolve
 pub mod Agreement
 pub mod Parsing
+pub mod Answering

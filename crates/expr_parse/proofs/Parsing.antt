@@ -1,5 +1,5 @@
 -- Single steps of the machine.
-use Rattle.std.proofs.Common.{rules, ◌≡◌, ℕ, zero, suc, true, false, List, [], ◌∷◌, ◌++◌, length, Result, Ok, Err, refl, ap, ◌∙◌}
+use Rattle.std.proofs.Common.{rules, arith, ◌≡◌, ◌≤◌, ℕ, zero, suc, true, false, List, [], ◌∷◌, ◌++◌, length, Result, Ok, Err, refl, ap, ◌∙◌}
 use Rattle.expr_parse.specs.declared.word.Word as code
 use Rattle.expr_parse.specs.Words.{Word, Bare, Placed, Held, Number, Sign, Barred, meant, meanings}
 use Rattle.expr_parse.specs.Machine.{Owed, Kept, Effect, Do, apply, reads, Goes, APath, AField, MoreSteps, Steps, Sides, Side, AnOperand, NamedOperand, NamedPart, APart, AConjunction, ACondition, MoreAnd, MoreOr, ARest, AnOpen, AClose, MoreChoices, AComma, AValue, ABar, MakePath, MakeSize, MakeChoice, MakeKindTest, OfPath, OfSides}
@@ -151,3 +151,8 @@ plain_level (Bare name ∷ []) k os ks c = refl
 plain_level (Bare name ∷ Sign sign.OpenParenthesis ∷ ts) k os ks c = cc
 plain_level (Bare name ∷ t ∷ ts) k os ks c = refl
 plain_level (t ∷ ts) k os ks c = refl
+
+-- a word where nothing is owed is one too many
+pub none_owed : (ws : List code.Word) (ks : List Kept) → 1 ≤ length ws → reads (meanings ws) [] ks ≡ Err (length (meanings ws))
+none_owed [] ks some = absurd (omega arith)
+none_owed (w ∷ ws) ks some = refl

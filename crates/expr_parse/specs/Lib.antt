@@ -9,3 +9,4 @@ pub mod Marks
 pub mod Functions
 pub mod Machine
 pub mod Fronts
+pub mod Judged

@@ -6,6 +6,7 @@
 #![tactic(auto)]
 
 mod choice;
+mod expression;
 mod function;
 mod given;
 mod laws;
@@ -21,6 +22,7 @@ mod tree;
 mod word;
 mod words;
 
+pub use expression::{condition, paths};
 pub use given::{Given, NamePair, Used};
 pub use laws::{one_reading, one_tree};
 pub use parse_end::{Clause, ParseEnd};

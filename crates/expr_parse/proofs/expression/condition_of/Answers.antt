@@ -1,0 +1,24 @@
+use Rattle.std.proofs.Common.{◌≡◌, List, Ok, Err, sym, refl, subst}
+use Rattle.expr_parse.specs.Trees.{tree}
+use Rattle.expr_parse.specs.Words.{Word, words, meanings}
+use Rattle.expr_parse.specs.Grammar.{IsCondition, most_levels}
+use Rattle.expr_parse.specs.Reading.{ConditionFault}
+use Rattle.expr_parse.proofs.Answering.{IsJudged, condition_judged, told_given, told_stop}
+use Rattle.expr_parse.proofs.expression.condition_of.Goals as goal
+
+pub returns-in-Ok-whole_condition-clause-answer : goal.returns-in-Ok-whole_condition-clause-answer
+returns-in-Ok-whole_condition-clause-answer c =
+    let same : meanings c.as_slice.result.now ≡ words c.args.given.now c.args.text.now c.args.tokens.now = rw c.as_slice.ensures.value c.in-Ok.ensures.words in
+    let spells : List Word → Type 0 = λ ts. IsCondition most_levels ts (tree c.in-Ok-whole_condition.condition) in
+    told_given tree (IsCondition most_levels) ConditionFault c.args.given.now c.args.text.now c.args.tokens.now
+    c.in-Ok-whole_condition.condition c.in-Ok.reading.undefined c.with_given.result
+    (subst spells same (condition_judged (meanings c.as_slice.result.now) (Ok c.in-Ok-whole_condition.condition) c.in-Ok-whole_condition.ensures))
+    refl (sym c.in-Ok.ensures.undefined) c.with_given.ensures
+
+pub returns-clause-answer : goal.returns-clause-answer
+returns-clause-answer c =
+    let same : meanings c.as_slice.result.now ≡ words c.args.given.now c.args.text.now c.args.tokens.now = rw c.as_slice.ensures.value c.in-Ok.ensures.words in
+    let judged : List Word → Type 0 = λ ts. IsJudged tree (IsCondition most_levels) ts (Err c.in-Err-whole_condition.stop) in
+    rw c.told.ensures
+    (told_stop tree (IsCondition most_levels) ConditionFault c.args.given.now c.args.text.now c.args.tokens.now c.in-Err-whole_condition.stop
+        (subst judged same (condition_judged (meanings c.as_slice.result.now) (Err c.in-Err-whole_condition.stop) c.in-Err-whole_condition.ensures)))
