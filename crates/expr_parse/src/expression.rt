@@ -1,6 +1,6 @@
 //! The calls that read an expression.
 
-ghost use Rattle.std.specs.Prelude.{◌≡◌, ◌<◌, ◌^◌, [], ◌∷◌, Ok, All, length, IfOk, IfErr, OnOk};
+ghost use Rattle.std.specs.Prelude.{◌≡◌, ◌<◌, ◌^◌, List, [], ◌∷◌, Ok, All, length, IfOk, IfErr, OnOk};
 ghost use Rattle.expr_lexer.specs.declared.path.DocPath.{DocPath};
 ghost use Rattle.expr_lexer.specs.Spans.{IsPart};
 ghost use Rattle.expr_lexer.specs.Spelling.{IsSpelled};

@@ -10,9 +10,9 @@ mod expression;
 mod function;
 mod given;
 mod laws;
-mod overlap;
 mod logic;
 mod operand;
+mod overlap;
 mod parse_end;
 mod path;
 mod predicate;
@@ -27,3 +27,6 @@ pub use given::{Given, NamePair, Used};
 pub use laws::{one_reading, one_tree};
 pub use parse_end::{Clause, ParseEnd};
 pub use tree::{Comparison, Condition, Operand, Paths};
+
+#[cfg(test)]
+mod tests;
