@@ -12,8 +12,8 @@ begins_either (x ∷ p) [] h = inr (x ∷ p, refl)
 begins_either (x ∷ p) (y ∷ q) h =
     let same : x ≡ y = h 0 x (omega arith) (omega arith) in
     elim (begins_either p q (λ k d a b. h (suc k) d (omega (arith, a)) (omega (arith, b)))) [
-      inl m ↦ inl (m.0, ap (λ z. z ∷ (p ++ m.0)) same ∙ ap (λ l. y ∷ l) m.1)
-    | inr m ↦ inr (m.0, ap (λ z. z ∷ (q ++ m.0)) (sym same) ∙ ap (λ l. x ∷ l) m.1)
+      | inl m ↦ inl (m.0, ap (λ z. z ∷ (p ++ m.0)) same ∙ ap (λ l. y ∷ l) m.1)
+      | inr m ↦ inr (m.0, ap (λ z. z ∷ (q ++ m.0)) (sym same) ∙ ap (λ l. x ∷ l) m.1)
     ]
 
 agrees : (p m : List Step) → Agree p (p ++ m)
@@ -51,9 +51,13 @@ clear_next paths n d clear none i j p q early later first second o = go (eq-zero
       let after : n + 1 + (j - (n + 1)) ≡ j = omega (arith, later, i_is) in
       let p_is : get_or paths n d ≡ p = get_or_from_slice_get paths n p d (subst (λ m. slice_get paths m ≡ Some p) i_is first) in
       let inside = slice_get_within paths j q second in
-      none (j - (n + 1), q, omega (arith, inside, after, length-drop (n + 1) paths),
-          get_or-drop (n + 1) paths (j - (n + 1)) q ∙ ap (λ m. get_or paths m q) after ∙ get_or_from_slice_get paths j q q second,
-          subst (λ v. Overlap v q) (sym p_is) o)
+      none (
+        j - (n + 1),
+        q,
+        omega (arith, inside, after, length-drop (n + 1) paths),
+        get_or-drop (n + 1) paths (j - (n + 1)) q ∙ ap (λ m. get_or paths m q) after ∙ get_or_from_slice_get paths j q q second,
+        subst (λ v. Overlap v q) (sym p_is) o,
+      )
   go (inr less) = clear i j p q (omega (arith, less)) later first second o
 
 pub clear_all : (paths : List DocPath) (n : ℕ) → length paths ≤ n → Clear paths n → ¬ HaveOverlap paths

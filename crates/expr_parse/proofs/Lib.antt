@@ -10,3 +10,4 @@ pub mod Resolve
 pub mod Agreement
 pub mod Parsing
 pub mod Answering
+pub mod Ascending

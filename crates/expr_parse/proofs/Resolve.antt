@@ -42,6 +42,7 @@ marks_step ps qs a b c m n k = n k ∙ ap (option_map (λ was. was || list_any (
   cases : (was p q : Bool) → ((was || p) || q) ≡ (was || (p || q))
   cases true p q = refl
   cases false p q = refl
+
   go : (o : Option Bool) → option_map (λ was. was || list_any (nat_eq k) qs) (option_map (λ was. was || list_any (nat_eq k) ps) o)
       ≡ option_map (λ was. was || list_any (nat_eq k) (ps ++ qs)) o
   go None = refl
@@ -52,6 +53,7 @@ no_marks a k = go (slice_get a k) where
   cases : (was : Bool) → was ≡ (was || false)
   cases true = refl
   cases false = refl
+
   go : (o : Option Bool) → o ≡ option_map (λ was. was || list_any (nat_eq k) []) o
   go None = refl
   go (Some was) = ap (λ b. Some b) (cases was)
@@ -72,14 +74,14 @@ pub keeps_step : (given : Given) (text : List ℕ) (tokens : List Token) (token 
     → Keeps given text tokens rest (ws ++ w ∷ []) (option_or gone m) old used'
 keeps_step given text tokens token rest ws gone old used used' w m h w_is m_is names values made =
     record {
-        words_are = pushed ws w (words given text rest) ∙ ap (λ v. meanings ws ++ v ∷ words given text rest) w_is ∙ h.words_are;
-        undefined_is = or_step gone m (undefined given text rest)
-            ∙ ap (λ o. option_or (option_map fault_of gone) (option_or o (undefined given text rest))) m_is ∙ h.undefined_is;
-        names = (λ final n. h.names final (marks_step (option_to_list (name_used given token.kind (word_of text token))) (names_used given text rest)
-            used.names.items used'.names.items final names n));
-        values = (λ final n. h.values final (marks_step (option_to_list (value_used given token.kind (word_of text token))) (values_used given text rest)
-            used.values.items used'.values.items final values n));
-        made_for = made
+      words_are = pushed ws w (words given text rest) ∙ ap (λ v. meanings ws ++ v ∷ words given text rest) w_is ∙ h.words_are;
+      undefined_is = or_step gone m (undefined given text rest)
+          ∙ ap (λ o. option_or (option_map fault_of gone) (option_or o (undefined given text rest))) m_is ∙ h.undefined_is;
+      names = (λ final n. h.names final (marks_step (option_to_list (name_used given token.kind (word_of text token))) (names_used given text rest)
+          used.names.items used'.names.items final names n));
+      values = (λ final n. h.values final (marks_step (option_to_list (value_used given token.kind (word_of text token))) (values_used given text rest)
+          used.values.items used'.values.items final values n));
+      made_for = made;
     }
 
 -- the same along the tokens by index; what is kept then is named by the equations
@@ -99,9 +101,9 @@ keeps_next given text tokens index d {ws} {ws'} {gone} {gone'} {old} {used} {use
     let parted : drop index tokens ≡ token ∷ rest = drop-cons tokens index d within ∙ ap (λ n. token ∷ drop n tokens) (sym (add-one index)) in
     let h2 : Keeps given text tokens (token ∷ rest) ws gone old used = subst (λ l. Keeps given text tokens l ws gone old used) parted h in
     let h3 = keeps_step given text tokens token rest ws gone old used used' w m h2 (w_is ∙ ap (meaning given token.kind) bytes_are)
-        (m_is ∙ ap (missing given token.kind) bytes_are)
-        (subst (λ b. Marks (option_to_list (name_used given token.kind b)) used.names.items used'.names.items) bytes_are names)
-        (subst (λ b. Marks (option_to_list (value_used given token.kind b)) used.values.items used'.values.items) bytes_are values) made in
+    (m_is ∙ ap (missing given token.kind) bytes_are)
+    (subst (λ b. Marks (option_to_list (name_used given token.kind b)) used.names.items used'.names.items) bytes_are names)
+    (subst (λ b. Marks (option_to_list (value_used given token.kind b)) used.values.items used'.values.items) bytes_are values) made in
     let h4 : Keeps given text tokens rest ws' (option_or gone m) old used' = subst (λ l. Keeps given text tokens rest l (option_or gone m) old used') (sym ws_is) h3 in
     subst (λ l. Keeps given text tokens rest ws' l old used') (sym gone_is) h4
 

@@ -1,5 +1,6 @@
 pub mod Trees
 pub mod Given
+pub mod Ascending
 pub mod Words
 pub mod Grammar
 pub mod Faults

@@ -2,6 +2,7 @@
 
 ghost use Rattle.std.specs.Prelude.{◌≡◌, ◌<◌, ◌^◌, length, IfOk, IfSome, IsSome};
 ghost use Rattle.expr_parse.specs.Given.{name_place, value_place, name_at};
+ghost use Rattle.expr_parse.specs.Ascending.{Ascend, AreAscending};
 ghost use Rattle.expr_parse.specs.Marks.{IsMadeFor, IsUnmarked, first_unused};
 
 use expr_lexer::{Seq, Text};
@@ -22,22 +23,76 @@ pub struct NamePair {
     pub name: Text,
 }
 
+/// Whether the placeholders of names, and those of values, ascend in the order of their bytes, as those do
+/// that come from a map. Then they are found by halves.
+#[derive(Clone, Copy)]
+pub(crate) struct Ascending {
+    pub names: bool,
+    pub values: bool,
+}
+
 impl Given {
+    /// Which of the placeholders ascend.
+    pub(crate) fn ascending(&self) -> Ascending
+        ensures { AreAscending self.now result }
+    {
+        Ascending {
+            names: self
+                .names
+                .as_slice()
+                .is_sorted_by(|pair, next| pair.placeholder < next.placeholder),
+            values: self
+                .value_names
+                .as_slice()
+                .is_sorted_by(|name, next| name < next),
+        }
+    }
+
+    /// The place of the name with this placeholder, where placeholders ascend.
+    fn ascending_name_place(&self, placeholder: &str) -> Option<usize>
+        requires { Ascend (λ pair. pair.placeholder) self.now.names }
+        ensures { result ≡ name_place self.now placeholder.now }
+    {
+        self.names
+            .as_slice()
+            .binary_search_by(|pair| pair.placeholder.as_str().cmp(placeholder))
+            .ok()
+    }
+
+    /// The place of the value with this placeholder, where placeholders ascend.
+    fn ascending_value_place(&self, placeholder: &str) -> Option<usize>
+        requires { Ascend (λ name. name) self.now.value_names }
+        ensures { result ≡ value_place self.now placeholder.now }
+    {
+        self.value_names
+            .as_slice()
+            .binary_search_by(|name| name.as_str().cmp(placeholder))
+            .ok()
+    }
+
     /// The place of the first name that is given with this placeholder, which has its `#`.
-    pub(crate) fn name_place(&self, placeholder: &str) -> Option<usize>
+    pub(crate) fn name_place(&self, ascending: Ascending, placeholder: &str) -> Option<usize>
+        requires { AreAscending self.now ascending }
         ensures place { result ≡ name_place self.now placeholder.now }
         ensures within { IfSome result (λ place. place < length self.now.names) }
     {
+        if ascending.names {
+            return self.ascending_name_place(placeholder);
+        }
         self.names
             .iter()
             .position(|pair| pair.placeholder.as_str() == placeholder)
     }
 
     /// The place of the first value that is given with this placeholder, which has its `:`.
-    pub(crate) fn value_place(&self, placeholder: &str) -> Option<usize>
+    pub(crate) fn value_place(&self, ascending: Ascending, placeholder: &str) -> Option<usize>
+        requires { AreAscending self.now ascending }
         ensures place { result ≡ value_place self.now placeholder.now }
         ensures within { IfSome result (λ place. place < length self.now.value_names) }
     {
+        if ascending.values {
+            return self.ascending_value_place(placeholder);
+        }
         self.value_names
             .iter()
             .position(|name| name.as_str() == placeholder)

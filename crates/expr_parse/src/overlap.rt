@@ -10,7 +10,9 @@ use expr_lexer::{DocPath, Step};
 fn agree(one: &[Step], other: &[Step]) -> bool
     ensures { IsTrue result ↔ Agree one.now other.now }
 {
-    one.iter().zip(other.iter()).all(|(step, another)| step == another)
+    one.iter()
+        .zip(other.iter())
+        .all(|(step, another)| step == another)
 }
 
 /// Whether the steps of one path begin the other's.

@@ -6,10 +6,11 @@ ghost use Rattle.expr_lexer.specs.declared.token.TokenKind.TheVariants.{NamePlac
 ghost use Rattle.expr_lexer.specs.Spans.{IsPart};
 ghost use Rattle.expr_lexer.specs.Spelling.{IsIndex, Spells, IsSpelled};
 ghost use Rattle.expr_parse.specs.Given.{name_place, value_place};
+ghost use Rattle.expr_parse.specs.Ascending.{AreAscending};
 ghost use Rattle.expr_parse.specs.Words.{meant, meanings, meaning, missing, words, undefined, fault_of};
 ghost use Rattle.expr_parse.specs.Marks.{IsMadeFor, Marks, name_used, value_used, MarksAll};
 
-use crate::given::{Given, Used};
+use crate::given::{Ascending, Given, Used};
 use crate::word::Word;
 use expr_lexer::{Token, TokenKind};
 use std::alloc::{AllocError as NoMemory, Global};
@@ -50,18 +51,18 @@ fn mark(marks: &mut Vec<bool>, place: usize)
 fn name_meaning<'a>(
     bytes: &'a str,
     given: &'a Given,
+    ascending: Ascending,
     used: &mut Used,
 ) -> (Word<'a>, Option<Missing<'a>>)
-    requires { IsMadeFor given.now used.old }
+    requires made_for { IsMadeFor given.now used.old }
+    requires ascending { AreAscending given.now ascending }
     ensures word { meant result.0 ≡ meaning given.now NamePlaceholder bytes.now }
     ensures missing { option_map fault_of result.1 ≡ missing given.now NamePlaceholder bytes.now }
-    ensures names {
-        Marks (option_to_list (name_place given.now bytes.now)) used.old.names.items used.new.names.items
-    }
+    ensures names { Marks (option_to_list (name_place given.now bytes.now)) used.old.names.items used.new.names.items }
     ensures values { used.new.values ≡ used.old.values }
     ensures made_for { IsMadeFor given.now used.new }
 {
-    match given.name_place(bytes) {
+    match given.name_place(ascending, bytes) {
         Some(place) => {
             mark(&mut used.names, place);
             (Word::Placed(given.name_at(place)), None)
@@ -74,19 +75,19 @@ fn name_meaning<'a>(
 fn value_meaning<'a>(
     bytes: &'a str,
     given: &Given,
+    ascending: Ascending,
     used: &mut Used,
 ) -> (Word<'a>, Option<Missing<'a>>)
     requires made_for { IsMadeFor given.now used.old }
     requires few_values { length given.now.value_names < 2 ^ 32 }
+    requires ascending { AreAscending given.now ascending }
     ensures word { meant result.0 ≡ meaning given.now ValuePlaceholder bytes.now }
     ensures missing { option_map fault_of result.1 ≡ missing given.now ValuePlaceholder bytes.now }
     ensures names { used.new.names ≡ used.old.names }
-    ensures values {
-        Marks (option_to_list (value_place given.now bytes.now)) used.old.values.items used.new.values.items
-    }
+    ensures values { Marks (option_to_list (value_place given.now bytes.now)) used.old.values.items used.new.values.items }
     ensures made_for { IsMadeFor given.now used.new }
 {
-    match given.value_place(bytes) {
+    match given.value_place(ascending, bytes) {
         Some(place) => {
             mark(&mut used.values, place);
             (Word::Held(place as u32), None)
@@ -100,25 +101,23 @@ fn meaning<'a>(
     kind: TokenKind,
     bytes: &'a str,
     given: &'a Given,
+    ascending: Ascending,
     used: &mut Used,
 ) -> (Word<'a>, Option<Missing<'a>>)
     requires spelled { Spells kind bytes.now }
     requires made_for { IsMadeFor given.now used.old }
     requires few_values { length given.now.value_names < 2 ^ 32 }
+    requires ascending { AreAscending given.now ascending }
     ensures word { meant result.0 ≡ meaning given.now kind bytes.now }
     ensures missing { option_map fault_of result.1 ≡ missing given.now kind bytes.now }
-    ensures names {
-        Marks (option_to_list (name_used given.now kind bytes.now)) used.old.names.items used.new.names.items
-    }
-    ensures values {
-        Marks (option_to_list (value_used given.now kind bytes.now)) used.old.values.items used.new.values.items
-    }
+    ensures names { Marks (option_to_list (name_used given.now kind bytes.now)) used.old.names.items used.new.names.items }
+    ensures values { Marks (option_to_list (value_used given.now kind bytes.now)) used.old.values.items used.new.values.items }
     ensures made_for { IsMadeFor given.now used.new }
 {
     match kind {
         TokenKind::Name => (Word::Bare(bytes), None),
-        TokenKind::NamePlaceholder => name_meaning(bytes, given, used),
-        TokenKind::ValuePlaceholder => value_meaning(bytes, given, used),
+        TokenKind::NamePlaceholder => name_meaning(bytes, given, ascending, used),
+        TokenKind::ValuePlaceholder => value_meaning(bytes, given, ascending, used),
         TokenKind::Index => (Word::Number(number(bytes)), None),
         sign => (Word::Sign(sign), None),
     }
@@ -137,16 +136,15 @@ pub(crate) fn words<'a>(
     requires made_for { IsMadeFor given.now used.old }
     requires few_values { length given.now.value_names < 2 ^ 32 }
     ensures words { IfOk result (λ r. meanings r.words.items ≡ words given.now text.now tokens.now) }
-    ensures undefined {
-        IfOk result (λ r. option_map fault_of r.undefined ≡ undefined given.now text.now tokens.now)
-    }
+    ensures undefined { IfOk result (λ r. option_map fault_of r.undefined ≡ undefined given.now text.now tokens.now) }
     ensures marks { OnOk result (MarksAll given.now text.now tokens.now used.old used.new) }
     ensures made_for { IsMadeFor given.now used.new }
 {
+    let ascending = given.ascending();
     let mut words = Vec::with_capacity(alloc, tokens.len())?;
     let mut undefined = None;
     for token in tokens {
-        let (word, missing) = meaning(token.kind, token.word(text), given, used);
+        let (word, missing) = meaning(token.kind, token.word(text), given, ascending, used);
         words.push(word)?;
         undefined = undefined.or(missing);
     }
