@@ -9,5 +9,6 @@ pub mod Agreement
 pub mod Marks
 pub mod Functions
 pub mod Machine
+pub mod Parses
 pub mod Fronts
 pub mod Judged

@@ -1,11 +1,12 @@
 //! The choices of an IN.
 #![tactic(auto)]
 
-ghost use Rattle.std.specs.Prelude.{◌≡◌, ◌<◌, ◌∷◌, length, IfOk, IfSome};
+ghost use Rattle.std.specs.Prelude.{◌≡◌, ◌<◌, ◌∷◌, length, IfOk, IfSome, []};
 ghost use Rattle.expr_parse.specs.Trees.{tree};
 ghost use Rattle.expr_parse.specs.Words.{meanings, Sign};
 ghost use Rattle.expr_parse.specs.Fronts.{IsBehindComma};
 ghost use Rattle.expr_lexer.specs.declared.token.TokenKind.TheVariants as sign;
+ghost use Rattle.expr_parse.specs.Parses.{Extends};
 ghost use Rattle.expr_parse.specs.Machine.{Goes, reads, choice, Whole, Side, Sides, ARest, AnOperand, MoreChoices, AnOpen, AClose, Do, FirstChoice, NextChoice, MakeChoice};
 
 use crate::operand::{fewer, operand};
@@ -39,7 +40,10 @@ fn further_choice<'t, 'a>(
     words: &'t [Word<'a>],
     levels: usize,
 ) -> Result<&'t [Word<'a>], Stop>
-    ensures goes { Goes (λ os ks. reads (meanings words.now) (AnOperand levels ∷ Do NextChoice ∷ os) (Sides choices.old ∷ ks)) (λ x ks. Sides choices.new ∷ ks) (λ x. meanings x.now) result }
+    ensures goes {
+        Extends (AnOperand levels ∷ Do NextChoice ∷ [])
+            (Sides choices.old) (Sides choices.new) words.now result
+    }
     ensures shorter { IfOk result (λ x. length x.now < length words.now) }
 {
     let (choice, rest) = operand(alloc, words, levels)?;
@@ -54,7 +58,11 @@ fn choices<'t, 'a>(
     words: &'t [Word<'a>],
     levels: usize,
 ) -> Result<(Seq<Operand>, &'t [Word<'a>]), Stop>
-    ensures goes { Goes (λ os ks. reads (meanings words.now) (AnOperand levels ∷ Do FirstChoice ∷ MoreChoices levels 99 ∷ os) ks) (λ x ks. choice (Sides x.0 ∷ ks)) (λ x. meanings x.1.now) result }
+    ensures goes {
+        Goes
+            (λ os ks. reads (meanings words.now) (AnOperand levels ∷ Do FirstChoice ∷ MoreChoices levels 99 ∷ os) ks)
+            (λ x ks. choice (Sides x.0 ∷ ks)) (λ x. meanings x.1.now) result
+    }
     ensures shorter { IfOk result (λ x. length x.1.now < length words.now) }
 {
     let (choice, after) = operand(alloc, words, levels)?;
@@ -78,7 +86,10 @@ fn closed<'t, 'a>(
     choices: Seq<Operand>,
     words: &'t [Word<'a>],
 ) -> Result<(Seq<Operand>, &'t [Word<'a>]), Stop>
-    ensures goes { Goes (λ os ks. reads (meanings words.now) (AClose ∷ Do MakeChoice ∷ os) (Sides choices ∷ ks)) (λ x ks. choice (Sides x.0 ∷ ks)) (λ x. meanings x.1.now) result }
+    ensures goes {
+        Goes (λ os ks. reads (meanings words.now) (AClose ∷ Do MakeChoice ∷ os) (Sides choices ∷ ks))
+            (λ x ks. choice (Sides x.0 ∷ ks)) (λ x. meanings x.1.now) result
+    }
     ensures shorter { IfOk result (λ x. length x.1.now < length words.now) }
 {
     let rest = close_parenthesis(words)?;
@@ -93,7 +104,10 @@ pub(crate) fn choice<'t, 'a>(
     words: &'t [Word<'a>],
     levels: usize,
 ) -> Result<(Condition, &'t [Word<'a>]), Stop>
-    ensures goes { Goes (λ os ks. reads (Sign sign.In ∷ meanings words.now) (ARest levels ∷ os) (Side first ∷ ks)) (λ x ks. Whole (tree x.0) ∷ ks) (λ x. meanings x.1.now) result }
+    ensures goes {
+        Goes (λ os ks. reads (Sign sign.In ∷ meanings words.now) (ARest levels ∷ os) (Side first ∷ ks))
+            (λ x ks. Whole (tree x.0) ∷ ks) (λ x. meanings x.1.now) result
+    }
     ensures shorter { IfOk result (λ x. length x.1.now < length words.now) }
 {
     let Some(inner) = fewer(levels) else {

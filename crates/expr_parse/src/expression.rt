@@ -155,7 +155,10 @@ fn condition_of(
     requires spelled { All (IsSpelled text.now) tokens.now }
     requires made_for { IsMadeFor given.now used.old }
     requires few_values { length given.now.value_names < 2 ^ 32 }
-    ensures answer { IsAnswer tree (ReadsTokens (IsCondition most_levels) ConditionFault given.now text.now tokens.now) result }
+    ensures answer {
+        IsAnswer tree (ReadsTokens (IsCondition most_levels) ConditionFault given.now text.now tokens.now)
+            result
+    }
     ensures marks { OnOk result (MarksAll given.now text.now tokens.now used.old used.new) }
     ensures made_for { IsMadeFor given.now used.new }
 {
@@ -182,7 +185,9 @@ fn paths_of(
     requires spelled { All (IsSpelled text.now) tokens.now }
     requires made_for { IsMadeFor given.now used.old }
     requires few_values { length given.now.value_names < 2 ^ 32 }
-    ensures answer { IsAnswer (λ paths. paths) (ReadsTokens ArePaths PathsFault given.now text.now tokens.now) result }
+    ensures answer {
+        IsAnswer (λ paths. paths) (ReadsTokens ArePaths PathsFault given.now text.now tokens.now) result
+    }
     ensures marks { OnOk result (MarksAll given.now text.now tokens.now used.old used.new) }
     ensures made_for { IsMadeFor given.now used.new }
 {
@@ -236,9 +241,9 @@ fn read_paths(
 /// expressions"). An operand names a value by its place in `given.value_names`. The placeholders of the text
 /// count as used; on a refusal some may.
 ///
-/// Has the condition that `used` was made for this `given`. Answers, the first of these: TooLong above 4,096
-/// bytes; Syntax where a byte begins no token; Syntax at the first token with which no condition goes on, which
-/// is also the parenthesis or NOT of a 129th level and the 101st operand of an IN; UndefinedName and
+/// `used` has to be made for this `given`, which has fewer than 2^32 values. Answers, the first of these: TooLong
+/// above 4,096 bytes; Syntax where a byte begins no token; Syntax at the first token with which no condition goes
+/// on, which is also the parenthesis or NOT of a 129th level and the 101st operand of an IN; UndefinedName and
 /// UndefinedValue for the first placeholder that is not given. NoMemory where memory is refused.
 pub fn condition(
     alloc: Global,
@@ -263,8 +268,8 @@ pub fn condition(
 /// Reads the paths of a projection, as of ProjectionExpression (DynamoDB Developer Guide, "Projection
 /// expressions"). The placeholders of the text count as used; on a refusal some may.
 ///
-/// Has the condition that `used` was made for this `given`. Answers, the first of these: TooLong above 4,096
-/// bytes; Syntax where a byte begins no token; Syntax at the first token with which no list of paths goes on;
+/// `used` has to be made for this `given`, which has fewer than 2^32 values. Answers, the first of these: TooLong
+/// above 4,096 bytes; Syntax where a byte begins no token; Syntax at the first token with which no list of paths goes on;
 /// UndefinedName for the first placeholder that is not given; Overlap where the steps of one path begin
 /// another's. NoMemory where memory is refused.
 pub fn paths(

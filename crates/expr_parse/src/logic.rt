@@ -1,10 +1,11 @@
 //! Conditions: parts joined by AND and OR, NOT and parentheses.
 #![tactic(auto, using(crate::proofs::Parsing::do_it))]
 
-ghost use Rattle.std.specs.Prelude.{◌≡◌, ◌<◌, ◌∷◌, length, IfOk};
+ghost use Rattle.std.specs.Prelude.{◌≡◌, ◌<◌, ◌∷◌, length, IfOk, []};
 ghost use Rattle.expr_parse.specs.Trees.{tree, Conjunction, Disjunction};
 ghost use Rattle.expr_parse.specs.Words.{meanings};
 ghost use Rattle.expr_parse.specs.Fronts.{IsOpening, IsLess};
+ghost use Rattle.expr_parse.specs.Parses.{Parses, whole};
 ghost use Rattle.expr_parse.specs.Machine.{Goes, reads, Whole, ACondition, AConjunction, APart, AClose, Do, Joins, Negates};
 
 use crate::operand::fewer;
@@ -46,7 +47,7 @@ fn negation<'t, 'a>(
     words: &'t [Word<'a>],
     levels: usize,
 ) -> Result<(Condition, &'t [Word<'a>]), Stop>
-    ensures goes { Goes (λ os ks. reads (meanings words.now) (APart levels ∷ Do Negates ∷ os) ks) (λ x ks. Whole (tree x.0) ∷ ks) (λ x. meanings x.1.now) result }
+    ensures goes { Parses whole (APart levels ∷ Do Negates ∷ []) [] words.now result }
     ensures shorter { IfOk result (λ x. length x.1.now < length words.now) }
 {
     let (denied, rest) = part(alloc, words, levels)?;
@@ -60,7 +61,7 @@ fn group<'t, 'a>(
     words: &'t [Word<'a>],
     levels: usize,
 ) -> Result<(Condition, &'t [Word<'a>]), Stop>
-    ensures goes { Goes (λ os ks. reads (meanings words.now) (ACondition levels ∷ AClose ∷ os) ks) (λ x ks. Whole (tree x.0) ∷ ks) (λ x. meanings x.1.now) result }
+    ensures goes { Parses whole (ACondition levels ∷ AClose ∷ []) [] words.now result }
     ensures shorter { IfOk result (λ x. length x.1.now < length words.now) }
 {
     let (condition, rest) = disjunction(alloc, words, levels)?;
@@ -75,7 +76,7 @@ fn part<'t, 'a>(
     words: &'t [Word<'a>],
     levels: usize,
 ) -> Result<(Condition, &'t [Word<'a>]), Stop>
-    ensures goes { Goes (λ os ks. reads (meanings words.now) (APart levels ∷ os) ks) (λ x ks. Whole (tree x.0) ∷ ks) (λ x. meanings x.1.now) result }
+    ensures goes { Parses whole (APart levels ∷ []) [] words.now result }
     ensures shorter { IfOk result (λ x. length x.1.now < length words.now) }
 {
     match (opening_of(words), fewer(levels)) {
@@ -94,7 +95,10 @@ fn and_part<'t, 'a>(
     words: &'t [Word<'a>],
     levels: usize,
 ) -> Result<(Condition, &'t [Word<'a>]), Stop>
-    ensures goes { Goes (λ os ks. reads (meanings words.now) (APart levels ∷ Do (Joins Conjunction) ∷ os) (Whole (tree left) ∷ ks)) (λ x ks. Whole (tree x.0) ∷ ks) (λ x. meanings x.1.now) result }
+    ensures goes {
+        Parses whole (APart levels ∷ Do (Joins Conjunction) ∷ [])
+            (Whole (tree left) ∷ []) words.now result
+    }
     ensures shorter { IfOk result (λ x. length x.1.now < length words.now) }
 {
     let (right, rest) = part(alloc, words, levels)?;
@@ -110,7 +114,7 @@ fn conjunction<'t, 'a>(
     words: &'t [Word<'a>],
     levels: usize,
 ) -> Result<(Condition, &'t [Word<'a>]), Stop>
-    ensures goes { Goes (λ os ks. reads (meanings words.now) (AConjunction levels ∷ os) ks) (λ x ks. Whole (tree x.0) ∷ ks) (λ x. meanings x.1.now) result }
+    ensures goes { Parses whole (AConjunction levels ∷ []) [] words.now result }
     ensures shorter { IfOk result (λ x. length x.1.now < length words.now) }
 {
     let (first, after) = part(alloc, words, levels)?;
@@ -132,7 +136,10 @@ fn or_part<'t, 'a>(
     words: &'t [Word<'a>],
     levels: usize,
 ) -> Result<(Condition, &'t [Word<'a>]), Stop>
-    ensures goes { Goes (λ os ks. reads (meanings words.now) (AConjunction levels ∷ Do (Joins Disjunction) ∷ os) (Whole (tree left) ∷ ks)) (λ x ks. Whole (tree x.0) ∷ ks) (λ x. meanings x.1.now) result }
+    ensures goes {
+        Parses whole (AConjunction levels ∷ Do (Joins Disjunction) ∷ [])
+            (Whole (tree left) ∷ []) words.now result
+    }
     ensures shorter { IfOk result (λ x. length x.1.now < length words.now) }
 {
     let (right, rest) = conjunction(alloc, words, levels)?;
@@ -148,7 +155,7 @@ pub(crate) fn disjunction<'t, 'a>(
     words: &'t [Word<'a>],
     levels: usize,
 ) -> Result<(Condition, &'t [Word<'a>]), Stop>
-    ensures goes { Goes (λ os ks. reads (meanings words.now) (ACondition levels ∷ os) ks) (λ x ks. Whole (tree x.0) ∷ ks) (λ x. meanings x.1.now) result }
+    ensures goes { Parses whole (ACondition levels ∷ []) [] words.now result }
     ensures shorter { IfOk result (λ x. length x.1.now < length words.now) }
 {
     let (first, after) = conjunction(alloc, words, levels)?;

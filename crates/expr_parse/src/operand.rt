@@ -1,9 +1,10 @@
 //! Operands: paths, values and sizes.
 #![tactic(auto)]
 
-ghost use Rattle.std.specs.Prelude.{◌≡◌, ◌<◌, ◌∷◌, ℕ, zero, suc, true, false, length, IfOk, IfSome, MatchOption};
+ghost use Rattle.std.specs.Prelude.{◌≡◌, ◌<◌, ◌∷◌, ℕ, zero, suc, true, false, length, IfOk, IfSome, MatchOption, []};
 ghost use Rattle.expr_parse.specs.Words.{meanings};
 ghost use Rattle.expr_parse.specs.Fronts.{opens, calls, IsCall, IsValue};
+ghost use Rattle.expr_parse.specs.Parses.{Parses};
 ghost use Rattle.expr_parse.specs.Machine.{Goes, reads, Side, APath, AnOperand, NamedOperand, AnOpen, AClose, Do, MakePath, MakeSize};
 
 use crate::function::{Function, function_of};
@@ -28,7 +29,7 @@ pub(crate) fn size_of<'t, 'a>(
     alloc: Global,
     words: &'t [Word<'a>],
 ) -> Result<(Operand, &'t [Word<'a>]), Stop>
-    ensures goes { Goes (λ os ks. reads (meanings words.now) (AnOpen ∷ APath ∷ AClose ∷ Do MakeSize ∷ os) ks) (λ x ks. Side x.0 ∷ ks) (λ x. meanings x.1.now) result }
+    ensures goes { Parses Side (AnOpen ∷ APath ∷ AClose ∷ Do MakeSize ∷ []) [] words.now result }
     ensures shorter { IfOk result (λ x. length x.1.now < length words.now) }
 {
     let rest = open_parenthesis(words)?;
@@ -72,7 +73,7 @@ pub(crate) fn plain_operand<'t, 'a>(
     words: &'t [Word<'a>],
 ) -> Result<(Operand, &'t [Word<'a>]), Stop>
     requires { calls (meanings words.now) ≡ false }
-    ensures goes { Goes (λ os ks. reads (meanings words.now) (AnOperand 0 ∷ os) ks) (λ x ks. Side x.0 ∷ ks) (λ x. meanings x.1.now) result }
+    ensures goes { Parses Side (AnOperand 0 ∷ []) [] words.now result }
     ensures shorter { IfOk result (λ x. length x.1.now < length words.now) }
 {
     match held(words) {
@@ -87,7 +88,7 @@ fn path_operand<'t, 'a>(
     alloc: Global,
     words: &'t [Word<'a>],
 ) -> Result<(Operand, &'t [Word<'a>]), Stop>
-    ensures goes { Goes (λ os ks. reads (meanings words.now) (APath ∷ Do MakePath ∷ os) ks) (λ x ks. Side x.0 ∷ ks) (λ x. meanings x.1.now) result }
+    ensures goes { Parses Side (APath ∷ Do MakePath ∷ []) [] words.now result }
     ensures shorter { IfOk result (λ x. length x.1.now < length words.now) }
 {
     let (path, rest) = document_path(alloc, words)?;
@@ -103,7 +104,7 @@ fn operand_call<'t, 'a>(
     levels: usize,
 ) -> Result<(Operand, &'t [Word<'a>]), Stop>
     requires { opens (meanings words.now) ≡ true }
-    ensures goes { Goes (λ os ks. reads (meanings words.now) (NamedOperand levels name.now ∷ os) ks) (λ x ks. Side x.0 ∷ ks) (λ x. meanings x.1.now) result }
+    ensures goes { Parses Side (NamedOperand levels name.now ∷ []) [] words.now result }
     ensures shorter { IfOk result (λ x. length x.1.now < length words.now) }
 {
     match (function_of(name), fewer(levels)) {
@@ -118,7 +119,7 @@ pub(crate) fn operand<'t, 'a>(
     words: &'t [Word<'a>],
     levels: usize,
 ) -> Result<(Operand, &'t [Word<'a>]), Stop>
-    ensures goes { Goes (λ os ks. reads (meanings words.now) (AnOperand levels ∷ os) ks) (λ x ks. Side x.0 ∷ ks) (λ x. meanings x.1.now) result }
+    ensures goes { Parses Side (AnOperand levels ∷ []) [] words.now result }
     ensures shorter { IfOk result (λ x. length x.1.now < length words.now) }
 {
     match called(words) {

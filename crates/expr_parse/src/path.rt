@@ -5,6 +5,7 @@ ghost use Rattle.std.specs.Prelude.{◌≡◌, ◌<◌, ◌∷◌, [], ◌++◌,
 ghost use Rattle.expr_lexer.specs.declared.path.Step.{Step};
 ghost use Rattle.expr_parse.specs.Words.{meanings};
 ghost use Rattle.expr_parse.specs.Fronts.{StepsOn};
+ghost use Rattle.expr_parse.specs.Parses.{Parses, Extends};
 ghost use Rattle.expr_parse.specs.Machine.{Goes, reads, Steps, Listed, APath, MoreSteps, AField, AnIndex, ACloseBracket, MorePaths, Do, FirstPath, NextPath};
 
 use crate::sign::{close_bracket, stuck};
@@ -29,7 +30,7 @@ fn field<'t, 'a>(
     steps: &mut Seq<Step>,
     words: &'t [Word<'a>],
 ) -> Result<&'t [Word<'a>], Stop>
-    ensures goes { Goes (λ os ks. reads (meanings words.now) (AField ∷ os) (Steps steps.old ∷ ks)) (λ x ks. Steps steps.new ∷ ks) (λ x. meanings x.now) result }
+    ensures goes { Extends (AField ∷ []) (Steps steps.old) (Steps steps.new) words.now result }
     ensures shorter { IfOk result (λ x. length x.now < length words.now) }
 {
     let (name, rest) = match words {
@@ -43,7 +44,7 @@ fn field<'t, 'a>(
 
 /// Adds the step to a place of a list.
 fn index<'t, 'a>(steps: &mut Seq<Step>, words: &'t [Word<'a>]) -> Result<&'t [Word<'a>], Stop>
-    ensures goes { Goes (λ os ks. reads (meanings words.now) (AnIndex ∷ os) (Steps steps.old ∷ ks)) (λ x ks. Steps steps.new ∷ ks) (λ x. meanings x.now) result }
+    ensures goes { Extends (AnIndex ∷ []) (Steps steps.old) (Steps steps.new) words.now result }
     ensures shorter { IfOk result (λ x. length x.now < length words.now) }
 {
     match words {
@@ -57,7 +58,10 @@ fn index<'t, 'a>(steps: &mut Seq<Step>, words: &'t [Word<'a>]) -> Result<&'t [Wo
 
 /// Adds the step behind an opening bracket.
 fn element<'t, 'a>(steps: &mut Seq<Step>, words: &'t [Word<'a>]) -> Result<&'t [Word<'a>], Stop>
-    ensures goes { Goes (λ os ks. reads (meanings words.now) (AnIndex ∷ ACloseBracket ∷ os) (Steps steps.old ∷ ks)) (λ x ks. Steps steps.new ∷ ks) (λ x. meanings x.now) result }
+    ensures goes {
+        Extends (AnIndex ∷ ACloseBracket ∷ [])
+            (Steps steps.old) (Steps steps.new) words.now result
+    }
     ensures shorter { IfOk result (λ x. length x.now < length words.now) }
 {
     let rest = index(steps, words)?;
@@ -86,7 +90,7 @@ pub(crate) fn document_path<'t, 'a>(
     alloc: Global,
     words: &'t [Word<'a>],
 ) -> Result<(DocPath, &'t [Word<'a>]), Stop>
-    ensures goes { Goes (λ os ks. reads (meanings words.now) (APath ∷ os) ks) (λ x ks. Steps x.0.steps ∷ ks) (λ x. meanings x.1.now) result }
+    ensures goes { Parses (λ path. Steps path.steps) (APath ∷ []) [] words.now result }
     ensures shorter { IfOk result (λ x. length x.1.now < length words.now) }
 {
     let mut steps = Seq::new(alloc);
@@ -103,7 +107,10 @@ fn further_path<'t, 'a>(
     paths: &mut Seq<DocPath>,
     words: &'t [Word<'a>],
 ) -> Result<&'t [Word<'a>], Stop>
-    ensures goes { Goes (λ os ks. reads (meanings words.now) (APath ∷ Do NextPath ∷ os) (Listed paths.old ∷ ks)) (λ x ks. Listed paths.new ∷ ks) (λ x. meanings x.now) result }
+    ensures goes {
+        Extends (APath ∷ Do NextPath ∷ [])
+            (Listed paths.old) (Listed paths.new) words.now result
+    }
     ensures shorter { IfOk result (λ x. length x.now < length words.now) }
 {
     let (path, rest) = document_path(alloc, words)?;
@@ -116,7 +123,7 @@ pub(crate) fn path_list<'t, 'a>(
     alloc: Global,
     words: &'t [Word<'a>],
 ) -> Result<(Seq<DocPath>, &'t [Word<'a>]), Stop>
-    ensures goes { Goes (λ os ks. reads (meanings words.now) (APath ∷ Do FirstPath ∷ MorePaths ∷ os) ks) (λ x ks. Listed x.0 ∷ ks) (λ x. meanings x.1.now) result }
+    ensures goes { Parses Listed (APath ∷ Do FirstPath ∷ MorePaths ∷ []) [] words.now result }
 {
     let (first, after) = document_path(alloc, words)?;
     let mut paths = Seq::new(alloc);

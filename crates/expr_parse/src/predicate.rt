@@ -1,10 +1,11 @@
 //! The parts of a condition that hold no other: comparisons, ranges, choices and functions.
 #![tactic(auto, using(crate::proofs::Parsing::do_it))]
 
-ghost use Rattle.std.specs.Prelude.{◌≡◌, ◌<◌, ◌∷◌, true, false, length, IfOk, IfSome};
+ghost use Rattle.std.specs.Prelude.{◌≡◌, ◌<◌, ◌∷◌, true, false, length, IfOk, IfSome, []};
 ghost use Rattle.expr_parse.specs.Trees.{tree, Compared, Presence, Absence, FrontTest, PartTest};
 ghost use Rattle.expr_parse.specs.Words.{meanings};
 ghost use Rattle.expr_parse.specs.Fronts.{opens, calls, compares, is_deeper, IsComparing};
+ghost use Rattle.expr_parse.specs.Parses.{Parses, whole};
 ghost use Rattle.expr_parse.specs.Machine.{Goes, reads, Whole, Side, Steps, Place, APart, NamedPart, ARest, AnOperand, APath, AValue, AnOpen, AClose, AComma, AnAnd, Do, OfSides, OfPath, MakeRange, MakeSize, MakeKindTest};
 
 use crate::choice::choice;
@@ -27,7 +28,10 @@ fn compared<'t, 'a>(
     words: &'t [Word<'a>],
     levels: usize,
 ) -> Result<(Condition, &'t [Word<'a>]), Stop>
-    ensures goes { Goes (λ os ks. reads (meanings words.now) (AnOperand levels ∷ Do (OfSides (Compared op)) ∷ os) (Side left ∷ ks)) (λ x ks. Whole (tree x.0) ∷ ks) (λ x. meanings x.1.now) result }
+    ensures goes {
+        Parses whole (AnOperand levels ∷ Do (OfSides (Compared op)) ∷ [])
+            (Side left ∷ []) words.now result
+    }
     ensures shorter { IfOk result (λ x. length x.1.now < length words.now) }
 {
     let (right, rest) = operand(alloc, words, levels)?;
@@ -41,7 +45,10 @@ fn range<'t, 'a>(
     words: &'t [Word<'a>],
     levels: usize,
 ) -> Result<(Condition, &'t [Word<'a>]), Stop>
-    ensures goes { Goes (λ os ks. reads (meanings words.now) (AnOperand levels ∷ AnAnd ∷ AnOperand levels ∷ Do MakeRange ∷ os) (Side first ∷ ks)) (λ x ks. Whole (tree x.0) ∷ ks) (λ x. meanings x.1.now) result }
+    ensures goes {
+        Parses whole (AnOperand levels ∷ AnAnd ∷ AnOperand levels ∷ Do MakeRange ∷ [])
+            (Side first ∷ []) words.now result
+    }
     ensures shorter { IfOk result (λ x. length x.1.now < length words.now) }
 {
     let (low, rest) = operand(alloc, words, levels)?;
@@ -79,7 +86,7 @@ fn membership<'t, 'a>(
     levels: usize,
 ) -> Result<(Condition, &'t [Word<'a>]), Stop>
     requires { compares (meanings words.now) ≡ false }
-    ensures goes { Goes (λ os ks. reads (meanings words.now) (ARest levels ∷ os) (Side first ∷ ks)) (λ x ks. Whole (tree x.0) ∷ ks) (λ x. meanings x.1.now) result }
+    ensures goes { Parses whole (ARest levels ∷ []) (Side first ∷ []) words.now result }
     ensures shorter { IfOk result (λ x. length x.1.now < length words.now) }
 {
     match words {
@@ -96,7 +103,7 @@ pub(crate) fn predicate<'t, 'a>(
     words: &'t [Word<'a>],
     levels: usize,
 ) -> Result<(Condition, &'t [Word<'a>]), Stop>
-    ensures goes { Goes (λ os ks. reads (meanings words.now) (ARest levels ∷ os) (Side first ∷ ks)) (λ x ks. Whole (tree x.0) ∷ ks) (λ x. meanings x.1.now) result }
+    ensures goes { Parses whole (ARest levels ∷ []) (Side first ∷ []) words.now result }
     ensures shorter { IfOk result (λ x. length x.1.now < length words.now) }
 {
     match comparison(words) {
@@ -110,7 +117,10 @@ fn path_argument<'t, 'a>(
     alloc: Global,
     words: &'t [Word<'a>],
 ) -> Result<(DocPath, &'t [Word<'a>]), Stop>
-    ensures goes { Goes (λ os ks. reads (meanings words.now) (AnOpen ∷ APath ∷ AClose ∷ os) ks) (λ x ks. Steps x.0.steps ∷ ks) (λ x. meanings x.1.now) result }
+    ensures goes {
+        Parses (λ path. Steps path.steps) (AnOpen ∷ APath ∷ AClose ∷ [])
+            [] words.now result
+    }
     ensures shorter { IfOk result (λ x. length x.1.now < length words.now) }
 {
     let rest = open_parenthesis(words)?;
@@ -124,7 +134,10 @@ fn exists<'t, 'a>(
     alloc: Global,
     words: &'t [Word<'a>],
 ) -> Result<(Condition, &'t [Word<'a>]), Stop>
-    ensures goes { Goes (λ os ks. reads (meanings words.now) (AnOpen ∷ APath ∷ AClose ∷ Do (OfPath Presence) ∷ os) ks) (λ x ks. Whole (tree x.0) ∷ ks) (λ x. meanings x.1.now) result }
+    ensures goes {
+        Parses whole (AnOpen ∷ APath ∷ AClose ∷ Do (OfPath Presence) ∷ [])
+            [] words.now result
+    }
     ensures shorter { IfOk result (λ x. length x.1.now < length words.now) }
 {
     let (path, rest) = path_argument(alloc, words)?;
@@ -136,7 +149,10 @@ fn absent<'t, 'a>(
     alloc: Global,
     words: &'t [Word<'a>],
 ) -> Result<(Condition, &'t [Word<'a>]), Stop>
-    ensures goes { Goes (λ os ks. reads (meanings words.now) (AnOpen ∷ APath ∷ AClose ∷ Do (OfPath Absence) ∷ os) ks) (λ x ks. Whole (tree x.0) ∷ ks) (λ x. meanings x.1.now) result }
+    ensures goes {
+        Parses whole (AnOpen ∷ APath ∷ AClose ∷ Do (OfPath Absence) ∷ [])
+            [] words.now result
+    }
     ensures shorter { IfOk result (λ x. length x.1.now < length words.now) }
 {
     let (path, rest) = path_argument(alloc, words)?;
@@ -145,7 +161,7 @@ fn absent<'t, 'a>(
 
 /// A value, by its place.
 fn value<'t, 'a>(words: &'t [Word<'a>]) -> Result<(u32, &'t [Word<'a>]), Stop>
-    ensures goes { Goes (λ os ks. reads (meanings words.now) (AValue ∷ os) ks) (λ x ks. Place x.0 ∷ ks) (λ x. meanings x.1.now) result }
+    ensures goes { Parses Place (AValue ∷ []) [] words.now result }
     ensures shorter { IfOk result (λ x. length x.1.now < length words.now) }
 {
     match words {
@@ -159,7 +175,10 @@ fn of_kind<'t, 'a>(
     alloc: Global,
     words: &'t [Word<'a>],
 ) -> Result<(Condition, &'t [Word<'a>]), Stop>
-    ensures goes { Goes (λ os ks. reads (meanings words.now) (AnOpen ∷ APath ∷ AComma ∷ AValue ∷ AClose ∷ Do MakeKindTest ∷ os) ks) (λ x ks. Whole (tree x.0) ∷ ks) (λ x. meanings x.1.now) result }
+    ensures goes {
+        Parses whole (AnOpen ∷ APath ∷ AComma ∷ AValue ∷ AClose ∷ Do MakeKindTest ∷ [])
+            [] words.now result
+    }
     ensures shorter { IfOk result (λ x. length x.1.now < length words.now) }
 {
     let rest = open_parenthesis(words)?;
@@ -176,7 +195,11 @@ fn two_operands<'t, 'a>(
     words: &'t [Word<'a>],
     levels: usize,
 ) -> Result<(Operand, Operand, &'t [Word<'a>]), Stop>
-    ensures goes { Goes (λ os ks. reads (meanings words.now) (AnOpen ∷ AnOperand levels ∷ AComma ∷ AnOperand levels ∷ AClose ∷ os) ks) (λ x ks. Side x.1 ∷ Side x.0 ∷ ks) (λ x. meanings x.2.now) result }
+    ensures goes {
+        Goes
+            (λ os ks. reads (meanings words.now) (AnOpen ∷ AnOperand levels ∷ AComma ∷ AnOperand levels ∷ AClose ∷ os) ks)
+            (λ x ks. Side x.1 ∷ Side x.0 ∷ ks) (λ x. meanings x.2.now) result
+    }
     ensures shorter { IfOk result (λ x. length x.2.now < length words.now) }
 {
     let rest = open_parenthesis(words)?;
@@ -193,7 +216,11 @@ fn begins<'t, 'a>(
     words: &'t [Word<'a>],
     levels: usize,
 ) -> Result<(Condition, &'t [Word<'a>]), Stop>
-    ensures goes { Goes (λ os ks. reads (meanings words.now) (AnOpen ∷ AnOperand levels ∷ AComma ∷ AnOperand levels ∷ AClose ∷ Do (OfSides FrontTest) ∷ os) ks) (λ x ks. Whole (tree x.0) ∷ ks) (λ x. meanings x.1.now) result }
+    ensures goes {
+        Parses whole
+            (AnOpen ∷ AnOperand levels ∷ AComma ∷ AnOperand levels ∷ AClose ∷ Do (OfSides FrontTest) ∷ [])
+            [] words.now result
+    }
     ensures shorter { IfOk result (λ x. length x.1.now < length words.now) }
 {
     let (operand, front, rest) = two_operands(alloc, words, levels)?;
@@ -206,7 +233,11 @@ fn contains<'t, 'a>(
     words: &'t [Word<'a>],
     levels: usize,
 ) -> Result<(Condition, &'t [Word<'a>]), Stop>
-    ensures goes { Goes (λ os ks. reads (meanings words.now) (AnOpen ∷ AnOperand levels ∷ AComma ∷ AnOperand levels ∷ AClose ∷ Do (OfSides PartTest) ∷ os) ks) (λ x ks. Whole (tree x.0) ∷ ks) (λ x. meanings x.1.now) result }
+    ensures goes {
+        Parses whole
+            (AnOpen ∷ AnOperand levels ∷ AComma ∷ AnOperand levels ∷ AClose ∷ Do (OfSides PartTest) ∷ [])
+            [] words.now result
+    }
     ensures shorter { IfOk result (λ x. length x.1.now < length words.now) }
 {
     let (operand, part, rest) = two_operands(alloc, words, levels)?;
@@ -219,7 +250,10 @@ fn size_predicate<'t, 'a>(
     words: &'t [Word<'a>],
     levels: usize,
 ) -> Result<(Condition, &'t [Word<'a>]), Stop>
-    ensures goes { Goes (λ os ks. reads (meanings words.now) (AnOpen ∷ APath ∷ AClose ∷ Do MakeSize ∷ ARest levels ∷ os) ks) (λ x ks. Whole (tree x.0) ∷ ks) (λ x. meanings x.1.now) result }
+    ensures goes {
+        Parses whole (AnOpen ∷ APath ∷ AClose ∷ Do MakeSize ∷ ARest levels ∷ [])
+            [] words.now result
+    }
     ensures shorter { IfOk result (λ x. length x.1.now < length words.now) }
 {
     let (size, rest) = size_of(alloc, words)?;
@@ -235,7 +269,7 @@ fn call<'t, 'a>(
     levels: usize,
 ) -> Result<(Condition, &'t [Word<'a>]), Stop>
     requires { opens (meanings words.now) ≡ true }
-    ensures goes { Goes (λ os ks. reads (meanings words.now) (NamedPart levels name.now ∷ os) ks) (λ x ks. Whole (tree x.0) ∷ ks) (λ x. meanings x.1.now) result }
+    ensures goes { Parses whole (NamedPart levels name.now ∷ []) [] words.now result }
     ensures shorter { IfOk result (λ x. length x.1.now < length words.now) }
 {
     match (function_of(name), fewer(levels)) {
@@ -256,7 +290,7 @@ fn plain_predicate<'t, 'a>(
     levels: usize,
 ) -> Result<(Condition, &'t [Word<'a>]), Stop>
     requires { calls (meanings words.now) ≡ false }
-    ensures goes { Goes (λ os ks. reads (meanings words.now) (AnOperand 0 ∷ ARest levels ∷ os) ks) (λ x ks. Whole (tree x.0) ∷ ks) (λ x. meanings x.1.now) result }
+    ensures goes { Parses whole (AnOperand 0 ∷ ARest levels ∷ []) [] words.now result }
     ensures shorter { IfOk result (λ x. length x.1.now < length words.now) }
 {
     let (first, rest) = plain_operand(alloc, words)?;
@@ -269,7 +303,9 @@ pub(crate) fn flat<'t, 'a>(
     words: &'t [Word<'a>],
     levels: usize,
 ) -> Result<(Condition, &'t [Word<'a>]), Stop>
-    ensures goes { is_deeper (meanings words.now) ≡ false → Goes (λ os ks. reads (meanings words.now) (APart levels ∷ os) ks) (λ x ks. Whole (tree x.0) ∷ ks) (λ x. meanings x.1.now) result }
+    ensures goes {
+        is_deeper (meanings words.now) ≡ false → Parses whole (APart levels ∷ []) [] words.now result
+    }
     ensures shorter { IfOk result (λ x. length x.1.now < length words.now) }
 {
     match called(words) {

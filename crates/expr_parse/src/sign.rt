@@ -1,7 +1,8 @@
 //! Single signs, where nothing else may stand.
 
-ghost use Rattle.std.specs.Prelude.{◌≡◌, ◌<◌, ◌∷◌, length, IfOk};
+ghost use Rattle.std.specs.Prelude.{◌≡◌, ◌<◌, ◌∷◌, length, IfOk, []};
 ghost use Rattle.expr_parse.specs.Words.{meanings};
+ghost use Rattle.expr_parse.specs.Parses.{Skips};
 ghost use Rattle.expr_parse.specs.Machine.{Goes, reads, AnOpen, AClose, ACloseBracket, AnAnd, AComma};
 
 use crate::stop::Stop;
@@ -18,7 +19,7 @@ pub(crate) fn stuck<'a>(words: &[Word<'a>]) -> Stop
 
 /// Behind an opening parenthesis.
 pub(crate) fn open_parenthesis<'t, 'a>(words: &'t [Word<'a>]) -> Result<&'t [Word<'a>], Stop>
-    ensures goes { Goes (λ os ks. reads (meanings words.now) (AnOpen ∷ os) ks) (λ x ks. ks) (λ x. meanings x.now) result }
+    ensures goes { Skips AnOpen words.now result }
     ensures shorter { IfOk result (λ x. length x.now < length words.now) }
 {
     match words {
@@ -29,7 +30,7 @@ pub(crate) fn open_parenthesis<'t, 'a>(words: &'t [Word<'a>]) -> Result<&'t [Wor
 
 /// Behind a closing parenthesis.
 pub(crate) fn close_parenthesis<'t, 'a>(words: &'t [Word<'a>]) -> Result<&'t [Word<'a>], Stop>
-    ensures goes { Goes (λ os ks. reads (meanings words.now) (AClose ∷ os) ks) (λ x ks. ks) (λ x. meanings x.now) result }
+    ensures goes { Skips AClose words.now result }
     ensures shorter { IfOk result (λ x. length x.now < length words.now) }
 {
     match words {
@@ -40,7 +41,7 @@ pub(crate) fn close_parenthesis<'t, 'a>(words: &'t [Word<'a>]) -> Result<&'t [Wo
 
 /// Behind a closing bracket.
 pub(crate) fn close_bracket<'t, 'a>(words: &'t [Word<'a>]) -> Result<&'t [Word<'a>], Stop>
-    ensures goes { Goes (λ os ks. reads (meanings words.now) (ACloseBracket ∷ os) ks) (λ x ks. ks) (λ x. meanings x.now) result }
+    ensures goes { Skips ACloseBracket words.now result }
     ensures shorter { IfOk result (λ x. length x.now < length words.now) }
 {
     match words {
@@ -51,7 +52,7 @@ pub(crate) fn close_bracket<'t, 'a>(words: &'t [Word<'a>]) -> Result<&'t [Word<'
 
 /// Behind a comma.
 pub(crate) fn comma<'t, 'a>(words: &'t [Word<'a>]) -> Result<&'t [Word<'a>], Stop>
-    ensures goes { Goes (λ os ks. reads (meanings words.now) (AComma ∷ os) ks) (λ x ks. ks) (λ x. meanings x.now) result }
+    ensures goes { Skips AComma words.now result }
     ensures shorter { IfOk result (λ x. length x.now < length words.now) }
 {
     match words {
@@ -62,7 +63,7 @@ pub(crate) fn comma<'t, 'a>(words: &'t [Word<'a>]) -> Result<&'t [Word<'a>], Sto
 
 /// Behind an AND.
 pub(crate) fn and<'t, 'a>(words: &'t [Word<'a>]) -> Result<&'t [Word<'a>], Stop>
-    ensures goes { Goes (λ os ks. reads (meanings words.now) (AnAnd ∷ os) ks) (λ x ks. ks) (λ x. meanings x.now) result }
+    ensures goes { Skips AnAnd words.now result }
     ensures shorter { IfOk result (λ x. length x.now < length words.now) }
 {
     match words {

@@ -1,3 +1,5 @@
+ghost use Rattle.std.specs.Prelude.{◌<◌, ◌^◌, length, IfOk};
+
 use super::{Comparison, Condition, Given, NamePair, Operand, ParseEnd, Paths, Used, condition, paths};
 use expr_lexer::{DocPath, Seq, Step, Text};
 use std::alloc::{AllocError, Global};
@@ -175,7 +177,10 @@ const PROJECTIONS: [(&str, &str); 26] = [
     ("a, a, #q", "undefined name #q"),
 ];
 
-fn given(alloc: Global, names: &[(&str, &str)], values: &[&str]) -> Result<Given, AllocError> {
+fn given(alloc: Global, names: &[(&str, &str)], values: &[&str]) -> Result<Given, AllocError>
+    requires { length values.now < 2 ^ 32 }
+    ensures { IfOk result (λ given. length given.value_names < 2 ^ 32) }
+{
     let mut pairs = Seq::new(alloc);
     for (placeholder, name) in names {
         pairs.push(NamePair {
