@@ -111,6 +111,9 @@ call_contains [] j name os ks o f = cc
 call_contains (Sign sign.OpenParenthesis ∷ ts) j name os ks o f = rw f
 call_contains (t ∷ ts) j name os ks o f = cc
 
+-- a function before a parenthesis, as the first of a part
+pub ruleset known_calls = (call_size, call_exists, call_not_exists, call_has_type, call_begins_with, call_contains)
+
 -- no word of a text is the one that a bar asks for
 pub barred : (ws : List code.Word) (os : List Owed) (ks : List Kept) → reads (meanings ws) (ABar ∷ os) ks ≡ Err (length (meanings ws))
 barred [] os ks = refl
@@ -156,3 +159,6 @@ plain_level (t ∷ ts) k os ks c = refl
 pub none_owed : (ws : List code.Word) (ks : List Kept) → 1 ≤ length ws → reads (meanings ws) [] ks ≡ Err (length (meanings ws))
 none_owed [] ks some = absurd (omega arith)
 none_owed (w ∷ ws) ks some = refl
+
+-- the steps over the choices of an IN
+pub ruleset choice_steps = (do_it, barred, choices_end)

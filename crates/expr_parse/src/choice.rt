@@ -12,10 +12,9 @@ ghost use Rattle.expr_parse.specs.Machine.{Goes, reads, choice, Whole, Side, Sid
 use crate::operand::{fewer, operand};
 use crate::sign::{close_parenthesis, open_parenthesis, stuck};
 use crate::stop::Stop;
-use expr_lexer::TokenKind;
 use crate::tree::{Condition, Operand};
 use crate::word::Word;
-use expr_lexer::Seq;
+use expr_lexer::{Seq, TokenKind};
 use std::alloc::Global;
 
 /// The most choices of an IN behind the first.
@@ -40,10 +39,8 @@ fn further_choice<'t, 'a>(
     words: &'t [Word<'a>],
     levels: usize,
 ) -> Result<&'t [Word<'a>], Stop>
-    ensures goes {
-        Extends (AnOperand levels ∷ Do NextChoice ∷ [])
-            (Sides choices.old) (Sides choices.new) words.now result
-    }
+    ensures goes { Extends (AnOperand levels ∷ Do NextChoice ∷ [])
+        (Sides choices.old) (Sides choices.new) words.now result }
     ensures shorter { IfOk result (λ x. length x.now < length words.now) }
 {
     let (choice, rest) = operand(alloc, words, levels)?;
@@ -52,17 +49,16 @@ fn further_choice<'t, 'a>(
 }
 
 /// The choices behind an opening parenthesis, as far as the closing one.
-#[tactic(auto, using(crate::proofs::Parsing::do_it, crate::proofs::Parsing::barred, crate::proofs::Parsing::choices_end))]
+#[tactic(auto, using(crate::proofs::Parsing::choice_steps))]
 fn choices<'t, 'a>(
     alloc: Global,
     words: &'t [Word<'a>],
     levels: usize,
 ) -> Result<(Seq<Operand>, &'t [Word<'a>]), Stop>
-    ensures goes {
-        Goes
-            (λ os ks. reads (meanings words.now) (AnOperand levels ∷ Do FirstChoice ∷ MoreChoices levels 99 ∷ os) ks)
-            (λ x ks. choice (Sides x.0 ∷ ks)) (λ x. meanings x.1.now) result
-    }
+    ensures goes { Goes
+        (λ os ks. reads (meanings words.now)
+        (AnOperand levels ∷ Do FirstChoice ∷ MoreChoices levels 99 ∷ os) ks)
+        (λ x ks. choice (Sides x.0 ∷ ks)) (λ x. meanings x.1.now) result }
     ensures shorter { IfOk result (λ x. length x.1.now < length words.now) }
 {
     let (choice, after) = operand(alloc, words, levels)?;
@@ -86,10 +82,9 @@ fn closed<'t, 'a>(
     choices: Seq<Operand>,
     words: &'t [Word<'a>],
 ) -> Result<(Seq<Operand>, &'t [Word<'a>]), Stop>
-    ensures goes {
-        Goes (λ os ks. reads (meanings words.now) (AClose ∷ Do MakeChoice ∷ os) (Sides choices ∷ ks))
-            (λ x ks. choice (Sides x.0 ∷ ks)) (λ x. meanings x.1.now) result
-    }
+    ensures goes { Goes
+        (λ os ks. reads (meanings words.now) (AClose ∷ Do MakeChoice ∷ os) (Sides choices ∷ ks))
+        (λ x ks. choice (Sides x.0 ∷ ks)) (λ x. meanings x.1.now) result }
     ensures shorter { IfOk result (λ x. length x.1.now < length words.now) }
 {
     let rest = close_parenthesis(words)?;
@@ -104,10 +99,9 @@ pub(crate) fn choice<'t, 'a>(
     words: &'t [Word<'a>],
     levels: usize,
 ) -> Result<(Condition, &'t [Word<'a>]), Stop>
-    ensures goes {
-        Goes (λ os ks. reads (Sign sign.In ∷ meanings words.now) (ARest levels ∷ os) (Side first ∷ ks))
-            (λ x ks. Whole (tree x.0) ∷ ks) (λ x. meanings x.1.now) result
-    }
+    ensures goes { Goes
+        (λ os ks. reads (Sign sign.In ∷ meanings words.now) (ARest levels ∷ os) (Side first ∷ ks))
+        (λ x ks. Whole (tree x.0) ∷ ks) (λ x. meanings x.1.now) result }
     ensures shorter { IfOk result (λ x. length x.1.now < length words.now) }
 {
     let Some(inner) = fewer(levels) else {

@@ -10,7 +10,8 @@ ghost use Rattle.expr_parse.specs.Grammar.{IsCondition, ArePaths, most_levels};
 ghost use Rattle.expr_parse.specs.Reading.{ReadsTokens, ReadsCondition, ReadsPaths, ConditionFault, PathsFault, IsTold, IsTreeOr, place_of};
 ghost use Rattle.expr_parse.specs.Marks.{IsMadeFor, IsMarked, MarksAll};
 ghost use Rattle.expr_parse.specs.Judged.{Ends, ReadsWhole, IsAnswer, IsFaultOr, IsGivenOr, AreFit, IsTokens, end_of};
-ghost use Rattle.expr_parse.specs.Machine.{Whole, Listed, ACondition, APath, MorePaths, Do, FirstPath};
+ghost use Rattle.expr_parse.specs.Parses.{whole};
+ghost use Rattle.expr_parse.specs.Machine.{Listed, ACondition, APath, MorePaths, Do, FirstPath};
 
 use crate::given::{Given, Used};
 use crate::laws::one_reading;
@@ -59,7 +60,7 @@ fn end<'a, T: Drop>(whole: T, words: &[Word<'a>]) -> Result<T, Stop>
 
 /// The condition that all of these words are.
 fn whole_condition<'a>(alloc: Global, words: &[Word<'a>]) -> Result<Condition, Stop>
-    ensures { ReadsWhole (λ c. Whole (tree c)) (ACondition most_levels ∷ []) (meanings words.now) result }
+    ensures { ReadsWhole whole (ACondition most_levels ∷ []) (meanings words.now) result }
 {
     let (condition, rest) = disjunction(alloc, words, MOST_LEVELS)?;
     end(condition, rest)
@@ -67,7 +68,8 @@ fn whole_condition<'a>(alloc: Global, words: &[Word<'a>]) -> Result<Condition, S
 
 /// The paths that all of these words are.
 fn whole_paths<'a>(alloc: Global, words: &[Word<'a>]) -> Result<Seq<DocPath>, Stop>
-    ensures { ReadsWhole Listed (APath ∷ Do FirstPath ∷ MorePaths ∷ []) (meanings words.now) result }
+    ensures { ReadsWhole Listed (APath ∷ Do FirstPath ∷ MorePaths ∷ [])
+        (meanings words.now) result }
 {
     let (paths, rest) = path_list(alloc, words)?;
     end(paths, rest)
@@ -155,10 +157,9 @@ fn condition_of(
     requires spelled { All (IsSpelled text.now) tokens.now }
     requires made_for { IsMadeFor given.now used.old }
     requires few_values { length given.now.value_names < 2 ^ 32 }
-    ensures answer {
-        IsAnswer tree (ReadsTokens (IsCondition most_levels) ConditionFault given.now text.now tokens.now)
-            result
-    }
+    ensures answer { IsAnswer tree
+        (ReadsTokens (IsCondition most_levels) ConditionFault given.now text.now tokens.now)
+        result }
     ensures marks { OnOk result (MarksAll given.now text.now tokens.now used.old used.new) }
     ensures made_for { IsMadeFor given.now used.new }
 {
@@ -185,9 +186,8 @@ fn paths_of(
     requires spelled { All (IsSpelled text.now) tokens.now }
     requires made_for { IsMadeFor given.now used.old }
     requires few_values { length given.now.value_names < 2 ^ 32 }
-    ensures answer {
-        IsAnswer (λ paths. paths) (ReadsTokens ArePaths PathsFault given.now text.now tokens.now) result
-    }
+    ensures answer { IsAnswer (λ paths. paths)
+        (ReadsTokens ArePaths PathsFault given.now text.now tokens.now) result }
     ensures marks { OnOk result (MarksAll given.now text.now tokens.now used.old used.new) }
     ensures made_for { IsMadeFor given.now used.new }
 {
@@ -237,14 +237,15 @@ fn read_paths(
     paths_of(alloc, text, tokens.as_slice(), given, used)
 }
 
-/// Reads a condition, as of ConditionExpression and FilterExpression (DynamoDB Developer Guide, "Condition
-/// expressions"). An operand names a value by its place in `given.value_names`. The placeholders of the text
-/// count as used; on a refusal some may.
+/// Reads a condition, as of ConditionExpression and FilterExpression (DynamoDB Developer Guide,
+/// "Condition expressions"). An operand names a value by its place in `given.value_names`. The
+/// placeholders of the text count as used; on a refusal some may.
 ///
-/// `used` has to be made for this `given`, which has fewer than 2^32 values. Answers, the first of these: TooLong
-/// above 4,096 bytes; Syntax where a byte begins no token; Syntax at the first token with which no condition goes
-/// on, which is also the parenthesis or NOT of a 129th level and the 101st operand of an IN; UndefinedName and
-/// UndefinedValue for the first placeholder that is not given. NoMemory where memory is refused.
+/// `used` has to be made for this `given`, which has fewer than 2^32 values. Answers, the first of
+/// these: TooLong above 4,096 bytes; Syntax where a byte begins no token; Syntax at the first token
+/// with which no condition goes on, which is also the parenthesis or NOT of a 129th level and the
+/// 101st operand of an IN; UndefinedName and UndefinedValue for the first placeholder that is not
+/// given. NoMemory where memory is refused.
 pub fn condition(
     alloc: Global,
     text: &str,
@@ -255,39 +256,34 @@ pub fn condition(
     requires few_values { length given.now.value_names < 2 ^ 32 }
     ensures tree { IfOk result (λ c. ReadsCondition given.now text.now (Ok (tree c))) }
     ensures fault { IfErr result (λ e. IsTold (ReadsCondition given.now text.now) e) }
-    ensures sentence {
-        (t : Tree) → ReadsCondition given.now text.now (Ok t) → IsTreeOr tree t result
-    }
+    ensures sentence { (t : Tree)
+        → ReadsCondition given.now text.now (Ok t) → IsTreeOr tree t result }
     ensures marks { OnOk result (IsMarked given.now text.now used.old used.new) }
     ensures made_for { IsMadeFor given.now used.new }
 {
+    // Its clause, that a text reads in one way, gives the clause `sentence`; it does nothing.
     one_reading();
     read_condition(alloc, text, given, used)
 }
 
-/// Reads the paths of a projection, as of ProjectionExpression (DynamoDB Developer Guide, "Projection
-/// expressions"). The placeholders of the text count as used; on a refusal some may.
+/// Reads the paths of a projection, as of ProjectionExpression (DynamoDB Developer Guide,
+/// "Projection expressions"). The placeholders of the text count as used; on a refusal some may.
 ///
-/// `used` has to be made for this `given`, which has fewer than 2^32 values. Answers, the first of these: TooLong
-/// above 4,096 bytes; Syntax where a byte begins no token; Syntax at the first token with which no list of paths goes on;
-/// UndefinedName for the first placeholder that is not given; Overlap where the steps of one path begin
-/// another's. NoMemory where memory is refused.
-pub fn paths(
-    alloc: Global,
-    text: &str,
-    given: &Given,
-    used: &mut Used,
-) -> Result<Paths, ParseEnd>
+/// `used` has to be made for this `given`, which has fewer than 2^32 values. Answers, the first of
+/// these: TooLong above 4,096 bytes; Syntax where a byte begins no token; Syntax at the first token
+/// with which no list of paths goes on; UndefinedName for the first placeholder that is not given;
+/// Overlap where the steps of one path begin another's. NoMemory where memory is refused.
+pub fn paths(alloc: Global, text: &str, given: &Given, used: &mut Used) -> Result<Paths, ParseEnd>
     requires made_for { IsMadeFor given.now used.old }
     requires few_values { length given.now.value_names < 2 ^ 32 }
     ensures paths { IfOk result (λ p. ReadsPaths given.now text.now (Ok p.paths)) }
     ensures fault { IfErr result (λ e. IsTold (ReadsPaths given.now text.now) e) }
-    ensures sentence {
-        (ps : List DocPath) → ReadsPaths given.now text.now (Ok ps) → IsTreeOr (λ p. p.paths) ps result
-    }
+    ensures sentence { (ps : List DocPath)
+        → ReadsPaths given.now text.now (Ok ps) → IsTreeOr (λ p. p.paths) ps result }
     ensures marks { OnOk result (IsMarked given.now text.now used.old used.new) }
     ensures made_for { IsMadeFor given.now used.new }
 {
+    // Its clause, that a text reads in one way, gives the clause `sentence`; it does nothing.
     one_reading();
     let paths = read_paths(alloc, text, given, used)?;
     Ok(Paths { paths })

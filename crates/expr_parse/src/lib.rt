@@ -1,8 +1,8 @@
 //! Expressions as trees: conditions and projections, read from their text.
 //!
-//! A text is read by its grammar, which `specs/Grammar.antt` states: a tree is answered exactly where the
-//! text is a sentence, and then it is that sentence's tree. Else the first fault is told, in the order
-//! of [`ParseEnd`]'s page.
+//! A text is read by its grammar, which `specs/Grammar.antt` states: a tree is answered exactly
+//! where the text is a sentence, and then it is that sentence's tree. Else the first fault is told,
+//! in the order of [`ParseEnd`]'s page.
 #![tactic(auto)]
 
 mod choice;

@@ -12,9 +12,9 @@ use crate::operand::fewer;
 use crate::predicate::flat;
 use crate::sign::{close_parenthesis, stuck};
 use crate::stop::Stop;
-use expr_lexer::TokenKind;
 use crate::tree::Condition;
 use crate::word::Word;
+use expr_lexer::TokenKind;
 use std::alloc::Global;
 
 /// How a part of a condition begins.
@@ -95,10 +95,8 @@ fn and_part<'t, 'a>(
     words: &'t [Word<'a>],
     levels: usize,
 ) -> Result<(Condition, &'t [Word<'a>]), Stop>
-    ensures goes {
-        Parses whole (APart levels ∷ Do (Joins Conjunction) ∷ [])
-            (Whole (tree left) ∷ []) words.now result
-    }
+    ensures goes { Parses whole (APart levels ∷ Do (Joins Conjunction) ∷ [])
+        (Whole (tree left) ∷ []) words.now result }
     ensures shorter { IfOk result (λ x. length x.1.now < length words.now) }
 {
     let (right, rest) = part(alloc, words, levels)?;
@@ -136,10 +134,8 @@ fn or_part<'t, 'a>(
     words: &'t [Word<'a>],
     levels: usize,
 ) -> Result<(Condition, &'t [Word<'a>]), Stop>
-    ensures goes {
-        Parses whole (AConjunction levels ∷ Do (Joins Disjunction) ∷ [])
-            (Whole (tree left) ∷ []) words.now result
-    }
+    ensures goes { Parses whole (AConjunction levels ∷ Do (Joins Disjunction) ∷ [])
+        (Whole (tree left) ∷ []) words.now result }
     ensures shorter { IfOk result (λ x. length x.1.now < length words.now) }
 {
     let (right, rest) = conjunction(alloc, words, levels)?;

@@ -11,12 +11,13 @@ use crate::function::{Function, function_of};
 use crate::path::document_path;
 use crate::sign::{close_parenthesis, open_parenthesis, stuck};
 use crate::stop::Stop;
-use expr_lexer::TokenKind;
 use crate::tree::Operand;
 use crate::word::Word;
+use expr_lexer::TokenKind;
 use std::alloc::Global;
 
-/// One less, unless there is none: of levels, when one more is opened, or of choices that may follow.
+/// One less, unless there is none: of levels, when one more is opened, or of choices that may
+/// follow.
 pub(crate) fn fewer(count: usize) -> Option<usize>
     ensures { MatchOption result (count ≡ zero) (λ less. count ≡ suc less) }
 {
@@ -95,7 +96,8 @@ fn path_operand<'t, 'a>(
     Ok((Operand::Path(path), rest))
 }
 
-/// What the function of this name, whose opening parenthesis is first, gives as an operand: size alone does.
+/// What the function of this name, whose opening parenthesis is first, gives as an operand: size
+/// alone does.
 #[tactic(auto, using(crate::proofs::Parsing::size_call))]
 fn operand_call<'t, 'a>(
     alloc: Global,

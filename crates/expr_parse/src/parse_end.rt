@@ -11,13 +11,13 @@ pub enum Clause {
     Delete,
 }
 
-/// Why no tree is answered. Of several faults of one text the first is told in the order TooLong, Syntax
-/// (first the place of a byte that begins no token, wherever it stands), ClauseTwice, UndefinedName and
-/// UndefinedValue in the order of the text, TooManyOperators, Overlap.
+/// Why no tree is answered. Of several faults of one text the first is told in the order TooLong,
+/// Syntax (first the place of a byte that begins no token, wherever it stands), ClauseTwice,
+/// UndefinedName and UndefinedValue in the order of the text, TooManyOperators, Overlap.
 #[derive(Debug, PartialEq, Eq, Drop)]
 pub enum ParseEnd {
-    /// The text is no sentence. `place` counts bytes from 0: the first byte that begins no token; else the
-    /// start of the first token with which no sentence goes on, or the text's length.
+    /// The text is no sentence. `place` counts bytes from 0: the first byte that begins no token;
+    /// else the start of the first token with which no sentence goes on, or the text's length.
     Syntax { place: u32 },
     /// A placeholder of a name, with its `#`, that is not given.
     UndefinedName { name: Text },

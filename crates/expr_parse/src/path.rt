@@ -10,9 +10,8 @@ ghost use Rattle.expr_parse.specs.Machine.{Goes, reads, Steps, Listed, APath, Mo
 
 use crate::sign::{close_bracket, stuck};
 use crate::stop::Stop;
-use expr_lexer::TokenKind;
 use crate::word::Word;
-use expr_lexer::{DocPath, Seq, Step, Text};
+use expr_lexer::{DocPath, Seq, Step, Text, TokenKind};
 use std::alloc::Global;
 
 /// Adds a step by name.
@@ -58,10 +57,8 @@ fn index<'t, 'a>(steps: &mut Seq<Step>, words: &'t [Word<'a>]) -> Result<&'t [Wo
 
 /// Adds the step behind an opening bracket.
 fn element<'t, 'a>(steps: &mut Seq<Step>, words: &'t [Word<'a>]) -> Result<&'t [Word<'a>], Stop>
-    ensures goes {
-        Extends (AnIndex ∷ ACloseBracket ∷ [])
-            (Steps steps.old) (Steps steps.new) words.now result
-    }
+    ensures goes { Extends (AnIndex ∷ ACloseBracket ∷ [])
+        (Steps steps.old) (Steps steps.new) words.now result }
     ensures shorter { IfOk result (λ x. length x.now < length words.now) }
 {
     let rest = index(steps, words)?;
@@ -107,10 +104,8 @@ fn further_path<'t, 'a>(
     paths: &mut Seq<DocPath>,
     words: &'t [Word<'a>],
 ) -> Result<&'t [Word<'a>], Stop>
-    ensures goes {
-        Extends (APath ∷ Do NextPath ∷ [])
-            (Listed paths.old) (Listed paths.new) words.now result
-    }
+    ensures goes { Extends (APath ∷ Do NextPath ∷ [])
+        (Listed paths.old) (Listed paths.new) words.now result }
     ensures shorter { IfOk result (λ x. length x.now < length words.now) }
 {
     let (path, rest) = document_path(alloc, words)?;

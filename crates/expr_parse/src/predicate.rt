@@ -14,10 +14,9 @@ use crate::operand::{called, fewer, operand, plain_operand, size_of};
 use crate::path::document_path;
 use crate::sign::{and, close_parenthesis, comma, open_parenthesis, stuck};
 use crate::stop::Stop;
-use expr_lexer::TokenKind;
 use crate::tree::{Comparison, Condition, Operand};
 use crate::word::Word;
-use expr_lexer::DocPath;
+use expr_lexer::{DocPath, TokenKind};
 use std::alloc::Global;
 
 /// The comparison of an operand with the one that follows.
@@ -28,10 +27,8 @@ fn compared<'t, 'a>(
     words: &'t [Word<'a>],
     levels: usize,
 ) -> Result<(Condition, &'t [Word<'a>]), Stop>
-    ensures goes {
-        Parses whole (AnOperand levels ∷ Do (OfSides (Compared op)) ∷ [])
-            (Side left ∷ []) words.now result
-    }
+    ensures goes { Parses whole (AnOperand levels ∷ Do (OfSides (Compared op)) ∷ [])
+        (Side left ∷ []) words.now result }
     ensures shorter { IfOk result (λ x. length x.1.now < length words.now) }
 {
     let (right, rest) = operand(alloc, words, levels)?;
@@ -45,10 +42,8 @@ fn range<'t, 'a>(
     words: &'t [Word<'a>],
     levels: usize,
 ) -> Result<(Condition, &'t [Word<'a>]), Stop>
-    ensures goes {
-        Parses whole (AnOperand levels ∷ AnAnd ∷ AnOperand levels ∷ Do MakeRange ∷ [])
-            (Side first ∷ []) words.now result
-    }
+    ensures goes { Parses whole (AnOperand levels ∷ AnAnd ∷ AnOperand levels ∷ Do MakeRange ∷ [])
+        (Side first ∷ []) words.now result }
     ensures shorter { IfOk result (λ x. length x.1.now < length words.now) }
 {
     let (low, rest) = operand(alloc, words, levels)?;
@@ -64,7 +59,7 @@ fn range<'t, 'a>(
 
 /// The comparison whose sign is first, and what is behind it.
 fn comparison<'t, 'a>(words: &'t [Word<'a>]) -> Option<(Comparison, &'t [Word<'a>])>
-    ensures comparison { IsComparing (λ x. x.0) (λ x. meanings x.1.now) (meanings words.now) result }
+    ensures sign { IsComparing (λ x. x.0) (λ x. meanings x.1.now) (meanings words.now) result }
     ensures shorter { IfSome result (λ x. length x.1.now < length words.now) }
 {
     match words {
@@ -117,10 +112,8 @@ fn path_argument<'t, 'a>(
     alloc: Global,
     words: &'t [Word<'a>],
 ) -> Result<(DocPath, &'t [Word<'a>]), Stop>
-    ensures goes {
-        Parses (λ path. Steps path.steps) (AnOpen ∷ APath ∷ AClose ∷ [])
-            [] words.now result
-    }
+    ensures goes { Parses (λ path. Steps path.steps) (AnOpen ∷ APath ∷ AClose ∷ [])
+        [] words.now result }
     ensures shorter { IfOk result (λ x. length x.1.now < length words.now) }
 {
     let rest = open_parenthesis(words)?;
@@ -130,14 +123,9 @@ fn path_argument<'t, 'a>(
 }
 
 /// The argument of `attribute_exists`.
-fn exists<'t, 'a>(
-    alloc: Global,
-    words: &'t [Word<'a>],
-) -> Result<(Condition, &'t [Word<'a>]), Stop>
-    ensures goes {
-        Parses whole (AnOpen ∷ APath ∷ AClose ∷ Do (OfPath Presence) ∷ [])
-            [] words.now result
-    }
+fn exists<'t, 'a>(alloc: Global, words: &'t [Word<'a>]) -> Result<(Condition, &'t [Word<'a>]), Stop>
+    ensures goes { Parses whole (AnOpen ∷ APath ∷ AClose ∷ Do (OfPath Presence) ∷ [])
+        [] words.now result }
     ensures shorter { IfOk result (λ x. length x.1.now < length words.now) }
 {
     let (path, rest) = path_argument(alloc, words)?;
@@ -145,14 +133,9 @@ fn exists<'t, 'a>(
 }
 
 /// The argument of `attribute_not_exists`.
-fn absent<'t, 'a>(
-    alloc: Global,
-    words: &'t [Word<'a>],
-) -> Result<(Condition, &'t [Word<'a>]), Stop>
-    ensures goes {
-        Parses whole (AnOpen ∷ APath ∷ AClose ∷ Do (OfPath Absence) ∷ [])
-            [] words.now result
-    }
+fn absent<'t, 'a>(alloc: Global, words: &'t [Word<'a>]) -> Result<(Condition, &'t [Word<'a>]), Stop>
+    ensures goes { Parses whole (AnOpen ∷ APath ∷ AClose ∷ Do (OfPath Absence) ∷ [])
+        [] words.now result }
     ensures shorter { IfOk result (λ x. length x.1.now < length words.now) }
 {
     let (path, rest) = path_argument(alloc, words)?;
@@ -175,10 +158,8 @@ fn of_kind<'t, 'a>(
     alloc: Global,
     words: &'t [Word<'a>],
 ) -> Result<(Condition, &'t [Word<'a>]), Stop>
-    ensures goes {
-        Parses whole (AnOpen ∷ APath ∷ AComma ∷ AValue ∷ AClose ∷ Do MakeKindTest ∷ [])
-            [] words.now result
-    }
+    ensures goes { Parses whole (AnOpen ∷ APath ∷ AComma ∷ AValue ∷ AClose ∷ Do MakeKindTest ∷ [])
+        [] words.now result }
     ensures shorter { IfOk result (λ x. length x.1.now < length words.now) }
 {
     let rest = open_parenthesis(words)?;
@@ -195,11 +176,10 @@ fn two_operands<'t, 'a>(
     words: &'t [Word<'a>],
     levels: usize,
 ) -> Result<(Operand, Operand, &'t [Word<'a>]), Stop>
-    ensures goes {
-        Goes
-            (λ os ks. reads (meanings words.now) (AnOpen ∷ AnOperand levels ∷ AComma ∷ AnOperand levels ∷ AClose ∷ os) ks)
-            (λ x ks. Side x.1 ∷ Side x.0 ∷ ks) (λ x. meanings x.2.now) result
-    }
+    ensures goes { Goes
+        (λ os ks. reads (meanings words.now)
+        (AnOpen ∷ AnOperand levels ∷ AComma ∷ AnOperand levels ∷ AClose ∷ os) ks)
+        (λ x ks. Side x.1 ∷ Side x.0 ∷ ks) (λ x. meanings x.2.now) result }
     ensures shorter { IfOk result (λ x. length x.2.now < length words.now) }
 {
     let rest = open_parenthesis(words)?;
@@ -216,11 +196,10 @@ fn begins<'t, 'a>(
     words: &'t [Word<'a>],
     levels: usize,
 ) -> Result<(Condition, &'t [Word<'a>]), Stop>
-    ensures goes {
-        Parses whole
-            (AnOpen ∷ AnOperand levels ∷ AComma ∷ AnOperand levels ∷ AClose ∷ Do (OfSides FrontTest) ∷ [])
-            [] words.now result
-    }
+    ensures goes { Parses whole
+        (AnOpen ∷ AnOperand levels ∷ AComma ∷ AnOperand levels ∷ AClose
+        ∷ Do (OfSides FrontTest) ∷ [])
+        [] words.now result }
     ensures shorter { IfOk result (λ x. length x.1.now < length words.now) }
 {
     let (operand, front, rest) = two_operands(alloc, words, levels)?;
@@ -233,11 +212,10 @@ fn contains<'t, 'a>(
     words: &'t [Word<'a>],
     levels: usize,
 ) -> Result<(Condition, &'t [Word<'a>]), Stop>
-    ensures goes {
-        Parses whole
-            (AnOpen ∷ AnOperand levels ∷ AComma ∷ AnOperand levels ∷ AClose ∷ Do (OfSides PartTest) ∷ [])
-            [] words.now result
-    }
+    ensures goes { Parses whole
+        (AnOpen ∷ AnOperand levels ∷ AComma ∷ AnOperand levels ∷ AClose
+        ∷ Do (OfSides PartTest) ∷ [])
+        [] words.now result }
     ensures shorter { IfOk result (λ x. length x.1.now < length words.now) }
 {
     let (operand, part, rest) = two_operands(alloc, words, levels)?;
@@ -250,18 +228,17 @@ fn size_predicate<'t, 'a>(
     words: &'t [Word<'a>],
     levels: usize,
 ) -> Result<(Condition, &'t [Word<'a>]), Stop>
-    ensures goes {
-        Parses whole (AnOpen ∷ APath ∷ AClose ∷ Do MakeSize ∷ ARest levels ∷ [])
-            [] words.now result
-    }
+    ensures goes { Parses whole (AnOpen ∷ APath ∷ AClose ∷ Do MakeSize ∷ ARest levels ∷ [])
+        [] words.now result }
     ensures shorter { IfOk result (λ x. length x.1.now < length words.now) }
 {
     let (size, rest) = size_of(alloc, words)?;
     predicate(alloc, size, rest, levels)
 }
 
-/// The part that begins with the function of this name, whose parenthesis, which takes a level, is first.
-#[tactic(auto, using(crate::proofs::Parsing::call_size, crate::proofs::Parsing::call_exists, crate::proofs::Parsing::call_not_exists, crate::proofs::Parsing::call_has_type, crate::proofs::Parsing::call_begins_with, crate::proofs::Parsing::call_contains))]
+/// The part that begins with the function of this name. Its parenthesis, which takes a level, is
+/// first.
+#[tactic(auto, using(crate::proofs::Parsing::known_calls))]
 fn call<'t, 'a>(
     alloc: Global,
     name: &str,
@@ -303,9 +280,8 @@ pub(crate) fn flat<'t, 'a>(
     words: &'t [Word<'a>],
     levels: usize,
 ) -> Result<(Condition, &'t [Word<'a>]), Stop>
-    ensures goes {
-        is_deeper (meanings words.now) ≡ false → Parses whole (APart levels ∷ []) [] words.now result
-    }
+    ensures goes { is_deeper (meanings words.now) ≡ false
+        → Parses whole (APart levels ∷ []) [] words.now result }
     ensures shorter { IfOk result (λ x. length x.1.now < length words.now) }
 {
     match called(words) {

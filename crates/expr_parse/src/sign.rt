@@ -6,8 +6,8 @@ ghost use Rattle.expr_parse.specs.Parses.{Skips};
 ghost use Rattle.expr_parse.specs.Machine.{Goes, reads, AnOpen, AClose, ACloseBracket, AnAnd, AComma};
 
 use crate::stop::Stop;
-use expr_lexer::TokenKind;
 use crate::word::Word;
+use expr_lexer::TokenKind;
 
 /// What is answered where no sentence goes on with the first of these words.
 #[tactic(auto, using(crate::proofs::Parsing::length_meanings))]

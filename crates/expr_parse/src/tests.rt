@@ -1,6 +1,8 @@
 ghost use Rattle.std.specs.Prelude.{◌<◌, ◌^◌, length, IfOk};
 
-use super::{Comparison, Condition, Given, NamePair, Operand, ParseEnd, Paths, Used, condition, paths};
+use super::{
+    Comparison, Condition, Given, NamePair, Operand, ParseEnd, Paths, Used, condition, paths,
+};
 use expr_lexer::{DocPath, Seq, Step, Text};
 use std::alloc::{AllocError, Global};
 use std::test::Fail;
@@ -35,7 +37,10 @@ const CONDITIONS: [(&str, &str); 120] = [
     ("size.size = :v", "(= size.size :0)"),
     ("a BETWEEN :v AND :w", "(between a :0 :1)"),
     ("a between :v and :w", "(between a :0 :1)"),
-    ("a BETWEEN :v AND :w AND b = c", "(and (between a :0 :1) (= b c))"),
+    (
+        "a BETWEEN :v AND :w AND b = c",
+        "(and (between a :0 :1) (= b c))",
+    ),
     ("size(a) BETWEEN b AND c", "(between size(a) b c)"),
     ("a IN (:v)", "(in a :0)"),
     ("a In (:v, b, size(c))", "(in a :0 b size(c))"),
@@ -49,12 +54,30 @@ const CONDITIONS: [(&str, &str); 120] = [
     ("not Not a = b", "(not (not (= a b)))"),
     ("a = b AND c = d", "(and (= a b) (= c d))"),
     ("a = b oR c = d", "(or (= a b) (= c d))"),
-    ("a = b OR c = d AND e = f", "(or (= a b) (and (= c d) (= e f)))"),
-    ("a = b AND c = d OR e = f", "(or (and (= a b) (= c d)) (= e f))"),
-    ("a = b AND c = d AND e = f", "(and (and (= a b) (= c d)) (= e f))"),
-    ("a = b OR c = d OR e = f", "(or (or (= a b) (= c d)) (= e f))"),
-    ("a = b AND (c = d AND e = f)", "(and (= a b) (and (= c d) (= e f)))"),
-    ("(a = b OR c = d) AND e = f", "(and (or (= a b) (= c d)) (= e f))"),
+    (
+        "a = b OR c = d AND e = f",
+        "(or (= a b) (and (= c d) (= e f)))",
+    ),
+    (
+        "a = b AND c = d OR e = f",
+        "(or (and (= a b) (= c d)) (= e f))",
+    ),
+    (
+        "a = b AND c = d AND e = f",
+        "(and (and (= a b) (= c d)) (= e f))",
+    ),
+    (
+        "a = b OR c = d OR e = f",
+        "(or (or (= a b) (= c d)) (= e f))",
+    ),
+    (
+        "a = b AND (c = d AND e = f)",
+        "(and (= a b) (and (= c d) (= e f)))",
+    ),
+    (
+        "(a = b OR c = d) AND e = f",
+        "(and (or (= a b) (= c d)) (= e f))",
+    ),
     ("((a = b))", "(= a b)"),
     ("NOT (a = b OR c = d)", "(not (or (= a b) (= c d)))"),
     ("NOT a = b AND c = d", "(and (not (= a b)) (= c d))"),
@@ -374,7 +397,8 @@ fn projections(rt: HostRuntime) -> Result<(), Fail> {
     Ok(())
 }
 
-/// A front, a part and how many of it, a middle, an end and how many of it, and what becomes of that text.
+/// A front, a part and how many of it, a middle, an end and how many of it, and what becomes of
+/// that text.
 type Repeated = (
     &'static str,
     &'static str,
@@ -448,12 +472,20 @@ fn limits(rt: HostRuntime) -> Result<(), Fail> {
     for case in LIMITS.iter() {
         let text = repeated_text(alloc, case)?;
         let told = told(alloc, text.as_str())?;
-        assert_eq!(rt; told.as_str(), case.6, "{:?} {:?} {}", case.1, case.3, case.2);
+        assert_eq!(rt;
+            told.as_str(),
+            case.6,
+            "{:?} {:?} {}",
+            case.1,
+            case.3,
+            case.2
+        );
     }
     Ok(())
 }
 
-/// Conditions read one after another with the same marks, and the first placeholder that is unused then.
+/// Conditions read one after another with the same marks, and the first placeholder that is unused
+/// then.
 const USES: [(&str, Option<usize>); 6] = [
     ("a = b", Some(0)),
     ("#k = b", Some(0)),

@@ -1,5 +1,5 @@
-//! The trees that expressions stand for (DynamoDB Developer Guide, "Comparison operator and function
-//! reference" and "Projection expressions").
+//! The trees that expressions stand for (DynamoDB Developer Guide, "Comparison operator and
+//! function reference" and "Projection expressions").
 
 use expr_lexer::{DocPath, Seq};
 

@@ -21,4 +21,4 @@ returns-clause-answer c =
     let judged : List Word → Type 0 = λ ts. IsJudged tree (IsCondition most_levels) ts (Err c.in-Err-whole_condition.stop) in
     rw c.told.ensures
     (told_stop tree (IsCondition most_levels) ConditionFault c.args.given.now c.args.text.now c.args.tokens.now c.in-Err-whole_condition.stop
-        (subst judged same (condition_judged (meanings c.as_slice.result.now) (Err c.in-Err-whole_condition.stop) c.in-Err-whole_condition.ensures)))
+    (subst judged same (condition_judged (meanings c.as_slice.result.now) (Err c.in-Err-whole_condition.stop) c.in-Err-whole_condition.ensures)))

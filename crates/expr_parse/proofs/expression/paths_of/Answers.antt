@@ -21,4 +21,4 @@ returns-clause-answer c =
     let judged : List Word → Type 0 = λ ts. IsJudged {C = List DocPath} (λ paths. paths) ArePaths ts (Err c.in-Err-whole_paths.stop) in
     rw c.told.ensures
     (told_stop {C = List DocPath} (λ paths. paths) ArePaths PathsFault c.args.given.now c.args.text.now c.args.tokens.now c.in-Err-whole_paths.stop
-        (subst judged same (paths_judged (meanings c.as_slice.result.now) (Err c.in-Err-whole_paths.stop) c.in-Err-whole_paths.ensures)))
+    (subst judged same (paths_judged (meanings c.as_slice.result.now) (Err c.in-Err-whole_paths.stop) c.in-Err-whole_paths.ensures)))

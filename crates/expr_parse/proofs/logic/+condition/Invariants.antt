@@ -28,7 +28,7 @@ decreases-group l = 6 * l.levels + 5
 abbrev pub invariant-conjunction-loop-rest : goal.invariant-conjunction-loop-rest
 invariant-conjunction-loop-rest l = record {
   reading : (os : List Owed) (ks : List Kept) → reads (meanings l.words) (AConjunction l.levels ∷ os) ks ≡ reads (meanings l.rest) (MoreAnd l.levels ∷ os) (Whole (tree l.left) ∷ ks);
-  shorter : length l.rest < length l.words
+  shorter : length l.rest < length l.words;
 }
 
 abbrev pub decreases-conjunction-loop-rest : goal.decreases-conjunction-loop-rest
@@ -37,7 +37,7 @@ decreases-conjunction-loop-rest l = length l.rest
 abbrev pub invariant-disjunction-loop-rest : goal.invariant-disjunction-loop-rest
 invariant-disjunction-loop-rest l = record {
   reading : (os : List Owed) (ks : List Kept) → reads (meanings l.words) (ACondition l.levels ∷ os) ks ≡ reads (meanings l.rest) (MoreOr l.levels ∷ os) (Whole (tree l.left) ∷ ks);
-  shorter : length l.rest < length l.words
+  shorter : length l.rest < length l.words;
 }
 
 abbrev pub decreases-disjunction-loop-rest : goal.decreases-disjunction-loop-rest

@@ -6,7 +6,7 @@ use Rattle.expr_parse.proofs.path.document_path.Given as goal
 abbrev pub invariant-loop-steps : goal.invariant-loop-steps
 invariant-loop-steps l = record {
   reading : (os : List Owed) (ks : List Kept) → reads (meanings l.words) (APath ∷ os) ks ≡ reads (meanings l.rest) (MoreSteps ∷ os) (Steps l.steps ∷ ks);
-  shorter : length l.rest < length l.words
+  shorter : length l.rest < length l.words;
 }
 
 abbrev pub decreases-loop-steps : goal.decreases-loop-steps

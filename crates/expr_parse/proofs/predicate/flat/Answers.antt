@@ -8,5 +8,5 @@ pub returns-in-None-clause-goes : goal.returns-in-None-clause-goes
 returns-in-None-clause-goes c = λ not_deeper.
     goes_along _ _ _ _ _
     (λ os ks. part_operand (meanings c.args.words.now) c.args.levels os ks c.in-None.ensures.call not_deeper
-        ∙ plain_level (meanings c.args.words.now) c.args.levels (ARest c.args.levels ∷ os) ks c.in-None.ensures.call)
+    ∙ plain_level (meanings c.args.words.now) c.args.levels (ARest c.args.levels ∷ os) ks c.in-None.ensures.call)
     c.plain_predicate.ensures.goes

@@ -5,4 +5,4 @@ use Rattle.expr_parse.proofs.predicate.predicate.Goals as goal
 
 pub returns-in-Some-clause-goes : goal.returns-in-Some-clause-goes
 returns-in-Some-clause-goes c =
-    goes_along _ _ _ _ _ (λ os ks. c.in-Some.ensures.comparison c.args.levels os (Side c.args.first ∷ ks)) c.compared.ensures.goes
+    goes_along _ _ _ _ _ (λ os ks. c.in-Some.ensures.sign c.args.levels os (Side c.args.first ∷ ks)) c.compared.ensures.goes
