@@ -1,10 +1,10 @@
 -- One list begins the other where they agree as far as both go.
 use Rattle.std.proofs.lemmas.Option.{slice_get-get_or, slice_get_read, slice_get_within, get_or_from_slice_get}
-use Rattle.std.proofs.Common.{◌+◌, ◌-◌, Any, Some, slice_get, get_or, get_or-drop, drop, length-drop, take, take_all, eq-zero-or-pos, ◌≡◌, ◌<◌, ◌≤◌, ◌⊎◌, ◌↔◌, inl, inr, ⊎_elim, ℕ, zero, suc, List, [], ◌∷◌, ◌++◌, length, slice_index_or, refl, sym, ap, subst, ◌∙◌, arith}
+use Rattle.std.proofs.Common.{◌+◌, ◌-◌, Any, Some, slice_get, get_or, get_or-drop, drop, length-drop, take, take_all, eq-zero-or-pos, ◌≡◌, ◌<◌, ◌≤◌, ◌⊎◌, ◌↔◌, inl, inr, ℕ, zero, suc, List, [], ◌∷◌, ◌++◌, length, refl, sym, ap, subst, ◌∙◌, arith}
 use Rattle.expr_lexer.specs.declared.path.DocPath.{DocPath}
 use Rattle.expr_lexer.specs.declared.path.Step.{Step}
 use Rattle.expr_parse.specs.Agreement.{Agree}
-use Rattle.expr_parse.specs.Reading.{Begins, Overlap, HaveOverlap}
+use Rattle.expr_parse.specs.Reading.{Overlap, HaveOverlap}
 
 begins_either : (p q : List Step) → Agree p q → ((more : List Step) × (p ++ more ≡ q)) ⊎ ((more : List Step) × (q ++ more ≡ p))
 begins_either [] q h = inl (q, refl)

@@ -1,7 +1,7 @@
 -- Where keys ascend, a search by halves finds the first place that a search from the front finds.
-use Rattle.std.proofs.Common.{◌≡◌, ◌+◌, ◌-◌, ◌<◌, ◌≤◌, ◌⊎◌, inl, inr, ℕ, zero, suc, Bool, true, false, not, cond, nat_lt, List, [], ◌∷◌, length, slice_index_or, Option, Some, None, position, bytes_eq, refl, sym, ap, subst, ◌∙◌, true≢false, arith, HoldsAt, Result, Ok, Err, IsTrue, lt-ltb, le-ltb}
+use Rattle.std.proofs.Common.{◌≡◌, ◌+◌, ◌-◌, ◌<◌, ◌≤◌, ◌⊎◌, inl, inr, ℕ, zero, suc, Bool, true, false, not, cond, nat_lt, List, [], ◌∷◌, length, slice_index_or, Some, None, position, bytes_eq, refl, sym, ap, subst, ◌∙◌, true≢false, arith, HoldsAt, Result, Ok, Err, IsTrue, lt-ltb, le-ltb}
 use Rattle.std.proofs.lemmas.Bool.{cases_order}
-use Rattle.std.specs.List.{prefix_len, position_or_len, AllWithin, IsAllAdjacentAnswer}
+use Rattle.std.specs.List.{position_or_len, IsAllAdjacentAnswer}
 use Rattle.std.specs.List.Sorted.{IsNonDecreasingBy, IsPartitionPoint, IsBinarySearchResult, IsSearchInRange}
 use Rattle.std.specs.Cmp.Lexicographic.{slice_cmp, bytes_decides, texts_ties, nat_list_cmp_total}
 use Rattle.std.specs.Result.{result_ok}

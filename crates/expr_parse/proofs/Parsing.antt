@@ -1,8 +1,8 @@
 -- Single steps of the machine.
-use Rattle.std.proofs.Common.{rules, arith, ◌≡◌, ◌≤◌, ℕ, zero, suc, true, false, List, [], ◌∷◌, ◌++◌, length, Result, Ok, Err, refl, ap, ◌∙◌}
+use Rattle.std.proofs.Common.{arith, ◌≡◌, ◌≤◌, ℕ, zero, suc, true, false, List, [], ◌∷◌, length, Result, Ok, Err, refl, ap, ◌∙◌}
 use Rattle.expr_parse.specs.declared.word.Word as code
-use Rattle.expr_parse.specs.Words.{Word, Bare, Placed, Held, Number, Sign, Barred, meant, meanings}
-use Rattle.expr_parse.specs.Machine.{Owed, Kept, Effect, Do, apply, reads, Goes, APath, AField, MoreSteps, Steps, Sides, Side, AnOperand, NamedOperand, NamedPart, APart, AConjunction, ACondition, MoreAnd, MoreOr, ARest, AnOpen, AClose, MoreChoices, AComma, AValue, ABar, MakePath, MakeSize, MakeChoice, MakeKindTest, OfPath, OfSides}
+use Rattle.expr_parse.specs.Words.{Word, Bare, Placed, Held, Sign, meanings}
+use Rattle.expr_parse.specs.Machine.{Owed, Kept, Effect, Do, apply, reads, Goes, APath, AField, MoreSteps, Steps, Sides, AnOperand, NamedOperand, NamedPart, APart, AConjunction, ACondition, MoreAnd, MoreOr, ARest, AnOpen, AClose, MoreChoices, AComma, AValue, ABar, MakePath, MakeSize, MakeChoice, MakeKindTest, OfPath, OfSides}
 use Rattle.expr_parse.specs.Trees.{Presence, Absence, FrontTest, PartTest}
 use Rattle.expr_parse.specs.declared.word.Word.TheVariants as shown
 use Rattle.expr_lexer.specs.declared.token.TokenKind.TheVariants as sign

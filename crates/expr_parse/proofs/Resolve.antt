@@ -9,7 +9,7 @@ use Rattle.expr_parse.specs.declared.given.Used.{Used}
 use Rattle.expr_parse.specs.declared.parse_end.ParseEnd.{ParseEnd}
 use Rattle.expr_parse.specs.declared.words.Missing.{Missing}
 use Rattle.expr_parse.specs.declared.word.Word as code
-use Rattle.expr_parse.specs.Words.{Word, meant, meanings, word, meaning, words, missing, undefined, fault_of}
+use Rattle.expr_parse.specs.Words.{Word, meant, meanings, meaning, words, missing, undefined, fault_of}
 use Rattle.expr_parse.specs.Marks.{IsMadeFor, Marks, name_used, value_used, names_used, values_used, MarksAll}
 
 -- what is kept before the tokens `rest`, where the marks were `old` before all tokens

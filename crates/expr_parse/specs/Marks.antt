@@ -1,5 +1,5 @@
 -- Which placeholders were used.
-use Rattle.std.specs.Prelude.{◌≡◌, ◌⊎◌, ◌↔◌, ◌++◌, ℕ, Bool, true, false, not, replicate, List, length, Option, None, Some, slice_get, position, option_to_list, [], ◌∷◌, option_map, nat_eq, ◌||◌}
+use Rattle.std.specs.Prelude.{◌≡◌, ◌++◌, ℕ, Bool, false, not, replicate, List, length, Option, None, slice_get, position, option_to_list, [], ◌∷◌, option_map, nat_eq, ◌||◌}
 use Rattle.std.specs.List.{list_any}
 use Rattle.expr_lexer.specs.declared.token.Token.{Token}
 use Rattle.expr_lexer.specs.declared.token.TokenKind.{TokenKind}

@@ -1,5 +1,5 @@
 -- The words of an expression: its tokens, with what their bytes mean.
-use Rattle.std.specs.Prelude.{ℕ, ◌+◌, ◌-◌, ◌*◌, List, [], ◌∷◌, map, fold, Option, None, Some, option_map, unwrap_or, position, filter_map, bytes_eq, slice_get}
+use Rattle.std.specs.Prelude.{ℕ, List, [], ◌∷◌, Option, None, Some, option_map, unwrap_or}
 use Rattle.expr_lexer.specs.declared.token.Token.{Token}
 use Rattle.std.specs.Option.{option_or}
 use Rattle.std.specs.Str.Parse.{digits_value}

@@ -47,13 +47,13 @@ fn text_tokens(alloc: Global, text: &str) -> Result<Seq<Token>, ParseEnd>
     }
 }
 
-/// The whole, if no word is left behind it.
+/// What was parsed, if no word is left behind it.
 #[tactic(auto, using(crate::proofs::Parsing::none_owed))]
-fn end<'a, T: Drop>(whole: T, words: &[Word<'a>]) -> Result<T, Stop>
-    ensures { Ends whole (meanings words.now) result }
+fn end<'a, T: Drop>(parsed: T, words: &[Word<'a>]) -> Result<T, Stop>
+    ensures { Ends parsed (meanings words.now) result }
 {
     match words {
-        [] => Ok(whole),
+        [] => Ok(parsed),
         _ => Err(stuck(words)),
     }
 }
@@ -115,29 +115,29 @@ fn undefined<'a>(alloc: Global, missing: Missing<'a>) -> ParseEnd
     }
 }
 
-/// The whole, if no placeholder is missing.
+/// What was parsed, if no placeholder is missing.
 fn with_given<'a, T: Drop>(
     alloc: Global,
-    whole: T,
+    parsed: T,
     first_missing: Option<Missing<'a>>,
 ) -> Result<T, ParseEnd>
-    ensures { IsGivenOr whole first_missing.entry result }
+    ensures { IsGivenOr parsed first_missing.entry result }
 {
     match first_missing {
         Some(missing) => Err(undefined(alloc, missing)),
-        None => Ok(whole),
+        None => Ok(parsed),
     }
 }
 
 /// The paths, if no placeholder is missing and no two of them overlap.
 fn fit<'a>(
     alloc: Global,
-    whole: Seq<DocPath>,
+    parsed: Seq<DocPath>,
     first_missing: Option<Missing<'a>>,
 ) -> Result<Seq<DocPath>, ParseEnd>
-    ensures { AreFit whole first_missing.entry result }
+    ensures { AreFit parsed first_missing.entry result }
 {
-    let paths = with_given(alloc, whole, first_missing)?;
+    let paths = with_given(alloc, parsed, first_missing)?;
     if overlap(paths.as_slice()) {
         return Err(ParseEnd::Overlap);
     }

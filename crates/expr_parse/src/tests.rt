@@ -1,4 +1,5 @@
 ghost use Rattle.std.specs.Prelude.{◌<◌, ◌^◌, length, IfOk};
+ghost use Rattle.expr_parse.specs.Marks.{IsMadeFor};
 
 use super::{
     Comparison, Condition, Given, NamePair, Operand, ParseEnd, Paths, Used, condition, paths,
@@ -484,26 +485,38 @@ fn limits(rt: HostRuntime) -> Result<(), Fail> {
     Ok(())
 }
 
-/// Conditions read one after another with the same marks, and the first placeholder that is unused
-/// then.
-const USES: [(&str, Option<usize>); 6] = [
-    ("a = b", Some(0)),
-    ("#k = b", Some(0)),
-    ("#s.#n < :w", Some(3)),
-    ("a IN (:v, :v)", Some(5)),
-    ("NOT attribute_type(#k, :x)", None),
-    ("a = b", None),
+/// Conditions that are read with the same marks, and the first placeholder that is unused then.
+const USES: [(&[&str], Option<usize>); 6] = [
+    (&[], Some(0)),
+    (&["a = b"], Some(0)),
+    (&["#k = b", "#n = b"], Some(2)),
+    (&["#s.#n < :w", "#k = b"], Some(3)),
+    (&["#s.#n < :w", "#k IN (:v, :v)"], Some(5)),
+    (
+        &["#s.#n < :w", "NOT attribute_type(#k, :x)", "a = :v"],
+        None,
+    ),
 ];
+
+fn read_all(alloc: Global, texts: &[&str], given: &Given, used: &mut Used) -> Result<(), ParseEnd>
+    requires few_values { length given.now.value_names < 2 ^ 32 }
+    requires made_for { IsMadeFor given.now used.old }
+    ensures { IsMadeFor given.now used.new }
+{
+    for text in texts {
+        let _condition = condition(alloc, text, given, used)?;
+    }
+    Ok(())
+}
 
 #[test]
 fn unused_placeholders(rt: HostRuntime) -> Result<(), Fail> {
     let alloc = rt.alloc();
     let given = given(alloc, &NAMES, &VALUES)?;
-    let mut used = Used::make(alloc, &given)?;
-    assert_eq!(rt; used.unused(&given), Some(0));
-    for (text, unused) in USES.iter() {
-        let _condition = condition(alloc, text, &given, &mut used)?;
-        assert_eq!(rt; used.unused(&given), *unused, "{text:?}");
+    for (texts, unused) in USES.iter() {
+        let mut used = Used::make(alloc, &given)?;
+        read_all(alloc, texts, &given, &mut used)?;
+        assert_eq!(rt; used.unused(&given), *unused, "{texts:?}");
     }
     Ok(())
 }

@@ -1,4 +1,4 @@
-use Rattle.std.proofs.Common.{◌≡◌, ◌∷◌, ◌∙◌}
+use Rattle.std.proofs.Common.{◌∙◌}
 use Rattle.expr_parse.specs.Words.{meanings}
 use Rattle.expr_parse.proofs.Parsing.{goes_along, choices_end}
 use Rattle.expr_parse.proofs.choice.choices.Goals as goal

@@ -1,4 +1,3 @@
-use Rattle.std.proofs.Common.{◌≡◌}
 use Rattle.expr_parse.specs.Trees.{tree}
 use Rattle.expr_parse.specs.Grammar.{IsCondition, most_levels}
 use Rattle.expr_parse.specs.Reading.{ConditionFault}

@@ -1,4 +1,4 @@
-use Rattle.std.proofs.Common.{◌≡◌, List}
+use Rattle.std.proofs.Common.{List}
 use Rattle.expr_lexer.specs.declared.path.DocPath.{DocPath}
 use Rattle.expr_parse.specs.Grammar.{ArePaths}
 use Rattle.expr_parse.specs.Reading.{PathsFault}

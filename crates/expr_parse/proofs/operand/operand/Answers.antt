@@ -1,4 +1,3 @@
-use Rattle.std.proofs.Common.{◌≡◌, ◌∷◌}
 use Rattle.expr_parse.specs.Words.{meanings}
 use Rattle.expr_parse.proofs.Parsing.{goes_along, plain_level}
 use Rattle.expr_parse.proofs.operand.operand.Goals as goal

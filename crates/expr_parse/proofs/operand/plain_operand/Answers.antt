@@ -1,4 +1,3 @@
-use Rattle.std.proofs.Common.{◌≡◌, ◌∷◌}
 use Rattle.expr_parse.specs.Words.{meanings}
 use Rattle.expr_parse.proofs.Parsing.{goes_along, operand_path}
 use Rattle.expr_parse.proofs.operand.plain_operand.Goals as goal

@@ -1,4 +1,4 @@
-use Rattle.std.proofs.Common.{◌≡◌, ◌↔◌, IsTrue, List, subst₂}
+use Rattle.std.proofs.Common.{◌↔◌, IsTrue, List, subst₂}
 use Rattle.expr_lexer.specs.declared.path.Step.{Step}
 use Rattle.expr_parse.specs.Agreement.{Agree}
 use Rattle.expr_parse.proofs.Agreement.{overlap_agree}

@@ -1,6 +1,6 @@
-use Rattle.std.proofs.Common.{◌≡◌, ◌+◌, sym, subst, true≢false, ◌∙◌, Any, drop}
+use Rattle.std.proofs.Common.{◌+◌, sym, subst, true≢false, ◌∙◌, Any, drop}
 use Rattle.expr_parse.specs.Reading.{Overlap}
-use Rattle.expr_parse.proofs.Agreement.{clear_next, clear_all, found, rest_is}
+use Rattle.expr_parse.proofs.Agreement.{clear_next, clear_all, rest_is}
 use Rattle.expr_parse.proofs.overlap.overlap.Goals as goal
 
 pub loop-place-preserved : goal.loop-place-preserved

@@ -1,4 +1,4 @@
-use Rattle.std.proofs.Common.{◌≡◌, ◌∷◌, ◌∙◌}
+use Rattle.std.proofs.Common.{◌∷◌, ◌∙◌}
 use Rattle.expr_parse.specs.Words.{meanings}
 use Rattle.expr_parse.specs.Machine.{ARest}
 use Rattle.expr_parse.proofs.Parsing.{goes_along, part_operand, plain_level}

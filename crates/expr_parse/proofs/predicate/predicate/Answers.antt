@@ -1,4 +1,4 @@
-use Rattle.std.proofs.Common.{◌≡◌, ◌∷◌}
+use Rattle.std.proofs.Common.{◌∷◌}
 use Rattle.expr_parse.specs.Machine.{Side}
 use Rattle.expr_parse.proofs.Parsing.{goes_along}
 use Rattle.expr_parse.proofs.predicate.predicate.Goals as goal

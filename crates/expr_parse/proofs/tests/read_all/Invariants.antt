@@ -1,5 +1,5 @@
 use Rattle.expr_parse.specs.Marks.{IsMadeFor}
-use Rattle.expr_parse.proofs.tests.unused_placeholders.Given as goal
+use Rattle.expr_parse.proofs.tests.read_all.Given as goal
 
 abbrev pub invariant-loop-text : goal.invariant-loop-text
 invariant-loop-text l = IsMadeFor l.given l.used
