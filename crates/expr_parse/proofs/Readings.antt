@@ -145,9 +145,9 @@ single_paths t (Some fault) None a b = absurd a
 single_paths t (Some Overlap) (Some fault) a b = absurd b
 single_paths t (Some fault) n a b = absurd a
 
-pub one_condition_reading : LexesOnce → (given : Given) (text : List ℕ) (r s : Result Tree ParseEnd) → ReadsCondition given text r → ReadsCondition given text s → r ≡ s
-one_condition_reading lexing given text =
+pub condition_once : LexesOnce → (given : Given) (text : List ℕ) (r s : Result Tree ParseEnd) → ReadsCondition given text r → ReadsCondition given text s → r ≡ s
+condition_once lexing given text =
     one_reading (IsCondition most_levels) ConditionFault (one_condition most_levels) single_condition given text (lexing text)
 
-pub one_paths_reading : LexesOnce → (given : Given) (text : List ℕ) (r s : Result (List DocPath) ParseEnd) → ReadsPaths given text r → ReadsPaths given text s → r ≡ s
-one_paths_reading lexing given text = one_reading ArePaths PathsFault one_list single_paths given text (lexing text)
+pub paths_once : LexesOnce → (given : Given) (text : List ℕ) (r s : Result (List DocPath) ParseEnd) → ReadsPaths given text r → ReadsPaths given text s → r ≡ s
+paths_once lexing given text = one_reading ArePaths PathsFault one_list single_paths given text (lexing text)

@@ -23,8 +23,8 @@ pub struct NamePair {
     pub name: Text,
 }
 
-/// Whether the placeholders of names, and those of values, ascend in the order of their bytes, as those do
-/// that come from a map. Then they are found by halves.
+/// Whether the placeholders of names, and those of values, ascend in the order of their bytes, as
+/// those do that come from a map. Then they are found by halves.
 #[derive(Clone, Copy)]
 pub(crate) struct Ascending {
     pub names: bool,
@@ -128,8 +128,8 @@ impl Used {
         })
     }
 
-    /// The place of the first placeholder that is not used, in the list of all names followed by all value
-    /// names, from 0. These marks have to be made for what is given.
+    /// The place of the first placeholder that is not used, in the list of all names followed by
+    /// all value names, from 0. These marks have to be made for what is given.
     pub fn unused(&self, given: &Given) -> Option<usize>
         requires { IsMadeFor given.now self.now }
         ensures { result ≡ first_unused self.now }

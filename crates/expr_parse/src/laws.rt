@@ -11,12 +11,14 @@ ghost use Rattle.expr_parse.specs.Reading.{ReadsCondition, ReadsPaths};
 
 /// The grammar is unambiguous: no words are sentences for two trees, however many levels are left.
 pub fn one_tree()
-    ensures condition { (k : ℕ) (ts : List Word) (t u : Tree) → IsCondition k ts t → IsCondition k ts u → t ≡ u }
-    ensures paths { (ts : List Word) (ps qs : List DocPath) → ArePaths ts ps → ArePaths ts qs → ps ≡ qs }
+    ensures condition { (k : ℕ) (ts : List Word) (t u : Tree)
+        → IsCondition k ts t → IsCondition k ts u → t ≡ u }
+    ensures paths { (ts : List Word) (ps qs : List DocPath)
+        → ArePaths ts ps → ArePaths ts qs → ps ≡ qs }
 {}
 
 /// A text reads in one way only: as one tree, or with one fault.
-#[tactic(auto, using(crate::proofs::Readings::one_condition_reading, crate::proofs::Readings::one_paths_reading))]
+#[tactic(auto, using(crate::proofs::Readings::condition_once, crate::proofs::Readings::paths_once))]
 pub fn one_reading()
     ensures condition { (given : Given) (text : List ℕ) (r s : Result Tree ParseEnd)
         → ReadsCondition given text r → ReadsCondition given text s → r ≡ s }

@@ -58,7 +58,8 @@ fn name_meaning<'a>(
     requires ascending { AreAscending given.now ascending }
     ensures word { meant result.0 ≡ meaning given.now NamePlaceholder bytes.now }
     ensures missing { option_map fault_of result.1 ≡ missing given.now NamePlaceholder bytes.now }
-    ensures names { Marks (option_to_list (name_place given.now bytes.now)) used.old.names.items used.new.names.items }
+    ensures names { Marks (option_to_list (name_place given.now bytes.now))
+        used.old.names.items used.new.names.items }
     ensures values { used.new.values ≡ used.old.values }
     ensures made_for { IsMadeFor given.now used.new }
 {
@@ -84,7 +85,8 @@ fn value_meaning<'a>(
     ensures word { meant result.0 ≡ meaning given.now ValuePlaceholder bytes.now }
     ensures missing { option_map fault_of result.1 ≡ missing given.now ValuePlaceholder bytes.now }
     ensures names { used.new.names ≡ used.old.names }
-    ensures values { Marks (option_to_list (value_place given.now bytes.now)) used.old.values.items used.new.values.items }
+    ensures values { Marks (option_to_list (value_place given.now bytes.now))
+        used.old.values.items used.new.values.items }
     ensures made_for { IsMadeFor given.now used.new }
 {
     match given.value_place(ascending, bytes) {
@@ -110,8 +112,10 @@ fn meaning<'a>(
     requires ascending { AreAscending given.now ascending }
     ensures word { meant result.0 ≡ meaning given.now kind bytes.now }
     ensures missing { option_map fault_of result.1 ≡ missing given.now kind bytes.now }
-    ensures names { Marks (option_to_list (name_used given.now kind bytes.now)) used.old.names.items used.new.names.items }
-    ensures values { Marks (option_to_list (value_used given.now kind bytes.now)) used.old.values.items used.new.values.items }
+    ensures names { Marks (option_to_list (name_used given.now kind bytes.now))
+        used.old.names.items used.new.names.items }
+    ensures values { Marks (option_to_list (value_used given.now kind bytes.now))
+        used.old.values.items used.new.values.items }
     ensures made_for { IsMadeFor given.now used.new }
 {
     match kind {
@@ -135,8 +139,10 @@ pub(crate) fn words<'a>(
     requires spelled { All (IsSpelled text.now) tokens.now }
     requires made_for { IsMadeFor given.now used.old }
     requires few_values { length given.now.value_names < 2 ^ 32 }
-    ensures words { IfOk result (λ r. meanings r.words.items ≡ words given.now text.now tokens.now) }
-    ensures undefined { IfOk result (λ r. option_map fault_of r.undefined ≡ undefined given.now text.now tokens.now) }
+    ensures words { IfOk result
+        (λ r. meanings r.words.items ≡ words given.now text.now tokens.now) }
+    ensures undefined { IfOk result
+        (λ r. option_map fault_of r.undefined ≡ undefined given.now text.now tokens.now) }
     ensures marks { OnOk result (MarksAll given.now text.now tokens.now used.old used.new) }
     ensures made_for { IsMadeFor given.now used.new }
 {
