@@ -1,13 +1,13 @@
 //! The choices of an IN.
 #![tactic(auto)]
 
-ghost use Rattle.std.specs.Prelude.{◌≡◌, ◌<◌, ◌∷◌, length, IfOk, IfSome, []};
+ghost use Rattle.std.specs.Prelude.{◌<◌, ◌∷◌, length, IfOk, IfSome, []};
 ghost use Rattle.expr_parse.specs.Trees.{tree};
 ghost use Rattle.expr_parse.specs.Words.{meanings, Sign};
 ghost use Rattle.expr_parse.specs.Fronts.{IsBehindComma};
 ghost use Rattle.expr_lexer.specs.declared.token.TokenKind.TheVariants as sign;
 ghost use Rattle.expr_parse.specs.Parses.{Extends};
-ghost use Rattle.expr_parse.specs.Machine.{Goes, reads, choice, Whole, Side, Sides, ARest, AnOperand, MoreChoices, AnOpen, AClose, Do, FirstChoice, NextChoice, MakeChoice};
+ghost use Rattle.expr_parse.specs.Machine.{Goes, reads, choice, Whole, Side, Sides, ARest, AnOperand, MoreChoices, AClose, Do, FirstChoice, NextChoice, MakeChoice};
 
 use crate::operand::{fewer, operand};
 use crate::sign::{close_parenthesis, open_parenthesis, stuck};

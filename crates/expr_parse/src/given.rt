@@ -1,6 +1,6 @@
 //! What an expression's placeholders stand for, and which of them are used.
 
-ghost use Rattle.std.specs.Prelude.{◌≡◌, ◌<◌, ◌^◌, length, IfOk, IfSome, IsSome};
+ghost use Rattle.std.specs.Prelude.{◌≡◌, ◌<◌, length, IfOk, IfSome};
 ghost use Rattle.expr_parse.specs.Given.{name_place, value_place, name_at};
 ghost use Rattle.expr_parse.specs.Ascending.{Ascend, AreAscending};
 ghost use Rattle.expr_parse.specs.Marks.{IsMadeFor, IsUnmarked, first_unused};

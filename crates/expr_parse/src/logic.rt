@@ -1,12 +1,12 @@
 //! Conditions: parts joined by AND and OR, NOT and parentheses.
 #![tactic(auto, using(crate::proofs::Parsing::do_it))]
 
-ghost use Rattle.std.specs.Prelude.{◌≡◌, ◌<◌, ◌∷◌, length, IfOk, []};
+ghost use Rattle.std.specs.Prelude.{◌<◌, ◌∷◌, length, IfOk, []};
 ghost use Rattle.expr_parse.specs.Trees.{tree, Conjunction, Disjunction};
 ghost use Rattle.expr_parse.specs.Words.{meanings};
 ghost use Rattle.expr_parse.specs.Fronts.{IsOpening, IsLess};
 ghost use Rattle.expr_parse.specs.Parses.{Parses, whole};
-ghost use Rattle.expr_parse.specs.Machine.{Goes, reads, Whole, ACondition, AConjunction, APart, AClose, Do, Joins, Negates};
+ghost use Rattle.expr_parse.specs.Machine.{Whole, ACondition, AConjunction, APart, AClose, Do, Joins, Negates};
 
 use crate::operand::fewer;
 use crate::predicate::flat;

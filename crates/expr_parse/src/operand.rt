@@ -1,11 +1,11 @@
 //! Operands: paths, values and sizes.
 #![tactic(auto)]
 
-ghost use Rattle.std.specs.Prelude.{◌≡◌, ◌<◌, ◌∷◌, ℕ, zero, suc, true, false, length, IfOk, IfSome, MatchOption, []};
+ghost use Rattle.std.specs.Prelude.{◌≡◌, ◌<◌, ◌∷◌, zero, suc, true, false, length, IfOk, IfSome, MatchOption, []};
 ghost use Rattle.expr_parse.specs.Words.{meanings};
 ghost use Rattle.expr_parse.specs.Fronts.{opens, calls, IsCall, IsValue};
 ghost use Rattle.expr_parse.specs.Parses.{Parses};
-ghost use Rattle.expr_parse.specs.Machine.{Goes, reads, Side, APath, AnOperand, NamedOperand, AnOpen, AClose, Do, MakePath, MakeSize};
+ghost use Rattle.expr_parse.specs.Machine.{Side, APath, AnOperand, NamedOperand, AnOpen, AClose, Do, MakePath, MakeSize};
 
 use crate::function::{Function, function_of};
 use crate::path::document_path;

@@ -1,6 +1,6 @@
 //! Paths of which one begins the other.
 
-ghost use Rattle.std.specs.Prelude.{◌≡◌, ◌<◌, ◌↔◌, ◌⊎◌, IsTrue, Any};
+ghost use Rattle.std.specs.Prelude.{◌↔◌, IsTrue, Any};
 ghost use Rattle.expr_parse.specs.Reading.{Overlap, HaveOverlap};
 ghost use Rattle.expr_parse.specs.Agreement.{Agree};
 

@@ -6,7 +6,7 @@ ghost use Rattle.expr_lexer.specs.declared.path.Step.{Step};
 ghost use Rattle.expr_parse.specs.Words.{meanings};
 ghost use Rattle.expr_parse.specs.Fronts.{StepsOn};
 ghost use Rattle.expr_parse.specs.Parses.{Parses, Extends};
-ghost use Rattle.expr_parse.specs.Machine.{Goes, reads, Steps, Listed, APath, MoreSteps, AField, AnIndex, ACloseBracket, MorePaths, Do, FirstPath, NextPath};
+ghost use Rattle.expr_parse.specs.Machine.{Steps, Listed, APath, AField, AnIndex, ACloseBracket, MorePaths, Do, FirstPath, NextPath};
 
 use crate::sign::{close_bracket, stuck};
 use crate::stop::Stop;

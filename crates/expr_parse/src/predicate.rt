@@ -2,11 +2,11 @@
 #![tactic(auto, using(crate::proofs::Parsing::do_it))]
 
 ghost use Rattle.std.specs.Prelude.{◌≡◌, ◌<◌, ◌∷◌, true, false, length, IfOk, IfSome, []};
-ghost use Rattle.expr_parse.specs.Trees.{tree, Compared, Presence, Absence, FrontTest, PartTest};
+ghost use Rattle.expr_parse.specs.Trees.{Compared, Presence, Absence, FrontTest, PartTest};
 ghost use Rattle.expr_parse.specs.Words.{meanings};
 ghost use Rattle.expr_parse.specs.Fronts.{opens, calls, compares, is_deeper, IsComparing};
 ghost use Rattle.expr_parse.specs.Parses.{Parses, whole};
-ghost use Rattle.expr_parse.specs.Machine.{Goes, reads, Whole, Side, Steps, Place, APart, NamedPart, ARest, AnOperand, APath, AValue, AnOpen, AClose, AComma, AnAnd, Do, OfSides, OfPath, MakeRange, MakeSize, MakeKindTest};
+ghost use Rattle.expr_parse.specs.Machine.{Goes, reads, Side, Steps, Place, APart, NamedPart, ARest, AnOperand, APath, AValue, AnOpen, AClose, AComma, AnAnd, Do, OfSides, OfPath, MakeRange, MakeSize, MakeKindTest};
 
 use crate::choice::choice;
 use crate::function::{Function, function_of};

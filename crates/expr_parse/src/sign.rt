@@ -1,9 +1,9 @@
 //! Single signs, where nothing else may stand.
 
-ghost use Rattle.std.specs.Prelude.{◌≡◌, ◌<◌, ◌∷◌, length, IfOk, []};
+ghost use Rattle.std.specs.Prelude.{◌≡◌, ◌<◌, length, IfOk};
 ghost use Rattle.expr_parse.specs.Words.{meanings};
 ghost use Rattle.expr_parse.specs.Parses.{Skips};
-ghost use Rattle.expr_parse.specs.Machine.{Goes, reads, AnOpen, AClose, ACloseBracket, AnAnd, AComma};
+ghost use Rattle.expr_parse.specs.Machine.{AnOpen, AClose, ACloseBracket, AnAnd, AComma};
 
 use crate::stop::Stop;
 use crate::word::Word;

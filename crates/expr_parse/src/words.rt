@@ -1,6 +1,6 @@
 //! From the tokens of a text to its words.
 
-ghost use Rattle.std.specs.Prelude.{◌≡◌, ◌<◌, ◌≤◌, ◌^◌, ◌∷◌, [], length, true, All, IfOk, OnOk, IfErr, IsOk, option_map, option_to_list, IsTrue};
+ghost use Rattle.std.specs.Prelude.{◌≡◌, ◌<◌, ◌^◌, ◌∷◌, [], length, true, All, IfOk, OnOk, option_map, option_to_list};
 ghost use Rattle.std.specs.Str.Parse.{digits_value};
 ghost use Rattle.expr_lexer.specs.declared.token.TokenKind.TheVariants.{NamePlaceholder, ValuePlaceholder};
 ghost use Rattle.expr_lexer.specs.Spans.{IsPart};
