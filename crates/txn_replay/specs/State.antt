@@ -1,0 +1,61 @@
+-- What a replay knows of the state after the entries before a place: the catalog, and of each entry that names an item, that
+-- item and its cell.
+use Rattle.std.specs.Prelude.{◌≡◌, ℕ, ◌==◌, true, map, reverse, take, slice_index_or, List, Option, None, Some, if◌then◌else◌}
+use Rattle.txn_core.specs.declared.message.Message.{Message}
+use Rattle.txn_core.specs.declared.entry.Entry.{Entry}
+use Rattle.txn_core.specs.Protocol.{Protocol}
+use Rattle.txn_core.specs.Service.{Service}
+use Rattle.txn_core.specs.World.{Pending, World, here, kept_or, world}
+use Rattle.txn_core.specs.History.{effects}
+use Rattle.txn_core.specs.Cells.{item}
+use Rattle.txn_replay.specs.declared.tracked.Tracked.{Tracked}
+use Rattle.txn_replay.specs.declared.change.Change.{Change}
+use Rattle.txn_replay.specs.Items.{item_in, cell_in}
+
+module _ {K V A F C D Q B : Type 0} (S : Service K V A F C D Q B) where
+  -- the item that a message names
+  abbrev pub key_in : Message K V A F D Q → Option K
+  key_in (Message.Get key) = Some key
+  key_in (Message.Write action) = Some (S.core.key_of action)
+  key_in (Message.Prepare n stamp action) = Some (S.core.key_of action)
+  key_in (Message.Apply n key) = Some key
+  key_in (Message.Release n key) = Some key
+  key_in (Message.ReadVersion key) = Some key
+  key_in _ = None
+
+  abbrev pub keys_of : List (Entry K V A F D Q B) → List (Option K)
+  keys_of es = map (λ e. key_in e.message) es
+
+  -- an item and its cell as they are in the state
+  pub record IsShown (w : World K V A C) (t : Tracked K V) : Type 0 where
+    pub item : item_in t.item ≡ item (w.spot t.key)
+    pub cell : cell_in t.cell ≡ here S.core w t.key
+    pub home : t.home ≡ S.core.cell_of t.key
+
+  -- of a message that names an item, that item; of any other, nothing
+  abbrev pub Fits : World K V A C → Option K → Option (Tracked K V) → Type 0
+  Fits w key None = key ≡ None
+  Fits w key (Some t) = (key ≡ Some t.key) × IsShown w t
+
+  -- each item that is named is shown, and no other item is held
+  pub record IsState (keys : List (Option K)) (w : World K V A C) (now : C) (slots : List (Option (Tracked K V))) : Type 0 where
+    pub catalog : now ≡ w.catalog
+    pub fits : (k : ℕ) → Fits w (slice_index_or keys k None) (slice_index_or slots k None)
+    pub covered : (q : K) (p : Pending V) → (w.spot q).pend ≡ Some p → (k : ℕ) × (key : K) × (slice_index_or keys k None ≡ Some key) × (S.core.same key q ≡ true)
+
+  -- the state after the entries before this place, in order of time
+  abbrev pub IsBefore : List (Entry K V A F D Q B) → ℕ → C → List (Option (Tracked K V)) → Type 0
+  IsBefore entries place now slots = IsState (keys_of entries) (world S.core (effects (reverse (take place entries)))) now slots
+
+module _ {K V A F C D : Type 0} (P : Protocol K V A F C D) where
+  -- what a change of an item leaves of one that is named
+  abbrev pub put_in : ℕ → K → Change V → Option (Tracked K V) → Option (Tracked K V)
+  put_in home key change None = None
+  put_in home key change (Some t) =
+      Some (record t { item = if P.same key t.key then change.item else t.item; cell = if home == t.home then change.cell else t.cell })
+
+  -- what a change of the catalog leaves of one
+  abbrev pub moved_in : C → C → D → Option (Tracked K V) → Option (Tracked K V)
+  moved_in cat next d None = None
+  moved_in cat next d (Some t) =
+      Some (record t { item = record t.item { row = kept_or (P.there cat t.key) (P.there next t.key) t.item.row (P.adds d cat t.key) } })
