@@ -1,2 +1,9 @@
 pub mod Alike
 pub mod Steps
+pub mod Leaving
+pub mod Rightly
+pub mod Folding
+pub mod Sequences
+pub mod Advancing
+pub mod Times
+pub mod Unfit

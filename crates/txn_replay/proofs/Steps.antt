@@ -14,14 +14,8 @@ use Rattle.txn_replay.specs.declared.tracked.ItemState.{ItemState}
 use Rattle.txn_replay.specs.declared.tracked.Counters.{Counters}
 use Rattle.txn_replay.specs.declared.change.Change.{Change}
 use Rattle.txn_replay.specs.Items.{item_in, cell_in, spot_in, cell_put}
-use Rattle.txn_replay.specs.State.{IsShown, Fits, IsState, put_in, moved_in}
+use Rattle.txn_replay.specs.State.{IsLocal, IsLeft, Leaves, IsShown, Fits, IsState, put_in, moved_in}
 use Rattle.txn_replay.proofs.Alike.{alike}
-
--- what is changed on an item lies in that item and its cell
-pub record IsLocal {K V A F C D : Type 0} (P : Protocol K V A F C D) (key : K) (w u : World K V A C) : Type 0 where
-  pub beside : (q : K) → P.same key q ≡ false → item (u.spot q) ≡ item (w.spot q)
-  pub others : (j : ℕ) → (P.cell_of key ≡ j → ⊥) → u.cell j ≡ w.cell j
-  pub catalog : u.catalog ≡ w.catalog
 
 module _ {K V A F C D : Type 0} (P : Protocol K V A F C D) where
   pub on_key_local : (w : World K V A C) (k : K) (f : Spot V → Spot V) (c : Cell) → IsLocal P k w (on_key P w k f c)

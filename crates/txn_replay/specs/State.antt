@@ -1,12 +1,13 @@
 -- What a replay knows of the state after the entries before a place: the catalog, and of each entry that names an item, that
 -- item and its cell.
-use Rattle.std.specs.Prelude.{◌≡◌, ℕ, ◌==◌, true, map, reverse, take, slice_index_or, List, Option, None, Some, if◌then◌else◌}
+use Rattle.std.specs.Prelude.{◌≡◌, ℕ, ◌==◌, ◌<◌, ◌+◌, ◌^◌, Bool, true, false, IfSome, map, reverse, take, slice_index_or, List, ◌∷◌, Option, None, Some, if◌then◌else◌}
 use Rattle.txn_core.specs.declared.message.Message.{Message}
 use Rattle.txn_core.specs.declared.entry.Entry.{Entry}
 use Rattle.txn_core.specs.Protocol.{Protocol}
 use Rattle.txn_core.specs.Service.{Service}
+use Rattle.txn_core.specs.Effects.{Effect, Quiet}
 use Rattle.txn_core.specs.World.{Pending, World, here, kept_or, world}
-use Rattle.txn_core.specs.History.{effects}
+use Rattle.txn_core.specs.History.{effect, effects}
 use Rattle.txn_core.specs.Cells.{item}
 use Rattle.txn_replay.specs.declared.tracked.Tracked.{Tracked}
 use Rattle.txn_replay.specs.declared.change.Change.{Change}
@@ -47,7 +48,24 @@ module _ {K V A F C D Q B : Type 0} (S : Service K V A F C D Q B) where
   abbrev pub IsBefore : List (Entry K V A F D Q B) → ℕ → C → List (Option (Tracked K V)) → Type 0
   IsBefore entries place now slots = IsState (keys_of entries) (world S.core (effects (reverse (take place entries)))) now slots
 
+-- what is changed on an item lies in that item and its cell
+pub record IsLocal {K V A F C D : Type 0} (P : Protocol K V A F C D) (key : K) (w u : World K V A C) : Type 0 where
+  pub beside : (q : K) → P.same key q ≡ false → item (u.spot q) ≡ item (w.spot q)
+  pub others : (j : ℕ) → (P.cell_of key ≡ j → ⊥) → u.cell j ≡ w.cell j
+  pub catalog : u.catalog ≡ w.catalog
+
 module _ {K V A F C D : Type 0} (P : Protocol K V A F C D) where
+  -- the change is what the effect leaves of the item and its cell, and it leaves all else
+  pub record IsLeft (es : List (Effect K A D)) (e : Effect K A D) (key : K) (change : Change V) : Type 0 where
+    pub place : IsLocal P key (world P es) (world P (e ∷ es))
+    pub item : item_in change.item ≡ item ((world P (e ∷ es)).spot key)
+    pub cell : cell_in change.cell ≡ here P (world P (e ∷ es)) key
+
+  -- what an effect on an item leaves, or nothing where it changes nothing
+  abbrev pub Leaves : List (Effect K A D) → Effect K A D → K → Option (Change V) → Type 0
+  Leaves es e key None = e ≡ Quiet
+  Leaves es e key (Some change) = IsLeft es e key change
+
   -- what a change of an item leaves of one that is named
   abbrev pub put_in : ℕ → K → Change V → Option (Tracked K V) → Option (Tracked K V)
   put_in home key change None = None
@@ -59,3 +77,16 @@ module _ {K V A F C D : Type 0} (P : Protocol K V A F C D) where
   moved_in cat next d None = None
   moved_in cat next d (Some t) =
       Some (record t { item = record t.item { row = kept_or (P.there cat t.key) (P.there next t.key) t.item.row (P.adds d cat t.key) } })
+
+-- there is room for one more change in each cell that is counted
+abbrev pub HaveRoom : {K V : Type 0} → List (Option (Tracked K V)) → Type 0
+HaveRoom slots = (k : ℕ) → IfSome (slice_index_or slots k None) (λ t. t.cell.count + 1 < 2 ^ 64)
+
+abbrev pub is_command : {K V A F D Q : Type 0} → Message K V A F D Q → Bool
+is_command (Message.Command d) = true
+is_command _ = false
+
+-- what was the state before an entry that is no command, at its place, is the state after it
+abbrev pub Advances : {K V A F C D Q B : Type 0} → Service K V A F C D Q B → List (Option K) → List (Effect K A D) → ℕ → Entry K V A F D Q B → C → List (Option (Tracked K V)) → C → List (Option (Tracked K V)) → Type 0
+Advances S keys es place e now slots next after =
+    is_command e.message ≡ false → slice_index_or keys place None ≡ key_in S e.message → IsState S keys (world S.core es) now slots → IsState S keys (world S.core (effect e ∷ es)) next after

@@ -1,0 +1,100 @@
+-- From what is kept of an item to the answer that its cell gives.
+use Rattle.std.proofs.Common.{◌≡◌, ℕ, Bool, true, false, List, Option, None, Some, refl, sym, ap, ◌∙◌, subst}
+use Rattle.std.specs.Prelude.{◌↔◌, IsTrue}
+use Rattle.std.specs.List.{list_all}
+use Rattle.txn_core.specs.declared.stamp.Stamp.{Stamp}
+use Rattle.txn_core.specs.declared.reason.Reason.{Reason}
+use Rattle.txn_core.specs.declared.message.Message.{Message}
+use Rattle.txn_core.specs.declared.answer.Answer.{Answer}
+use Rattle.txn_core.specs.declared.entry.Entry.{Entry}
+use Rattle.txn_core.specs.Service.{Service}
+use Rattle.txn_core.specs.World.{Cell, World, holder, here, world}
+use Rattle.txn_core.specs.Answers.{KeptToken, begin_answer, get_answer, write_answer, prepare_answer, apply_answer, release_answer, version_answer}
+use Rattle.txn_core.specs.History.{effects, found_kept}
+use Rattle.txn_core.specs.Legal.{IsAnswer}
+use Rattle.txn_core.specs.Cells.{Item, item}
+use Rattle.txn_replay.specs.declared.tracked.Tracked.{Tracked}
+use Rattle.txn_replay.specs.Items.{item_in, cell_in, last_in}
+use Rattle.txn_replay.specs.State.{IsShown, key_in}
+use Rattle.txn_replay.specs.Checked.{is_checked}
+use Rattle.txn_replay.proofs.Leaving.{some_key}
+
+module _ {K V A F C D Q B : Type 0} (S : Service K V A F C D Q B) (es : List (Entry K V A F D Q B)) (cat : C) (cat_is : cat ≡ (world S.core (effects es)).catalog) (t : Tracked K V) (shown : IsShown S (world S.core (effects es)) t) (m : Message K V A F D Q) (names : key_in S m ≡ Some t.key) (moment : ℕ) (a : Answer K V A F B) (b : Bool) where
+  -- what holds of the catalog, the item and the cell that are kept holds of those of the state
+  lift : (X : C → Item V → Cell → Type 0) (k : K) → k ≡ t.key → X cat (item_in t.item) (cell_in t.cell) → X (world S.core (effects es)).catalog (item ((world S.core (effects es)).spot k)) (here S.core (world S.core (effects es)) k)
+  lift X k at_key h =
+      let w = world S.core (effects es) in
+      let x : item_in t.item ≡ item (w.spot k) = shown.item ∙ ap (λ q. item (w.spot q)) (sym at_key) in
+      let d : cell_in t.cell ≡ here S.core w k = shown.cell ∙ ap (λ q. here S.core w q) (sym at_key) in
+      subst (λ z. X w.catalog (item (w.spot k)) z) d (subst (λ z. X w.catalog z (cell_in t.cell)) x (subst (λ z. X z (item_in t.item) (cell_in t.cell)) cat_is h))
+
+  named : (z : Message K V A F D Q) (k : K) → m ≡ z → key_in S z ≡ Some k → k ≡ t.key
+  named z k is of_key = some_key k t.key (sym of_key ∙ sym (ap (λ y. key_in S y) is) ∙ names)
+
+  back : (z : Message K V A F D Q) → m ≡ z → IsTrue b ↔ IsAnswer S es moment z a → IsTrue b ↔ IsAnswer S es moment m a
+  back z is h = subst (λ y. IsTrue b ↔ IsAnswer S es moment y a) (sym is) h
+
+  pub get_right : (k : K) → m ≡ Message.Get k → IsTrue b ↔ (a ≡ get_answer (S.core.there cat k) (item_in t.item).row) → IsTrue b ↔ IsAnswer S es moment m a
+  get_right k is h = back (Message.Get k) is (lift (λ c x d. IsTrue b ↔ (a ≡ get_answer (S.core.there c k) x.row)) k (named (Message.Get k) k is refl) h)
+
+  pub write_right : (action : A) → m ≡ Message.Write action → IsTrue b ↔ (a ≡ write_answer (S.core.there cat (S.core.key_of action)) (holder (item_in t.item).pend) (item_in t.item).row (S.core.act cat action (item_in t.item).row)) → IsTrue b ↔ IsAnswer S es moment m a
+  write_right action is h =
+      back (Message.Write action) is
+      (lift (λ c x d. IsTrue b ↔ (a ≡ write_answer (S.core.there c (S.core.key_of action)) (holder x.pend) x.row (S.core.act c action x.row))) (S.core.key_of action) (named (Message.Write action) (S.core.key_of action) is refl) h)
+
+  pub prepare_right : (n : ℕ) (stamp : Stamp) (action : A) → m ≡ Message.Prepare n stamp action → IsTrue b ↔ (a ≡ prepare_answer (S.core.there cat (S.core.key_of action)) (holder (item_in t.item).pend) n (last_in (cell_in t.cell) (item_in t.item)) stamp (item_in t.item).row (S.core.act cat action (item_in t.item).row)) → IsTrue b ↔ IsAnswer S es moment m a
+  prepare_right n stamp action is h =
+      back (Message.Prepare n stamp action) is
+      (lift (λ c x d. IsTrue b ↔ (a ≡ prepare_answer (S.core.there c (S.core.key_of action)) (holder x.pend) n (last_in d x) stamp x.row (S.core.act c action x.row))) (S.core.key_of action) (named (Message.Prepare n stamp action) (S.core.key_of action) is refl) h)
+
+  pub apply_right : (n : ℕ) (k : K) → m ≡ Message.Apply n k → IsTrue b ↔ (a ≡ apply_answer (holder (item_in t.item).pend) n) → IsTrue b ↔ IsAnswer S es moment m a
+  apply_right n k is h = back (Message.Apply n k) is (lift (λ c x d. IsTrue b ↔ (a ≡ apply_answer (holder x.pend) n)) k (named (Message.Apply n k) k is refl) h)
+
+  pub release_right : (n : ℕ) (k : K) → m ≡ Message.Release n k → IsTrue b ↔ (a ≡ release_answer (holder (item_in t.item).pend) n) → IsTrue b ↔ IsAnswer S es moment m a
+  release_right n k is h = back (Message.Release n k) is (lift (λ c x d. IsTrue b ↔ (a ≡ release_answer (holder x.pend) n)) k (named (Message.Release n k) k is refl) h)
+
+  pub version_right : (k : K) → m ≡ Message.ReadVersion k → IsTrue b ↔ (a ≡ version_answer (S.core.there cat k) (item_in t.item).row (item_in t.item).version (cell_in t.cell).gone (holder (item_in t.item).pend)) → IsTrue b ↔ IsAnswer S es moment m a
+  version_right k is h =
+      back (Message.ReadVersion k) is
+      (lift (λ c x d. IsTrue b ↔ (a ≡ version_answer (S.core.there c k) x.row x.version d.gone (holder x.pend))) k (named (Message.ReadVersion k) k is refl) h)
+
+-- no other message names an item
+pub other_right : {K V A F C D Q B : Type 0} (S : Service K V A F C D Q B) (m : Message K V A F D Q) (key : K) → key_in S m ≡ Some key → ((k : K) → m ≡ Message.Get k → ⊥) → ((a : A) → m ≡ Message.Write a → ⊥) → ((n : ℕ) (stamp : Stamp) (a : A) → m ≡ Message.Prepare n stamp a → ⊥) → ((n : ℕ) (k : K) → m ≡ Message.Apply n k → ⊥) → ((n : ℕ) (k : K) → m ≡ Message.Release n k → ⊥) → ((k : K) → m ≡ Message.ReadVersion k → ⊥) → ⊥
+other_right S (Message.Get k) key names a b c d e f = a k refl
+other_right S (Message.Write action) key names a b c d e f = b action refl
+other_right S (Message.Prepare n stamp action) key names a b c d e f = c n stamp action refl
+other_right S (Message.Apply n k) key names a b c d e f = d n k refl
+other_right S (Message.Release n k) key names a b c d e f = e n k refl
+other_right S (Message.ReadVersion k) key names a b c d e f = f k refl
+other_right S _ key names a b c d e f = absurd (cc)
+
+-- a Begin, by whether the tables are there
+module _ {K V A F C D Q B : Type 0} (S : Service K V A F C D Q B) (es : List (Entry K V A F D Q B)) (cat : C) (cat_is : cat ≡ (world S.core (effects es)).catalog) (moment : ℕ) (token : Option (List ℕ)) (actions : List A) (a : Answer K V A F B) (b : Bool) (there : Bool) (there_is : there ≡ list_all (λ x. S.core.there cat (S.core.key_of x)) actions) where
+  all_there : there ≡ list_all (λ x. S.core.there (world S.core (effects es)).catalog (S.core.key_of x)) actions
+  all_there = there_is ∙ (λ j. list_all (λ x. S.core.there (cat_is j) (S.core.key_of x)) actions)
+
+  pub begin_gone : there ≡ false → IsTrue b ↔ (a ≡ Answer.Stale) → IsTrue b ↔ IsAnswer S es moment (Message.Begin token actions) a
+  begin_gone no' h =
+      subst (λ x. IsTrue b ↔ (a ≡ begin_answer S.same_actions x (found_kept es moment token) actions (record { moment = moment; number = (world S.core (effects es)).ledger.next }))) (sym no' ∙ all_there) h
+
+  pub begin_there : there ≡ true → (kept : Option (KeptToken A)) → kept ≡ found_kept es moment token → (number : ℕ) → number ≡ (world S.core (effects es)).ledger.next → IsTrue b ↔ (a ≡ begin_answer S.same_actions true kept actions (record { moment = moment; number = number })) → IsTrue b ↔ IsAnswer S es moment (Message.Begin token actions) a
+  begin_there yes' kept kept_is number number_is h =
+      subst (λ x. IsTrue b ↔ (a ≡ begin_answer S.same_actions x (found_kept es moment token) actions (record { moment = moment; number = (world S.core (effects es)).ledger.next }))) (sym yes' ∙ all_there)
+      (subst (λ k. IsTrue b ↔ (a ≡ begin_answer S.same_actions true k actions (record { moment = moment; number = (world S.core (effects es)).ledger.next }))) kept_is
+      (subst (λ n. IsTrue b ↔ (a ≡ begin_answer S.same_actions true kept actions (record { moment = moment; number = n }))) number_is h))
+
+-- no other message that names no item is checked
+pub other_unchecked : {K V A F C D Q B : Type 0} (S : Service K V A F C D Q B) (m : Message K V A F D Q) → key_in S m ≡ None → is_checked m ≡ true → ((token : Option (List ℕ)) (actions : List A) → m ≡ Message.Begin token actions → ⊥) → ((n : ℕ) (commit : Bool) (reasons : List (Reason V F)) → m ≡ Message.Decide n commit reasons → ⊥) → ((n : ℕ) → m ≡ Message.Done n → ⊥) → ((n : ℕ) → m ≡ Message.Forget n → ⊥) → ((n : ℕ) → m ≡ Message.FateOf n → ⊥) → ((n : ℕ) → m ≡ Message.Recall n → ⊥) → ((q : Q) → m ≡ Message.Ask q → ⊥) → ((q : Q) → m ≡ Message.QueryPage q → ⊥) → ((q : Q) → m ≡ Message.ScanPage q → ⊥) → ((source : ℕ) → m ≡ Message.PeekOut source → ⊥) → ((source sequence index : ℕ) (row_key : K) (after : Option V) → m ≡ Message.ApplyIndex source sequence index row_key after → ⊥) → ((source sequence : ℕ) → m ≡ Message.Ack source sequence → ⊥) → ⊥
+other_unchecked S (Message.Begin token actions) none so a b c d e f h i j k l m = a token actions refl
+other_unchecked S (Message.Decide n commit reasons) none so a b c d e f h i j k l m = b n commit reasons refl
+other_unchecked S (Message.Done n) none so a b c d e f h i j k l m = c n refl
+other_unchecked S (Message.Forget n) none so a b c d e f h i j k l m = d n refl
+other_unchecked S (Message.FateOf n) none so a b c d e f h i j k l m = e n refl
+other_unchecked S (Message.Recall n) none so a b c d e f h i j k l m = f n refl
+other_unchecked S (Message.Ask q) none so a b c d e f h i j k l m = h q refl
+other_unchecked S (Message.QueryPage q) none so a b c d e f h i j k l m = i q refl
+other_unchecked S (Message.ScanPage q) none so a b c d e f h i j k l m = j q refl
+other_unchecked S (Message.PeekOut source) none so a b c d e f h i j k l m = k source refl
+other_unchecked S (Message.ApplyIndex source sequence index row_key after) none so a b c d e f h i j k l m = l source sequence index row_key after refl
+other_unchecked S (Message.Ack source sequence) none so a b c d e f h i j k l m = m source sequence refl
+other_unchecked S _ none so a b c d e f h i j k l m = absurd (cc)

@@ -1,0 +1,9 @@
+use Rattle.std.proofs.Common.{◌≡◌, reverse, subst}
+use Rattle.std.specs.Prelude.{◌↔◌, IsTrue}
+use Rattle.txn_core.specs.World.{world}
+use Rattle.txn_core.specs.History.{effects}
+use Rattle.txn_core.specs.Answers.{has_record, forget_answer}
+use Rattle.txn_replay.proofs.records.forget_is_right.Goals as goal
+
+pub returns : goal.returns
+returns g c = λ n. subst (λ r. IsTrue c.is_forget.result ↔ (c.args.answer.now ≡ forget_answer r)) (c.has_record.ensures n) c.is_forget.ensures

@@ -1,0 +1,126 @@
+//! The answers of the control cell about transactions.
+ghost use Rattle.std.specs.Prelude.{◌≡◌, ◌↔◌, ℕ, IsTrue, List, reverse};
+ghost use Rattle.std.specs.List.{list_all};
+ghost use Rattle.txn_core.specs.World.{world};
+ghost use Rattle.txn_core.specs.History.{effects, reasons_of};
+ghost use Rattle.txn_core.specs.Legal.{IsAnswer};
+ghost use Rattle.txn_core.specs.declared.message.Message.{Message};
+ghost use Rattle.txn_core.specs.declared.reason.Reason.{Reason};
+
+use crate::equal::{Reply, is_stale};
+use crate::ledger::{actions_of, fate_of, has_record, next_of, stamp_of};
+use crate::reply::{is_begin, is_decide, is_done, is_fate, is_forget, is_recall};
+use crate::token::found;
+use expr_lexer::Text;
+
+use txn_core::{Event, Reason, Rules, Stamp};
+
+/// Whether the catalog has the table of each action.
+fn are_there<R: Rules>(catalog: &R::Catalog, actions: &[R::Action]) -> bool
+    ensures { (n : ℕ) → result ≡ list_all (λ x. (R.protocol n).core.there catalog.now ((R.protocol n).core.key_of x)) actions.now }
+{
+    for action in actions {
+        if !R::is_there(catalog, R::key_of(action)) {
+            return false;
+        }
+    }
+    true
+}
+
+/// The reasons that the number's decision carried.
+fn reasons_of<R: Rules>(past: &[Event<R>], number: u64) -> &[Reason<R::Value, R::Fault>]
+    ensures { result.now ≡ reasons_of (reverse past.now) number }
+{
+    let mut found: &[Reason<R::Value, R::Fault>] = &[];
+    for entry in past {
+        found = entry.reasons_or(number, found);
+    }
+    found
+}
+
+/// Whether a Begin has the answer of the control cell.
+pub fn begin_is_right<R: Rules>(
+    catalog: &R::Catalog,
+    past: &[Event<R>],
+    moment: u64,
+    token: &Option<Text>,
+    actions: &[R::Action],
+    answer: &Reply<R>,
+) -> bool
+    ensures { (n : ℕ) → catalog.now ≡ (world (R.protocol n).core (effects (reverse past.now))).catalog → (IsTrue result ↔ IsAnswer (R.protocol n) (reverse past.now) moment (Message.Begin token.now actions.now) answer.now) }
+{
+    if !are_there::<R>(catalog, actions) {
+        return is_stale::<R>(answer);
+    }
+    let number = next_of::<R>(past);
+    let kept = found::<R>(past, moment, token);
+    is_begin::<R>(&kept, actions, Stamp { moment, number }, answer)
+}
+
+/// Whether a Decide has the answer of the control cell.
+pub fn decide_is_right<R: Rules>(
+    past: &[Event<R>],
+    moment: u64,
+    number: u64,
+    commit: bool,
+    answer: &Reply<R>,
+) -> bool
+    ensures { (n : ℕ) (reasons : List (Reason R.Value R.Fault)) → (IsTrue result ↔ IsAnswer (R.protocol n) (reverse past.now) moment (Message.Decide number commit reasons) answer.now) }
+{
+    let recorded = has_record::<R>(past, number);
+    is_decide::<R>(recorded, fate_of::<R>(past, number), commit, answer)
+}
+
+/// Whether a Recall has the answer of the control cell.
+pub fn recall_is_right<R: Rules>(
+    past: &[Event<R>],
+    moment: u64,
+    number: u64,
+    answer: &Reply<R>,
+) -> bool
+    ensures { (n : ℕ) → (IsTrue result ↔ IsAnswer (R.protocol n) (reverse past.now) moment (Message.Recall number) answer.now) }
+{
+    let recorded = has_record::<R>(past, number);
+    let fate = fate_of::<R>(past, number);
+    let stamp = stamp_of::<R>(past, number);
+    let actions = actions_of::<R>(past, number);
+    let reasons = reasons_of::<R>(past, number);
+    is_recall::<R>(recorded, fate, stamp, actions, reasons, answer)
+}
+
+/// Whether a Done has the answer of the control cell.
+pub fn done_is_right<R: Rules>(
+    past: &[Event<R>],
+    moment: u64,
+    number: u64,
+    answer: &Reply<R>,
+) -> bool
+    ensures { (n : ℕ) → (IsTrue result ↔ IsAnswer (R.protocol n) (reverse past.now) moment (Message.Done number) answer.now) }
+{
+    is_done::<R>(has_record::<R>(past, number), answer)
+}
+
+/// Whether a Forget has the answer of the control cell.
+pub fn forget_is_right<R: Rules>(
+    past: &[Event<R>],
+    moment: u64,
+    number: u64,
+    answer: &Reply<R>,
+) -> bool
+    ensures { (n : ℕ) → (IsTrue result ↔ IsAnswer (R.protocol n) (reverse past.now) moment (Message.Forget number) answer.now) }
+{
+    is_forget::<R>(has_record::<R>(past, number), answer)
+}
+
+/// Whether a FateOf has the answer of the control cell.
+pub fn fate_is_right<R: Rules>(
+    past: &[Event<R>],
+    moment: u64,
+    number: u64,
+    answer: &Reply<R>,
+) -> bool
+    ensures { (n : ℕ) → (IsTrue result ↔ IsAnswer (R.protocol n) (reverse past.now) moment (Message.FateOf number) answer.now) }
+{
+    let recorded = has_record::<R>(past, number);
+    is_fate::<R>(recorded, fate_of::<R>(past, number), answer)
+}
