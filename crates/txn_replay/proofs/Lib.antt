@@ -6,4 +6,7 @@ pub mod Folding
 pub mod Sequences
 pub mod Advancing
 pub mod Times
-pub mod Unfit
+pub mod Holding
+pub mod Obstacles
+pub mod Numbering
+pub mod Ending

@@ -16,7 +16,6 @@ use Rattle.txn_core.specs.Cells.{Item, item}
 use Rattle.txn_replay.specs.declared.tracked.Tracked.{Tracked}
 use Rattle.txn_replay.specs.Items.{item_in, cell_in, last_in}
 use Rattle.txn_replay.specs.State.{IsShown, key_in}
-use Rattle.txn_replay.specs.Checked.{is_checked}
 use Rattle.txn_replay.proofs.Leaving.{some_key}
 
 module _ {K V A F C D Q B : Type 0} (S : Service K V A F C D Q B) (es : List (Entry K V A F D Q B)) (cat : C) (cat_is : cat ≡ (world S.core (effects es)).catalog) (t : Tracked K V) (shown : IsShown S (world S.core (effects es)) t) (m : Message K V A F D Q) (names : key_in S m ≡ Some t.key) (moment : ℕ) (a : Answer K V A F B) (b : Bool) where
@@ -83,18 +82,21 @@ module _ {K V A F C D Q B : Type 0} (S : Service K V A F C D Q B) (es : List (En
       (subst (λ k. IsTrue b ↔ (a ≡ begin_answer S.same_actions true k actions (record { moment = moment; number = (world S.core (effects es)).ledger.next }))) kept_is
       (subst (λ n. IsTrue b ↔ (a ≡ begin_answer S.same_actions true kept actions (record { moment = moment; number = n }))) number_is h))
 
--- no other message that names no item is checked
-pub other_unchecked : {K V A F C D Q B : Type 0} (S : Service K V A F C D Q B) (m : Message K V A F D Q) → key_in S m ≡ None → is_checked m ≡ true → ((token : Option (List ℕ)) (actions : List A) → m ≡ Message.Begin token actions → ⊥) → ((n : ℕ) (commit : Bool) (reasons : List (Reason V F)) → m ≡ Message.Decide n commit reasons → ⊥) → ((n : ℕ) → m ≡ Message.Done n → ⊥) → ((n : ℕ) → m ≡ Message.Forget n → ⊥) → ((n : ℕ) → m ≡ Message.FateOf n → ⊥) → ((n : ℕ) → m ≡ Message.Recall n → ⊥) → ((q : Q) → m ≡ Message.Ask q → ⊥) → ((q : Q) → m ≡ Message.QueryPage q → ⊥) → ((q : Q) → m ≡ Message.ScanPage q → ⊥) → ((source : ℕ) → m ≡ Message.PeekOut source → ⊥) → ((source sequence index : ℕ) (row_key : K) (after : Option V) → m ≡ Message.ApplyIndex source sequence index row_key after → ⊥) → ((source sequence : ℕ) → m ≡ Message.Ack source sequence → ⊥) → ⊥
-other_unchecked S (Message.Begin token actions) none so a b c d e f h i j k l m = a token actions refl
-other_unchecked S (Message.Decide n commit reasons) none so a b c d e f h i j k l m = b n commit reasons refl
-other_unchecked S (Message.Done n) none so a b c d e f h i j k l m = c n refl
-other_unchecked S (Message.Forget n) none so a b c d e f h i j k l m = d n refl
-other_unchecked S (Message.FateOf n) none so a b c d e f h i j k l m = e n refl
-other_unchecked S (Message.Recall n) none so a b c d e f h i j k l m = f n refl
-other_unchecked S (Message.Ask q) none so a b c d e f h i j k l m = h q refl
-other_unchecked S (Message.QueryPage q) none so a b c d e f h i j k l m = i q refl
-other_unchecked S (Message.ScanPage q) none so a b c d e f h i j k l m = j q refl
-other_unchecked S (Message.PeekOut source) none so a b c d e f h i j k l m = k source refl
-other_unchecked S (Message.ApplyIndex source sequence index row_key after) none so a b c d e f h i j k l m = l source sequence index row_key after refl
-other_unchecked S (Message.Ack source sequence) none so a b c d e f h i j k l m = m source sequence refl
-other_unchecked S _ none so a b c d e f h i j k l m = absurd (cc)
+-- every message that names no item is one of these
+pub other_named : {K V A F C D Q B : Type 0} (S : Service K V A F C D Q B) (m : Message K V A F D Q) → key_in S m ≡ None → ((token : Option (List ℕ)) (actions : List A) → m ≡ Message.Begin token actions → ⊥) → ((n : ℕ) (commit : Bool) (reasons : List (Reason V F)) → m ≡ Message.Decide n commit reasons → ⊥) → ((n : ℕ) → m ≡ Message.Done n → ⊥) → ((n : ℕ) → m ≡ Message.Forget n → ⊥) → ((n : ℕ) → m ≡ Message.FateOf n → ⊥) → ((n : ℕ) → m ≡ Message.Recall n → ⊥) → (m ≡ Message.Unfinished → ⊥) → ((q : Q) → m ≡ Message.Ask q → ⊥) → ((q : Q) → m ≡ Message.QueryPage q → ⊥) → ((q : Q) → m ≡ Message.ScanPage q → ⊥) → ((cell : ℕ) → m ≡ Message.Pendings cell → ⊥) → ((d : D) → m ≡ Message.Command d → ⊥) → ((source : ℕ) → m ≡ Message.PeekOut source → ⊥) → ((source sequence index : ℕ) (row_key : K) (after : Option V) → m ≡ Message.ApplyIndex source sequence index row_key after → ⊥) → ((source sequence : ℕ) → m ≡ Message.Ack source sequence → ⊥) → ⊥
+other_named S (Message.Begin token actions) none h0 h1 h2 h3 h4 h5 h6 h7 h8 h9 h10 h11 h12 h13 h14 = h0 token actions refl
+other_named S (Message.Decide n commit reasons) none h0 h1 h2 h3 h4 h5 h6 h7 h8 h9 h10 h11 h12 h13 h14 = h1 n commit reasons refl
+other_named S (Message.Done n) none h0 h1 h2 h3 h4 h5 h6 h7 h8 h9 h10 h11 h12 h13 h14 = h2 n refl
+other_named S (Message.Forget n) none h0 h1 h2 h3 h4 h5 h6 h7 h8 h9 h10 h11 h12 h13 h14 = h3 n refl
+other_named S (Message.FateOf n) none h0 h1 h2 h3 h4 h5 h6 h7 h8 h9 h10 h11 h12 h13 h14 = h4 n refl
+other_named S (Message.Recall n) none h0 h1 h2 h3 h4 h5 h6 h7 h8 h9 h10 h11 h12 h13 h14 = h5 n refl
+other_named S Message.Unfinished none h0 h1 h2 h3 h4 h5 h6 h7 h8 h9 h10 h11 h12 h13 h14 = h6 refl
+other_named S (Message.Ask q) none h0 h1 h2 h3 h4 h5 h6 h7 h8 h9 h10 h11 h12 h13 h14 = h7 q refl
+other_named S (Message.QueryPage q) none h0 h1 h2 h3 h4 h5 h6 h7 h8 h9 h10 h11 h12 h13 h14 = h8 q refl
+other_named S (Message.ScanPage q) none h0 h1 h2 h3 h4 h5 h6 h7 h8 h9 h10 h11 h12 h13 h14 = h9 q refl
+other_named S (Message.Pendings cell) none h0 h1 h2 h3 h4 h5 h6 h7 h8 h9 h10 h11 h12 h13 h14 = h10 cell refl
+other_named S (Message.Command d) none h0 h1 h2 h3 h4 h5 h6 h7 h8 h9 h10 h11 h12 h13 h14 = h11 d refl
+other_named S (Message.PeekOut source) none h0 h1 h2 h3 h4 h5 h6 h7 h8 h9 h10 h11 h12 h13 h14 = h12 source refl
+other_named S (Message.ApplyIndex source sequence index row_key after) none h0 h1 h2 h3 h4 h5 h6 h7 h8 h9 h10 h11 h12 h13 h14 = h13 source sequence index row_key after refl
+other_named S (Message.Ack source sequence) none h0 h1 h2 h3 h4 h5 h6 h7 h8 h9 h10 h11 h12 h13 h14 = h14 source sequence refl
+other_named S _ none h0 h1 h2 h3 h4 h5 h6 h7 h8 h9 h10 h11 h12 h13 h14 = absurd (cc)

@@ -1,10 +1,11 @@
 -- Lists that are written or made one after the other.
 use Rattle.std.proofs.Common.{◌≡◌, ◌⊎◌, inl, inr, ℕ, suc, ◌+◌, ◌<◌, ◌≤◌, Bool, true, ◌&&◌, List, [], ◌∷◌, ◌++◌, length, map, take, drop, get_or, Option, None, Some, refl, sym, ap, ◌∙◌, subst, arith}
+use Rattle.std.specs.Prelude.{All}
 use Rattle.std.specs.List.{list_all}
 use Rattle.std.proofs.Math.ListN.{set}
 use Rattle.std.proofs.Math.Seq.{drop-cons}
 use Rattle.std.proofs.lemmas.Bool.{cases_lt}
-use Rattle.std.proofs.lemmas.List.{get_or-map, get_or_push, get_or_append_left, get_or_past, append-nil, length-map, drop_all}
+use Rattle.std.proofs.lemmas.List.{get_or-map, get_or_push, get_or_append_left, get_or_past, get_or_default, append-nil, length-map, drop_all}
 use Rattle.std.proofs.lemmas.List.Edits.{map_over_more}
 use Rattle.txn_core.specs.declared.entry.Entry.{Entry}
 use Rattle.txn_core.specs.Service.{Service}
@@ -61,3 +62,13 @@ written_back n xs items same all =
     ap (λ l. take n (xs ++ l)) (drop_all (length xs) items (omega arith))
     ∙ ap (λ l. take n l) (append-nil xs)
     ∙ whole xs n (omega arith) (omega arith)
+
+module _ {X : Type 0} (T : X → Type 0) (xs : List X) (i : ℕ) (x : X) (lt : i < length xs) (is : x ≡ get_or xs i x) where
+  pub each_not : (T x → ⊥) → All T xs → ⊥
+  each_not no' all = no' (subst T (sym is) (all i x lt))
+
+  pub each_more : T x → ((k : ℕ) → k < i → (d : X) → T (get_or xs k d)) → (k : ℕ) → k < i + 1 → (d : X) → T (get_or xs k d)
+  each_more now before k less d = elim (cases_lt k i) [
+    | inl l ↦ before k l d
+    | inr g ↦ (let at : i ≡ k = omega arith in subst (λ j. T (get_or xs j d)) at (subst T (is ∙ get_or_default xs i x d lt) now))
+  ]

@@ -1,12 +1,14 @@
 -- What a replay knows of the state after the entries before a place: the catalog, and of each entry that names an item, that
 -- item and its cell.
-use Rattle.std.specs.Prelude.{◌≡◌, ℕ, ◌==◌, ◌<◌, ◌+◌, ◌^◌, Bool, true, false, IfSome, map, reverse, take, slice_index_or, List, ◌∷◌, Option, None, Some, if◌then◌else◌}
+use Rattle.std.specs.Prelude.{◌≡◌, ℕ, ◌==◌, ◌<◌, ◌+◌, ◌^◌, Bool, true, false, not, ◌&&◌, nat_eq, is_some, IfSome, map, reverse, take, slice_index_or, List, [], ◌∷◌, Option, None, Some, if◌then◌else◌}
+use Rattle.std.specs.List.{list_any}
 use Rattle.txn_core.specs.declared.message.Message.{Message}
+use Rattle.txn_core.specs.declared.answer.HeldItem.{HeldItem}
 use Rattle.txn_core.specs.declared.entry.Entry.{Entry}
 use Rattle.txn_core.specs.Protocol.{Protocol}
 use Rattle.txn_core.specs.Service.{Service}
 use Rattle.txn_core.specs.Effects.{Effect, Quiet}
-use Rattle.txn_core.specs.World.{Pending, World, here, kept_or, world}
+use Rattle.txn_core.specs.World.{Pending, World, holder, here, kept_or, world}
 use Rattle.txn_core.specs.History.{effect, effects}
 use Rattle.txn_core.specs.Cells.{item}
 use Rattle.txn_replay.specs.declared.tracked.Tracked.{Tracked}
@@ -90,3 +92,19 @@ is_command _ = false
 abbrev pub Advances : {K V A F C D Q B : Type 0} → Service K V A F C D Q B → List (Option K) → List (Effect K A D) → ℕ → Entry K V A F D Q B → C → List (Option (Tracked K V)) → C → List (Option (Tracked K V)) → Type 0
 Advances S keys es place e now slots next after =
     is_command e.message ≡ false → slice_index_or keys place None ≡ key_in S e.message → IsState S keys (world S.core es) now slots → IsState S keys (world S.core (effect e ∷ es)) next after
+
+module _ {K V A F C D : Type 0} (P : Protocol K V A F C D) where
+  -- who holds the item, where this is its slot
+  abbrev pub held_as : K → Option (Tracked K V) → Option ℕ
+  held_as key None = None
+  held_as key (Some t) = if P.same t.key key then holder (item_in t.item).pend else None
+
+  -- the slot's item is held in the cell, and isn't among these
+  abbrev pub untold : ℕ → List (HeldItem K) → Option (Tracked K V) → Bool
+  untold cell pendings None = false
+  untold cell pendings (Some t) = nat_eq t.home cell && (is_some (item_in t.item).pend && not (list_any (λ p. P.same p.key t.key) pendings))
+
+  -- no two of these are one item
+  abbrev pub are_once : List (HeldItem K) → Bool
+  are_once [] = true
+  are_once (x ∷ xs) = not (list_any (λ y. P.same x.key y.key) xs) && are_once xs

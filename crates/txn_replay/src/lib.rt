@@ -1,19 +1,36 @@
 //! Replays a list of entries and finds where it stops being a legal history.
+//!
+//! [`replay_check`] goes along the entries, in order of time, and keeps what the cells hold: the
+//! catalog, and of each item that an entry names, its row, its stamp, its version, who holds it,
+//! and what its cell counts. What the ledger says of a transaction, and what a token is kept with,
+//! is read off the entries before. So each answer is compared with the one that the definition of
+//! legal histories asks for; what may be sent is asked of `sending_check` of [`txn_core`].
+//!
+//! The definitions stand in `specs/`: `Ends` says how a replay ends, in the words of `txn_core`,
+//! and `Ways` what is asked of commands. `Items`, `State`, `Folds` and `Kept` say what the steps
+//! keep.
 #![tactic(auto)]
 
-pub mod board;
-pub mod change;
-pub mod effect;
-pub mod equal;
-pub mod items;
-pub mod ledger;
-pub mod lists;
-pub mod others;
-pub mod plain;
-pub mod records;
-pub mod replay;
-pub mod reply;
-pub mod slots;
-pub mod timely;
-pub mod token;
-pub mod tracked;
+mod board;
+mod change;
+mod commands;
+mod effect;
+mod equal;
+mod holds;
+mod items;
+mod ledger;
+mod lists;
+mod others;
+mod plain;
+mod records;
+mod replay;
+mod reply;
+mod slots;
+mod timely;
+mod token;
+mod tracked;
+
+pub use replay::{ReplayEnd, replay_check};
+
+#[cfg(test)]
+mod tests;

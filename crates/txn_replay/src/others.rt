@@ -1,22 +1,23 @@
 //! The answers to messages that name no item.
-ghost use Rattle.std.specs.Prelude.{◌≡◌, ◌↔◌, ◌≤◌, ℕ, IfOk, IsTrue, List, Option, None, true, reverse};
+ghost use Rattle.std.specs.Prelude.{◌≡◌, ◌↔◌, ◌≤◌, ℕ, IfOk, IsTrue, List, Option, None, reverse};
 ghost use Rattle.txn_core.specs.World.{world};
 ghost use Rattle.txn_core.specs.History.{effects};
 ghost use Rattle.txn_core.specs.Legal.{IsAnswer};
 ghost use Rattle.txn_replay.specs.State.{key_in, IsState};
-ghost use Rattle.txn_replay.specs.Checked.{is_checked};
+ghost use Rattle.txn_replay.specs.Ways.{ConcernsItems};
 
 use crate::board::State;
+use crate::commands::is_command_answer;
+use crate::holds::are_pendings_right;
 use crate::plain::{is_ack, is_ask, is_fed, is_page, is_peek};
 use crate::records::{
     begin_is_right, decide_is_right, done_is_right, fate_is_right, forget_is_right,
-    recall_is_right,
+    recall_is_right, unfinished_is_right,
 };
 use std::alloc::{AllocError as NoMemory, Global};
 use txn_core::{Event, Message, Rules};
 
-/// Whether a message that names no item has the answer of the cells; true where its answer isn't
-/// checked.
+/// Whether a message that names no item has the answer of the cells.
 pub fn other_is_right<R: Rules>(
     alloc: Global,
     partitions: u32,
@@ -25,7 +26,7 @@ pub fn other_is_right<R: Rules>(
     entry: &Event<R>,
 ) -> Result<bool, NoMemory>
     requires { 1 ≤ partitions }
-    ensures { IfOk result (λ right. (keys : List (Option R.Key)) → IsState (R.protocol partitions) keys (world (R.protocol partitions).core (effects (reverse past.now))) board.now.catalog board.now.slots.items → key_in (R.protocol partitions) entry.now.message ≡ None → is_checked entry.now.message ≡ true → (IsTrue right ↔ IsAnswer (R.protocol partitions) (reverse past.now) entry.now.moment entry.now.message entry.now.answer)) }
+    ensures { IfOk result (λ right. (keys : List (Option R.Key)) → IsState (R.protocol partitions) keys (world (R.protocol partitions).core (effects (reverse past.now))) board.now.catalog board.now.slots.items → key_in (R.protocol partitions) entry.now.message ≡ None → ConcernsItems (R.protocol partitions) → (IsTrue right ↔ IsAnswer (R.protocol partitions) (reverse past.now) entry.now.moment entry.now.message entry.now.answer)) }
 {
     let catalog = &board.catalog;
     let answer = &entry.answer;
@@ -46,9 +47,17 @@ pub fn other_is_right<R: Rules>(
         Message::Forget { number } => Ok(forget_is_right::<R>(past, moment, *number, answer)),
         Message::FateOf { number } => Ok(fate_is_right::<R>(past, moment, *number, answer)),
         Message::Recall { number } => Ok(recall_is_right::<R>(past, moment, *number, answer)),
+        Message::Unfinished => unfinished_is_right::<R>(alloc, past, moment, answer),
         Message::Ask { question } => is_ask::<R>(alloc, catalog, question, answer),
         Message::QueryPage { page } => Ok(is_page::<R>(R::serves(catalog, page), answer)),
         Message::ScanPage { page } => Ok(is_page::<R>(R::serves(catalog, page), answer)),
+        Message::Pendings { cell } => {
+            Ok(are_pendings_right::<R>(partitions, board.slots.as_slice(), *cell, answer))
+        }
+        Message::Command { command } => {
+            let slots = board.slots.as_slice();
+            is_command_answer::<R>(alloc, catalog, slots, command, moment, answer)
+        }
         Message::PeekOut { source } => Ok(is_peek::<R>(partitions, *source, answer)),
         Message::ApplyIndex {
             source: _source,
@@ -61,6 +70,6 @@ pub fn other_is_right<R: Rules>(
             source,
             sequence: _sequence,
         } => Ok(is_ack::<R>(partitions, *source, answer)),
-        _ => Ok(true),
+        _ => Ok(false),
     }
 }

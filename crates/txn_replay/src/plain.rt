@@ -79,7 +79,7 @@ fn is_acked<R: Rules>(answer: &Reply<R>) -> bool
 }
 
 /// Whether a number is that of a partition.
-fn is_partition<R: Rules>(partitions: u32, cell: u32) -> bool
+pub fn is_partition<R: Rules>(partitions: u32, cell: u32) -> bool
     requires { 1 ≤ partitions }
     ensures { IsTrue result ↔ (cell < (R.protocol partitions).control) }
 {

@@ -1,9 +1,12 @@
 //! The answers of the control cell about transactions.
-ghost use Rattle.std.specs.Prelude.{◌≡◌, ◌↔◌, ℕ, IsTrue, List, reverse};
+ghost use Rattle.std.specs.Prelude.{◌≡◌, ◌↔◌, ◌++◌, ◌∷◌, [], ℕ, IfOk, IsTrue, List, reverse, if◌then◌else◌};
 ghost use Rattle.std.specs.List.{list_all};
 ghost use Rattle.txn_core.specs.World.{world};
-ghost use Rattle.txn_core.specs.History.{effects, reasons_of};
+ghost use Rattle.txn_core.specs.History.{effect, effects, reasons_of};
+ghost use Rattle.txn_core.specs.Answers.{unfinished};
 ghost use Rattle.txn_core.specs.Legal.{IsAnswer};
+ghost use Rattle.txn_core.specs.declared.answer.Answer.{Answer};
+ghost use Rattle.txn_replay.specs.Folds.{done_by};
 ghost use Rattle.txn_core.specs.declared.message.Message.{Message};
 ghost use Rattle.txn_core.specs.declared.reason.Reason.{Reason};
 
@@ -13,7 +16,8 @@ use crate::reply::{is_begin, is_decide, is_done, is_fate, is_forget, is_recall};
 use crate::token::found;
 use expr_lexer::Text;
 
-use txn_core::{Event, Reason, Rules, Stamp};
+use std::alloc::{AllocError as NoMemory, Global};
+use txn_core::{Answer, Event, Message, Reason, Rules, Stamp};
 
 /// Whether the catalog has the table of each action.
 fn are_there<R: Rules>(catalog: &R::Catalog, actions: &[R::Action]) -> bool
@@ -123,4 +127,69 @@ pub fn fate_is_right<R: Rules>(
 {
     let recorded = has_record::<R>(past, number);
     is_fate::<R>(recorded, fate_of::<R>(past, number), answer)
+}
+
+/// Whether the entry finishes the number, or an older one did.
+fn done_or<R: Rules>(entry: &Event<R>, number: u64, older: bool) -> bool
+    ensures { result ≡ done_by number (effect entry.now) older }
+{
+    match (&entry.message, &entry.answer) {
+        (Message::Done { number: done }, Answer::Finished) if *done == number => true,
+        _ => older,
+    }
+}
+
+/// Whether the number is done.
+fn is_finished<R: Rules>(past: &[Event<R>], number: u64) -> bool
+    ensures { (n : ℕ) → result ≡ (world (R.protocol n).core (effects (reverse past.now))).ledger.done number }
+{
+    let mut found = false;
+    for entry in past {
+        found = done_or::<R>(entry, number, found);
+    }
+    found
+}
+
+/// Notes the number, unless it is done.
+fn note_unless(numbers: &mut Vec<u64>, number: u64, done: bool) -> Result<(), NoMemory>
+    ensures { IfOk result (λ _. numbers.new.items ≡ (if done then numbers.old.items else numbers.old.items ++ number ∷ [])) }
+{
+    if !done {
+        numbers.push(number)?;
+    }
+    Ok(())
+}
+
+/// The numbers that are begun and not done, ascending.
+fn unfinished<R: Rules>(alloc: Global, past: &[Event<R>]) -> Result<Vec<u64>, NoMemory>
+    ensures { IfOk result (λ numbers. (n : ℕ) → numbers.items ≡ unfinished (world (R.protocol n).core (effects (reverse past.now))).ledger) }
+{
+    let next = next_of::<R>(past);
+    let mut numbers = Vec::new(alloc);
+    for number in 1..next {
+        note_unless(&mut numbers, number, is_finished::<R>(past, number))?;
+    }
+    Ok(numbers)
+}
+
+fn are_numbers<R: Rules>(numbers: &[u64], answer: &Reply<R>) -> bool
+    ensures { IsTrue result ↔ (answer.now ≡ Answer.Numbers numbers.now) }
+{
+    match answer {
+        Answer::Numbers { numbers: told } => told.as_slice() == numbers,
+        _ => false,
+    }
+}
+
+/// Whether an Unfinished has the answer of the control cell.
+pub fn unfinished_is_right<R: Rules>(
+    alloc: Global,
+    past: &[Event<R>],
+    moment: u64,
+    answer: &Reply<R>,
+) -> Result<bool, NoMemory>
+    ensures { IfOk result (λ right. (n : ℕ) → (IsTrue right ↔ IsAnswer (R.protocol n) (reverse past.now) moment Message.Unfinished answer.now)) }
+{
+    let numbers = unfinished::<R>(alloc, past)?;
+    Ok(are_numbers::<R>(numbers.as_slice(), answer))
 }

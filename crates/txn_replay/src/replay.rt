@@ -1,21 +1,32 @@
-//! The first entry whose answer, cell or moment doesn't fit those before it.
-ghost use Rattle.std.specs.Prelude.{◌≡◌, ◌↔◌, ◌≤◌, ◌<◌, ◌^◌, true, IfOk, IsTrue, List, Option, None, MatchOption, length, reverse, slice_index_or};
+//! The first entry at which a list stops being a legal history.
+ghost use Rattle.std.specs.Prelude.{◌≡◌, ◌↔◌, ◌≤◌, ◌<◌, ◌^◌, [], ◌∷◌, IfOk, IfSome, IsTrue, List, Option, None, MatchOption, length, reverse, slice_index_or};
 ghost use Rattle.txn_core.specs.World.{world};
 ghost use Rattle.txn_core.specs.History.{effects};
 ghost use Rattle.txn_core.specs.Legal.{IsAnswer};
+ghost use Rattle.txn_core.specs.Breaks.{IsRight, AllKeep, IsFirstBreak};
+ghost use Rattle.txn_core.specs.declared.kind.BreakKind.TheVariants.{WrongAnswer};
 ghost use Rattle.txn_replay.specs.State.{key_in, IsState};
-ghost use Rattle.txn_replay.specs.Checked.{is_checked, IsFit, AllFit, IsFirstUnfit};
+ghost use Rattle.txn_replay.specs.Ways.{ConcernsItems};
+ghost use Rattle.txn_replay.specs.Ends.{ends_at, EndsRight};
 
 use crate::board::{State, begin, step};
 use crate::items::item_is_right;
 use crate::others::other_is_right;
 use crate::plain::{is_at, sent_to};
-use crate::slots::Asked;
 use crate::timely::is_timely;
 use std::alloc::{AllocError as NoMemory, Global};
-use txn_core::{Event, Message, Rules};
+use txn_core::{Break, BreakKind, Event, Rules, sending_check};
 
-/// Whether the answer of the entry is that of the cells, where it is checked.
+/// Why a replay did not come to the end of its list.
+#[derive(Clone, Copy, PartialEq, Eq, Debug, Drop)]
+pub enum ReplayEnd {
+    /// The list stops being legal here.
+    Break(Break),
+    /// The allocator refused memory.
+    NoMemory,
+}
+
+/// Whether the answer of the entry is that of the cells.
 fn answer_is_right<R: Rules>(
     alloc: Global,
     partitions: u32,
@@ -26,7 +37,7 @@ fn answer_is_right<R: Rules>(
 ) -> Result<bool, NoMemory>
     requires some { 1 ≤ partitions }
     requires within { place < length board.now.slots.items }
-    ensures { IfOk result (λ right. (keys : List (Option R.Key)) → IsState (R.protocol partitions) keys (world (R.protocol partitions).core (effects (reverse past.now))) board.now.catalog board.now.slots.items → slice_index_or keys place None ≡ key_in (R.protocol partitions) entry.now.message → is_checked entry.now.message ≡ true → (IsTrue right ↔ IsAnswer (R.protocol partitions) (reverse past.now) entry.now.moment entry.now.message entry.now.answer)) }
+    ensures { IfOk result (λ right. (keys : List (Option R.Key)) → IsState (R.protocol partitions) keys (world (R.protocol partitions).core (effects (reverse past.now))) board.now.catalog board.now.slots.items → slice_index_or keys place None ≡ key_in (R.protocol partitions) entry.now.message → ConcernsItems (R.protocol partitions) → (IsTrue right ↔ IsAnswer (R.protocol partitions) (reverse past.now) entry.now.moment entry.now.message entry.now.answer)) }
 {
     match &board.slots[place] {
         Some(tracked) => item_is_right::<R>(alloc, &board.catalog, tracked, entry),
@@ -34,20 +45,8 @@ fn answer_is_right<R: Rules>(
     }
 }
 
-/// Whether the answer to such a message is checked.
-fn is_checked<R: Rules>(message: &Asked<R>) -> bool
-    ensures { result ≡ is_checked message.now }
-{
-    match message {
-        Message::Command { .. } => false,
-        Message::Pendings { .. } => false,
-        Message::Unfinished => false,
-        _ => true,
-    }
-}
-
-/// Whether the answer of the entry, where it is checked, its cell and its moment fit.
-fn is_fit<R: Rules>(
+/// Whether the answer of the entry, its cell and its moment are right.
+fn is_right<R: Rules>(
     alloc: Global,
     partitions: u32,
     board: &State<R>,
@@ -57,7 +56,7 @@ fn is_fit<R: Rules>(
 ) -> Result<bool, NoMemory>
     requires some { 1 ≤ partitions }
     requires within { place < length board.now.slots.items }
-    ensures { IfOk result (λ fit. (keys : List (Option R.Key)) → IsState (R.protocol partitions) keys (world (R.protocol partitions).core (effects (reverse past.now))) board.now.catalog board.now.slots.items → slice_index_or keys place None ≡ key_in (R.protocol partitions) entry.now.message → (IsTrue fit ↔ IsFit (R.protocol partitions) (reverse past.now) entry.now)) }
+    ensures { IfOk result (λ right. (keys : List (Option R.Key)) → IsState (R.protocol partitions) keys (world (R.protocol partitions).core (effects (reverse past.now))) board.now.catalog board.now.slots.items → slice_index_or keys place None ≡ key_in (R.protocol partitions) entry.now.message → ConcernsItems (R.protocol partitions) → (IsTrue right ↔ IsRight (R.protocol partitions) (reverse past.now) entry.now)) }
 {
     if !is_timely::<R>(past, entry.pass, entry.moment) {
         return Ok(false);
@@ -65,36 +64,70 @@ fn is_fit<R: Rules>(
     if !is_at(entry.cell, sent_to::<R>(partitions, &entry.message)) {
         return Ok(false);
     }
-    if !is_checked::<R>(&entry.message) {
-        return Ok(true);
-    }
     answer_is_right::<R>(alloc, partitions, board, place, past, entry)
 }
 
-/// The first of these entries, in order of time, whose answer isn't the one that its cell gives
-/// after those before it, that is at another cell than its message's, or whose moment is before its
-/// pass's last; none where each fits. The answers to a command, a Pendings and an Unfinished are
-/// taken as they stand.
-///
-/// Together with [`sending_check`](txn_core::sending_check), which asks what may be sent and takes
-/// every answer as it stands, this is a checker for tests and tools. It keeps an item for each
-/// entry, and takes at most the square of the number of entries in steps, where the actions of a
-/// transaction, 100 at most, count as one step. `NoMemory` comes where the allocator refuses.
-pub fn first_unfit<R: Rules>(
+/// The first place at which an answer, a cell or a moment is wrong.
+fn first_wrong<R: Rules>(
     alloc: Global,
     partitions: u32,
     entries: &[Event<R>],
 ) -> Result<Option<usize>, NoMemory>
     requires some { 1 ≤ partitions }
     requires room { length entries.now < 2 ^ 64 }
-    ensures { IfOk result (λ found. MatchOption found (AllFit (R.protocol partitions) (reverse entries.now)) (λ place. IsFirstUnfit (R.protocol partitions) entries.now place)) }
+    ensures { IfOk result (λ found. ConcernsItems (R.protocol partitions) → MatchOption found (AllKeep (R.protocol partitions) (WrongAnswer ∷ []) (reverse entries.now)) (λ place. IsFirstBreak (R.protocol partitions) (WrongAnswer ∷ []) entries.now place WrongAnswer)) }
 {
     let mut board = begin::<R>(alloc, partitions, entries)?;
     for (place, entry) in entries.iter().enumerate() {
-        if !is_fit::<R>(alloc, partitions, &board, place, &entries[..place], entry)? {
+        if !is_right::<R>(alloc, partitions, &board, place, &entries[..place], entry)? {
             return Ok(Some(place));
         }
         step::<R>(alloc, partitions, &mut board, entries, place)?;
     }
     Ok(None)
+}
+
+/// The number of entries up to this break, and all of them where there is none.
+fn up_to(sent: Option<Break>, many: usize) -> usize
+    requires { IfSome sent (λ found. found.place < many) }
+    ensures { result ≡ ends_at many sent }
+{
+    match sent {
+        Some(found) => found.place + 1,
+        None => many,
+    }
+}
+
+/// Replays the entries, in order of time: Ok where they are a legal history for so many
+/// partitions, else the first place at which they are not, with the first rule that its entry
+/// breaks. The rule of answers is asked first, then those of what may be sent.
+///
+/// This holds of rules under which a command concerns an item however its key is written:
+/// [`Rules`] asks that of the other members, and not yet of `concerns`.
+///
+/// A checker for tests and tools. It keeps an item for each entry, and takes at most the square of
+/// the size of the list in steps, the items that its answers list counted, where the actions of a
+/// transaction, 100 at most, count as one step; but each Unfinished takes a step for each number
+/// that was begun and each entry before. `NoMemory` comes where the allocator refuses.
+pub fn replay_check<R: Rules>(
+    alloc: Global,
+    partitions: u32,
+    entries: &[Event<R>],
+) -> Result<(), ReplayEnd>
+    requires { 1 ≤ partitions }
+    ensures { ConcernsItems (R.protocol partitions) → EndsRight (R.protocol partitions) entries.now result }
+{
+    let sent = sending_check::<R>(partitions, entries);
+    let end = up_to(sent, entries.len());
+    match first_wrong::<R>(alloc, partitions, &entries[..end]) {
+        Ok(Some(place)) => Err(ReplayEnd::Break(Break {
+            place,
+            kind: BreakKind::WrongAnswer,
+        })),
+        Ok(None) => match sent {
+            Some(found) => Err(ReplayEnd::Break(found)),
+            None => Ok(()),
+        },
+        Err(_) => Err(ReplayEnd::NoMemory),
+    }
 }

@@ -1,5 +1,5 @@
 //! What a replay keeps of each item that the entries name.
-ghost use Rattle.std.specs.Prelude.{◌≡◌, IfOk};
+ghost use Rattle.std.specs.Prelude.{◌≡◌, IfOk, is_some};
 ghost use Rattle.txn_core.specs.World.{holder};
 ghost use Rattle.txn_replay.specs.Items.{pending, item_in, cell_in, last_in};
 
@@ -63,6 +63,16 @@ impl<V> ItemState<V> {
         match &self.hold {
             Some(hold) => Some(hold.number),
             None => None,
+        }
+    }
+
+    /// Whether a transaction holds the item.
+    pub fn is_held(&self) -> bool
+        ensures { result ≡ is_some (item_in self.now).pend }
+    {
+        match &self.hold {
+            Some(_hold) => true,
+            None => false,
         }
     }
 

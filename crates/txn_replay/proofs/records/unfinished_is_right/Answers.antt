@@ -1,0 +1,7 @@
+use Rattle.std.proofs.Common.{◌≡◌, ◌∙◌, subst}
+use Rattle.std.specs.Prelude.{◌↔◌, IsTrue}
+use Rattle.txn_core.specs.declared.answer.Answer.{Answer}
+use Rattle.txn_replay.proofs.records.unfinished_is_right.Goals as goal
+
+pub returns : goal.returns
+returns g c = λ n. subst (λ xs. IsTrue c.are_numbers.result ↔ (c.args.answer.now ≡ Answer.Numbers xs)) (c.as_slice.ensures.value ∙ c.in_ok-numbers.ensures n) c.are_numbers.ensures

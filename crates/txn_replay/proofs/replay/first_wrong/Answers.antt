@@ -1,0 +1,30 @@
+use Rattle.std.proofs.Common.{◌≡◌, inl, [], length, take, get_or, None, refl, sym, ◌∙◌, arith}
+use Rattle.txn_core.specs.declared.kind.BreakKind.TheVariants.{WrongAnswer}
+use Rattle.txn_core.proofs.Basics.{true_false}
+use Rattle.txn_core.proofs.Breaking.{first_break, keeps_more, keeps_whole}
+use Rattle.txn_replay.specs.State.{keys_of, key_in}
+use Rattle.txn_replay.proofs.Sequences.{key_at}
+use Rattle.txn_replay.proofs.Ending.{of_answers}
+use Rattle.txn_replay.proofs.replay.first_wrong.Goals as goal
+
+pub loop-place-init : goal.loop-place-init
+loop-place-init g c = record { right = λ by_item. tt; len = c.in_ok-board.ensures.len; state = c.in_ok-board.ensures.state }
+
+pub loop-place-preserved : goal.loop-place-preserved
+loop-place-preserved g c =
+    let at : get_or (keys_of (g.R.Rules.protocol c.args.partitions) c.args.entries.now) c.loop-place.place None ≡ key_in (g.R.Rules.protocol c.args.partitions) c.index-entries-place.result.message = key_at (g.R.Rules.protocol c.args.partitions) c.args.entries.now c.loop-place.place c.index-entries-place.result (omega arith) c.index-entries-place.is in
+    record {
+      right = λ by_item.
+          keeps_more (g.R.Rules.protocol c.args.partitions) of_answers c.args.entries.now c.loop-place.place c.index-entries-place.result (omega arith) c.index-entries-place.is (take c.loop-place.place c.args.entries.now) refl (c.loop-place.invariant.right by_item) ((c.in_ok-is_right.ensures (keys_of (g.R.Rules.protocol c.args.partitions) c.args.entries.now) c.loop-place.invariant.state at by_item).0 c.if-not-branch.false, tt);
+      len = c.in_ok-step.ensures.len;
+      state = c.in_ok-step.ensures.state;
+    }
+
+pub returns-then-not-branch : goal.returns-then-not-branch
+returns-then-not-branch g c =
+    let at : get_or (keys_of (g.R.Rules.protocol c.args.partitions) c.args.entries.now) c.loop-place.place None ≡ key_in (g.R.Rules.protocol c.args.partitions) c.index-entries-place.result.message = key_at (g.R.Rules.protocol c.args.partitions) c.args.entries.now c.loop-place.place c.index-entries-place.result (omega arith) c.index-entries-place.is in
+    λ by_item. first_break (g.R.Rules.protocol c.args.partitions) of_answers c.args.entries.now c.loop-place.place c.index-entries-place.result (omega arith) c.index-entries-place.is (take c.loop-place.place c.args.entries.now) refl (c.loop-place.invariant.right by_item) WrongAnswer
+    (inl (refl, λ right. true_false _ ((c.in_ok-is_right.ensures (keys_of (g.R.Rules.protocol c.args.partitions) c.args.entries.now) c.loop-place.invariant.state at by_item).1 right) c.if-not-branch.true))
+
+pub returns : goal.returns
+returns g c = λ by_item. keeps_whole (g.R.Rules.protocol c.args.partitions) of_answers c.args.entries.now c.loop-place.place (omega arith) (omega arith) (c.loop-place.invariant.right by_item)
