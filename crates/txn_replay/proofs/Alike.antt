@@ -47,9 +47,9 @@ module _ {K V A F C D : Type 0} (P : Protocol K V A F C D) (law : IsLawful P) wh
   alike (Released n k ∷ es) x y same = released_alike (world P es) x y same (alike es x y same) k
   alike (Changed d moment ∷ es) x y same =
       λ j.
-          let z = alike es x y same j in
-          let cat = (world P es).catalog in
-          record { row = kept_or (law.one_place cat x y same j) (law.one_place (P.change d moment cat) x y same j) z.row (law.one_gift d cat x y same j); stamp = z.stamp; version = z.version; pend = z.pend }
+      let z = alike es x y same j in
+      let cat = (world P es).catalog in
+      record { row = kept_or (law.one_place cat x y same j) (law.one_place (P.change d moment cat) x y same j) z.row (law.one_gift d cat x y same j); stamp = z.stamp; version = z.version; pend = z.pend }
   alike (Commits n ∷ es) x y same = alike es x y same
   alike (Begun stamp actions ∷ es) x y same = alike es x y same
   alike (Cancels n ∷ es) x y same = alike es x y same

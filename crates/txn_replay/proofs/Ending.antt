@@ -46,9 +46,12 @@ module _ {K V A F C D Q B : Type 0} (S : Service K V A F C D Q B) where
           within = omega arith;
           before = both_keep (reverse (take place entries)) (subst (λ l. AllKeep S of_answers (reverse l)) shorter found.before) sending;
           broken = λ d.
-              inl (refl, λ keeps.
-              not_kept (reverse (take place entries)) (get_or entries place d)
-              (subst (λ l. IsFirstBroken S of_answers (reverse l) (get_or entries place d) WrongAnswer) shorter (subst (λ e. IsFirstBroken S of_answers (reverse (take place (take end entries))) e WrongAnswer) (get_or-take end entries place d lt) (found.broken d))) keeps);
+              inl (
+                refl,
+                λ keeps.
+                    not_kept (reverse (take place entries)) (get_or entries place d)
+                    (subst (λ l. IsFirstBroken S of_answers (reverse l) (get_or entries place d) WrongAnswer) shorter (subst (λ e. IsFirstBroken S of_answers (reverse (take place (take end entries))) e WrongAnswer) (get_or-take end entries place d lt) (found.broken d))) keeps,
+              );
         }
       where
         not_kept : (es : List (Entry K V A F D Q B)) (e : Entry K V A F D Q B) → IsFirstBroken S of_answers es e WrongAnswer → Keeps S es e WrongAnswer → ⊥

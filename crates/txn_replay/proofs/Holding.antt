@@ -70,8 +70,8 @@ module _ {K V A F C D : Type 0} (P : Protocol K V A F C D) (slots : List (Option
   none_more q i slot lt is before held so none k less = elim (cases_lt k i) [
     | inl l ↦ before k l
     | inr g ↦
-      let at : i ≡ k = omega arith in
-      subst (λ j. held_as P q (get_or slots j None) ≡ None) at (ap (λ s. held_as P q s) (get_or_default slots i None slot lt ∙ sym is) ∙ sym so ∙ none_of held none)
+        let at : i ≡ k = omega arith in
+        subst (λ j. held_as P q (get_or slots j None) ≡ None) at (ap (λ s. held_as P q s) (get_or_default slots i None slot lt ∙ sym is) ∙ sym so ∙ none_of held none)
   ]
 
   module _ (cell : ℕ) (pendings : List (HeldItem K)) (i : ℕ) where
@@ -79,8 +79,8 @@ module _ {K V A F C D : Type 0} (P : Protocol K V A F C D) (slots : List (Option
     untold_more slot lt is no' before k less = elim (cases_lt k i) [
       | inl l ↦ before k l
       | inr g ↦
-        let at : i ≡ k = omega arith in
-        subst (λ j. untold P cell pendings (get_or slots j None) ≡ false) at (ap (λ s. untold P cell pendings s) (get_or_default slots i None slot lt ∙ sym is) ∙ no')
+          let at : i ≡ k = omega arith in
+          subst (λ j. untold P cell pendings (get_or slots j None) ≡ false) at (ap (λ s. untold P cell pendings s) (get_or_default slots i None slot lt ∙ sym is) ∙ no')
     ]
 
     pub untold_all : length slots ≤ i → ((k : ℕ) → k < i → untold P cell pendings (get_or slots k None) ≡ false) → (k : ℕ) → untold P cell pendings (get_or slots k None) ≡ false

@@ -47,8 +47,8 @@ module _ (ways : ℕ → Option Obstacle) (i : ℕ) where
   first_step None (Some b) e h = (
     (i, e),
     λ k c less is. elim (cases_lt k i) [
-        | inl l ↦ none_some (ways k) c (h k l) is
-        | inr g ↦
+      | inl l ↦ none_some (ways k) c (h k l) is
+      | inr g ↦
           let at : i ≡ k = omega arith in
           let same : c ≡ b = some_is c b (sym is ∙ ap ways (sym at) ∙ e) in
           subst (λ z. is_before z b ≡ false) (sym same) (itself b.cell b.number)
@@ -63,8 +63,8 @@ module _ (ways : ℕ → Option Obstacle) (i : ℕ) where
       (λ yes'. (
         (i, e),
         λ k c less is. elim (cases_lt k i) [
-            | inl l ↦ onwards a.cell a.number b.cell b.number c.cell c.number yes' (h.1 k c l is)
-            | inr g ↦
+          | inl l ↦ onwards a.cell a.number b.cell b.number c.cell c.number yes' (h.1 k c l is)
+          | inr g ↦
               let at : i ≡ k = omega arith in
               let same : c ≡ b = some_is c b (sym is ∙ ap ways (sym at) ∙ e) in
               subst (λ z. is_before z b ≡ false) (sym same) (itself b.cell b.number)
@@ -73,8 +73,8 @@ module _ (ways : ℕ → Option Obstacle) (i : ℕ) where
       (λ no'. (
         h.0,
         λ k c less is. elim (cases_lt k i) [
-            | inl l ↦ h.1 k c l is
-            | inr g ↦
+          | inl l ↦ h.1 k c l is
+          | inr g ↦
               let at : i ≡ k = omega arith in
               let same : c ≡ b = some_is c b (sym is ∙ ap ways (sym at) ∙ e) in
               subst (λ z. is_before z a ≡ false) (sym same) no'

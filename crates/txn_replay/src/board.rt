@@ -55,7 +55,13 @@ fn change_catalog<R: Rules>(
         return Ok(());
     }
     let next = R::change(alloc, command, moment, &board.catalog)?;
-    move_rows::<R>(alloc, &board.catalog, &next, command, board.slots.as_mut_slice())?;
+    move_rows::<R>(
+        alloc,
+        &board.catalog,
+        &next,
+        command,
+        board.slots.as_mut_slice(),
+    )?;
     board.catalog = next;
     Ok(())
 }

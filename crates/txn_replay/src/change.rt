@@ -6,9 +6,7 @@ ghost use Rattle.txn_core.specs.Stamps.{later, single};
 ghost use Rattle.txn_core.specs.World.{image_or, stamp_or};
 ghost use Rattle.txn_replay.specs.Items.{pending, item_in, cell_in, last_in, cell_put, wrote, prepared, applied, released};
 
-use crate::tracked::{
-    Counters, Hold, ItemState, Tracked, copy_of_hold, copy_of_row,
-};
+use crate::tracked::{Counters, Hold, ItemState, Tracked, copy_of_hold, copy_of_row};
 use std::alloc::{AllocError as NoMemory, Global};
 use txn_core::{Outcome, Rules, Stamp};
 

@@ -63,11 +63,7 @@ pub fn is_get<R: Rules>(there: bool, row: &Option<R::Value>, answer: &Reply<R>) 
     }
 }
 
-fn are_written<R: Rules>(
-    old: &Option<R::Value>,
-    new: &Option<R::Value>,
-    answer: &Reply<R>,
-) -> bool
+fn are_written<R: Rules>(old: &Option<R::Value>, new: &Option<R::Value>, answer: &Reply<R>) -> bool
     ensures { IsTrue result ↔ (answer.now ≡ Answer.Written old.now new.now) }
 {
     match answer {

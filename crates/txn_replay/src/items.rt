@@ -55,7 +55,9 @@ fn prepare_is_right<R: Rules>(
     let there = R::is_there(catalog, R::key_of(action));
     let last = item.last(tracked.cell);
     let holding = item.holder();
-    Ok(is_prepare::<R>(there, holding, number, last, stamp, &item.row, &outcome, answer))
+    Ok(is_prepare::<R>(
+        there, holding, number, last, stamp, &item.row, &outcome, answer,
+    ))
 }
 
 fn version_is_right<R: Rules>(

@@ -14,7 +14,8 @@ fn fate_or<R: Rules>(entry: &Event<R>, number: u64, older: Fate) -> Fate
     match (&entry.message, &entry.answer) {
         (
             Message::Decide {
-                number: decided, ..
+                number: decided,
+                ..
             },
             Answer::Decided {
                 fate: Fate::Committed,
@@ -23,7 +24,8 @@ fn fate_or<R: Rules>(entry: &Event<R>, number: u64, older: Fate) -> Fate
         ) if *decided == number => Fate::Committed,
         (
             Message::Decide {
-                number: decided, ..
+                number: decided,
+                ..
             },
             Answer::Decided {
                 fate: Fate::Cancelled,

@@ -40,9 +40,7 @@ pub fn other_is_right<R: Rules>(
             number,
             commit,
             reasons: _reasons,
-        } => {
-            Ok(decide_is_right::<R>(past, moment, *number, *commit, answer))
-        }
+        } => { Ok(decide_is_right::<R>(past, moment, *number, *commit, answer)) }
         Message::Done { number } => Ok(done_is_right::<R>(past, moment, *number, answer)),
         Message::Forget { number } => Ok(forget_is_right::<R>(past, moment, *number, answer)),
         Message::FateOf { number } => Ok(fate_is_right::<R>(past, moment, *number, answer)),

@@ -49,7 +49,9 @@ fn is_out<R: Rules>(partitions: u32, answer: &Reply<R>) -> bool
 {
     match answer {
         Answer::Out {
-            target, row_key, ..
+            target,
+            row_key,
+            ..
         } => *target == R::cell_of(partitions, row_key),
         Answer::Empty => true,
         _ => false,

@@ -15,7 +15,6 @@ use crate::ledger::{actions_of, fate_of, has_record, next_of, stamp_of};
 use crate::reply::{is_begin, is_decide, is_done, is_fate, is_forget, is_recall};
 use crate::token::found;
 use expr_lexer::Text;
-
 use std::alloc::{AllocError as NoMemory, Global};
 use txn_core::{Answer, Event, Message, Reason, Rules, Stamp};
 

@@ -264,11 +264,7 @@ fn said(alloc: Global, line: Line) -> Result<Said, NoMemory> {
             },
         ),
         Line::Get(cell, item) => (Some(cell), Message::Get { key: 1 }, Answer::Row { item }),
-        Line::GetAt(_) => (
-            Some(1),
-            Message::Get { key: 1 },
-            Answer::Row { item: None },
-        ),
+        Line::GetAt(_) => (Some(1), Message::Get { key: 1 }, Answer::Row { item: None }),
         Line::Begin(number, moment) => begun(alloc, number, moment)?,
         Line::Pending(number) => pending(alloc, number)?,
         Line::Unfinished(number) => unfinished(alloc, number)?,
@@ -286,11 +282,7 @@ fn said(alloc: Global, line: Line) -> Result<Said, NoMemory> {
             },
         ),
         Line::Commit(number, first) => decided(alloc, number, first),
-        Line::Apply(number) => (
-            Some(1),
-            Message::Apply { number, key: 1 },
-            Answer::Applied,
-        ),
+        Line::Apply(number) => (Some(1), Message::Apply { number, key: 1 }, Answer::Applied),
         Line::Fate(number, fate) => (Some(16), Message::FateOf { number }, Answer::Is { fate }),
     })
 }

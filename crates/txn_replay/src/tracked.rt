@@ -81,7 +81,11 @@ impl<V> ItemState<V> {
     pub fn last(&self, cell: Counters) -> Stamp
         ensures { result ≡ last_in (cell_in cell) (item_in self.now) }
     {
-        if self.row.is_some() { self.stamp } else { cell.floor }
+        if self.row.is_some() {
+            self.stamp
+        } else {
+            cell.floor
+        }
     }
 }
 

@@ -15,10 +15,10 @@ returns g c =
     IfOk-weaker c.answer_is_right.result _ _
     (λ r h keys state at by_item. (
       λ t. record {
-            answer = (h keys state at by_item).0 t;
-            cell = subst (λ s. IsAt c.args.entry.now.cell s) c.sent_to.ensures (c.is_at.ensures.0 c.if-not-is_at.false);
-            timely = c.is_timely.ensures.0 c.if-not-is_timely.false;
-          },
+        answer = (h keys state at by_item).0 t;
+        cell = subst (λ s. IsAt c.args.entry.now.cell s) c.sent_to.ensures (c.is_at.ensures.0 c.if-not-is_at.false);
+        timely = c.is_timely.ensures.0 c.if-not-is_timely.false;
+      },
       λ right. (h keys state at by_item).1 right.answer,
     ))
     c.answer_is_right.ensures
