@@ -1,5 +1,5 @@
 -- Keys that stand for one item find the same item in every state.
-use Rattle.std.proofs.Common.{◌≡◌, ℕ, ◌+◌, Bool, true, false, List, [], ◌∷◌, Option, None, Some, is_some, if◌then◌else◌, refl, sym, ap, ◌∙◌, subst}
+use Rattle.std.proofs.Common.{◌≡◌, ℕ, ◌+◌, Bool, true, false, List, [], ◌∷◌, None, is_some, if◌then◌else◌, refl, sym, ◌∙◌}
 use Rattle.txn_core.specs.declared.stamp.Stamp.{Stamp}
 use Rattle.txn_core.specs.Stamps.{later, single}
 use Rattle.txn_core.specs.Protocol.{after, Protocol, IsLawful}

@@ -1,15 +1,14 @@
 -- The first break by all rules, from the first that a rule of answers finds and the first that those of sending find.
-use Rattle.std.proofs.Common.{◌≡◌, ◌⊎◌, inl, inr, ℕ, ◌+◌, ◌-◌, ◌<◌, ◌≤◌, List, [], ◌∷◌, ◌++◌, length, take, drop, get_or, reverse, Option, None, Some, refl, sym, ap, ◌∙◌, subst, arith}
+use Rattle.std.proofs.Common.{◌≡◌, inl, inr, ℕ, ◌+◌, ◌-◌, ◌<◌, ◌≤◌, List, [], ◌∷◌, ◌++◌, length, take, drop, get_or, reverse, Option, None, Some, refl, sym, ap, ◌∙◌, subst, arith}
 use Rattle.std.specs.Prelude.{MatchOption, IfSome}
 use Rattle.std.proofs.lemmas.List.{get_or-take, reverse-append, get_or_default, take-take}
 use Rattle.std.proofs.Math.Seq.{take-add, take-length}
-use Rattle.txn_core.specs.declared.message.Message.{Message}
 use Rattle.txn_core.specs.declared.entry.Entry.{Entry}
 use Rattle.txn_core.specs.declared.kind.BreakKind.{BreakKind}
 use Rattle.txn_core.specs.declared.replay.Break.{Break}
 use Rattle.txn_core.specs.declared.kind.BreakKind.TheVariants.{WrongAnswer}
 use Rattle.txn_core.specs.Service.{Service}
-use Rattle.txn_core.specs.Breaks.{Keeps, KeepsAll, IsFirstBroken, AllKeep, IsFirstBreak, of_sending, in_order}
+use Rattle.txn_core.specs.Breaks.{Keeps, IsFirstBroken, AllKeep, IsFirstBreak, of_sending, in_order}
 use Rattle.txn_core.proofs.Reversed.{newest}
 use Rattle.txn_replay.specs.Ends.{ends_at}
 

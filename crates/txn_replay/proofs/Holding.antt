@@ -1,8 +1,8 @@
 -- Who holds an item, read off the slots.
-use Rattle.std.proofs.Common.{◌≡◌, ◌⊎◌, inl, inr, ℕ, zero, suc, ◌+◌, ◌<◌, ◌≤◌, Bool, true, false, not, ◌&&◌, nat_eq, List, [], ◌∷◌, length, get_or, Option, None, Some, is_some, if◌then◌else◌, refl, sym, ap, ◌∙◌, subst, arith}
-use Rattle.std.specs.Prelude.{◌↔◌, IsTrue, All, AllPairs}
+use Rattle.std.proofs.Common.{◌≡◌, inl, inr, ℕ, ◌+◌, ◌<◌, ◌≤◌, Bool, true, false, not, ◌&&◌, nat_eq, List, [], ◌∷◌, length, get_or, Option, None, Some, is_some, if◌then◌else◌, refl, sym, ap, ◌∙◌, subst, arith}
+use Rattle.std.specs.Prelude.{◌↔◌, IsTrue, All}
 use Rattle.std.specs.List.{list_any}
-use Rattle.std.proofs.lemmas.Bool.{cond_both, cases_lt, eqb-true, eq-eqb, and_parts}
+use Rattle.std.proofs.lemmas.Bool.{cond_both, cases_lt, eqb-true, eq-eqb}
 use Rattle.std.proofs.lemmas.List.{get_or_default, get_or_past}
 use Rattle.txn_core.specs.declared.answer.HeldItem.{HeldItem}
 use Rattle.txn_core.specs.declared.outcome.Outcome.TheVariants.{Unmet}
@@ -10,14 +10,13 @@ use Rattle.txn_core.specs.Protocol.{Protocol}
 use Rattle.txn_core.specs.Service.{Service, IsServiceLawful}
 use Rattle.txn_core.specs.Effects.{Effect}
 use Rattle.txn_core.specs.World.{Pending, World, holder, world}
-use Rattle.txn_core.specs.Cells.{Item, item}
 use Rattle.txn_core.specs.declared.answer.Answer.{Answer}
 use Rattle.txn_core.specs.Legal.{ArePendings, IsPendingList}
 use Rattle.txn_core.specs.Replay.{are_apart}
 use Rattle.txn_core.proofs.Basics.{true_false, none_some, some_is, none_of, held}
 use Rattle.txn_core.proofs.Duties.{pairs_apart, apart_pairs}
 use Rattle.txn_replay.specs.declared.tracked.Tracked.{Tracked}
-use Rattle.txn_replay.specs.Items.{item_in, pending}
+use Rattle.txn_replay.specs.Items.{item_in}
 use Rattle.txn_replay.specs.State.{IsShown, Fits, IsState, held_as, untold, are_once}
 use Rattle.txn_replay.proofs.Alike.{alike}
 

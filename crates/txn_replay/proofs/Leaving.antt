@@ -1,19 +1,19 @@
 -- What an effect on an item leaves of it.
-use Rattle.std.proofs.Common.{◌≡◌, ℕ, ◌+◌, Bool, true, false, List, [], ◌∷◌, Option, None, Some, refl, sym, ap, ◌∙◌, subst}
+use Rattle.std.proofs.Common.{◌≡◌, ℕ, true, List, Option, None, Some, refl, sym, ap, ◌∙◌, subst}
 use Rattle.txn_core.specs.declared.stamp.Stamp.{Stamp}
 use Rattle.txn_core.specs.declared.message.Message.{Message}
 use Rattle.txn_core.specs.declared.answer.Answer.{Answer}
-use Rattle.txn_core.specs.Protocol.{after, Protocol, IsLawful}
+use Rattle.txn_core.specs.Protocol.{after}
 use Rattle.txn_core.specs.Service.{Service, IsServiceLawful}
 use Rattle.txn_core.specs.Stamps.{single}
-use Rattle.txn_core.specs.Effects.{Effect, Wrote, Begun, Prepared, Commits, Cancels, Applied, Released, Finished, Forgot, Changed, Quiet}
-use Rattle.txn_core.specs.World.{Spot, Cell, World, here, image_or, stamp_or, cell_after, spot_wrote, spot_prepared, spot_applied, spot_released, world}
+use Rattle.txn_core.specs.Effects.{Effect, Wrote, Prepared, Applied, Released}
+use Rattle.txn_core.specs.World.{Spot, Cell, here, image_or, stamp_or, cell_after, spot_wrote, spot_prepared, spot_applied, spot_released, world}
 use Rattle.txn_core.specs.History.{where_so, effect_of, is_written, is_accepted, is_applied, is_released}
-use Rattle.txn_core.specs.Cells.{Item, item}
+use Rattle.txn_core.specs.Cells.{item}
 use Rattle.txn_replay.specs.declared.tracked.Tracked.{Tracked}
 use Rattle.txn_replay.specs.declared.change.Change.{Change}
 use Rattle.txn_replay.specs.Items.{pending, item_in, cell_in, spot_in, cell_put, wrote, prepared, applied, released}
-use Rattle.txn_replay.specs.State.{IsShown, IsLocal, IsLeft, Leaves, key_in}
+use Rattle.txn_replay.specs.State.{IsShown, IsLeft, Leaves, key_in}
 use Rattle.txn_replay.proofs.Steps.{on_key_local, on_key_item, on_key_cell}
 
 cell_of_item : {V : Type 0} (c : Cell) (s : Spot V) (v : Option V) (own : Stamp) → cell_after c (spot_in (item s)) v own ≡ cell_after c s v own

@@ -1,17 +1,16 @@
 -- The first of what stands in a command's way.
-use Rattle.std.proofs.Common.{◌≡◌, ◌⊎◌, inl, inr, ℕ, ◌+◌, ◌<◌, ◌≤◌, Bool, true, false, ◌&&◌, ◌||◌, nat_eq, nat_lt, List, length, get_or, Option, None, Some, is_some, if◌then◌else◌, refl, sym, ap, ◌∙◌, subst, arith}
+use Rattle.std.proofs.Common.{◌≡◌, ◌⊎◌, inl, inr, ℕ, ◌+◌, ◌<◌, ◌≤◌, Bool, true, false, ◌&&◌, ◌||◌, nat_eq, nat_lt, List, length, get_or, Option, None, Some, if◌then◌else◌, refl, sym, ap, ◌∙◌, subst, arith}
 use Rattle.std.specs.Prelude.{◌↔◌, IsTrue}
 use Rattle.std.proofs.lemmas.Bool.Decides.{nat_tests}
 use Rattle.std.proofs.lemmas.Bool.{cond_both, cases_lt}
-use Rattle.std.proofs.lemmas.List.{get_or_default, get_or_past}
+use Rattle.std.proofs.lemmas.List.{get_or_past}
 use Rattle.txn_core.specs.declared.answer.Answer.{Answer}
 use Rattle.txn_core.specs.declared.ruling.Ruling.{Ruling}
 use Rattle.txn_core.specs.Service.{Service, IsServiceLawful}
 use Rattle.txn_core.specs.Effects.{Effect}
-use Rattle.txn_core.specs.World.{Pending, World, holder, world}
-use Rattle.txn_core.specs.Cells.{item}
+use Rattle.txn_core.specs.World.{Pending, holder, world}
 use Rattle.txn_core.specs.Legal.{IsInTheWay, IsClear, IsRuled, ruling_answer}
-use Rattle.txn_core.proofs.Basics.{true_false, none_some, some_is, held}
+use Rattle.txn_core.proofs.Basics.{none_some, some_is, held}
 use Rattle.txn_replay.specs.declared.tracked.Tracked.{Tracked}
 use Rattle.txn_replay.specs.declared.commands.Obstacle.{Obstacle}
 use Rattle.txn_replay.specs.Items.{item_in}

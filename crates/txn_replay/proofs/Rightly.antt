@@ -8,7 +8,7 @@ use Rattle.txn_core.specs.declared.message.Message.{Message}
 use Rattle.txn_core.specs.declared.answer.Answer.{Answer}
 use Rattle.txn_core.specs.declared.entry.Entry.{Entry}
 use Rattle.txn_core.specs.Service.{Service}
-use Rattle.txn_core.specs.World.{Cell, World, holder, here, world}
+use Rattle.txn_core.specs.World.{Cell, holder, here, world}
 use Rattle.txn_core.specs.Answers.{KeptToken, begin_answer, get_answer, write_answer, prepare_answer, apply_answer, release_answer, version_answer}
 use Rattle.txn_core.specs.History.{effects, found_kept}
 use Rattle.txn_core.specs.Legal.{IsAnswer}

@@ -1,20 +1,17 @@
 -- The state after one more entry.
-use Rattle.std.proofs.Common.{◌≡◌, ◌⊎◌, inl, inr, ℕ, ◌+◌, ◌≤◌, ◌==◌, Bool, true, false, List, [], ◌∷◌, length, map, get_or, Option, None, Some, is_some, if◌then◌else◌, refl, sym, ap, ◌∙◌, subst, arith}
+use Rattle.std.proofs.Common.{◌≡◌, ℕ, ◌==◌, Bool, true, false, List, map, get_or, Option, None, Some, if◌then◌else◌, refl, sym, ap, ◌∙◌, subst}
 use Rattle.std.proofs.lemmas.Bool.{cond_both, eqb-true, eqb-false}
-use Rattle.std.proofs.lemmas.List.{get_or-map}
 use Rattle.std.proofs.Math.ListN.{get_or-map as got_map}
 use Rattle.txn_core.specs.Protocol.{Protocol, IsLawful}
 use Rattle.txn_core.specs.Service.{Service, IsServiceLawful}
-use Rattle.txn_core.specs.Effects.{Effect, Wrote, Begun, Prepared, Commits, Cancels, Applied, Released, Finished, Forgot, Changed, Quiet}
-use Rattle.txn_core.specs.World.{Spot, Cell, Pending, World, at, here, on_key, kept_or, step, world}
-use Rattle.txn_core.specs.Cells.{Item, item}
-use Rattle.txn_core.proofs.Basics.{at_split, none_some, true_false}
+use Rattle.txn_core.specs.Effects.{Effect, Changed}
+use Rattle.txn_core.specs.World.{Spot, Cell, Pending, World, here, on_key, kept_or, step, world}
+use Rattle.txn_core.specs.Cells.{item}
+use Rattle.txn_core.proofs.Basics.{at_split}
 use Rattle.txn_replay.specs.declared.tracked.Tracked.{Tracked}
-use Rattle.txn_replay.specs.declared.tracked.ItemState.{ItemState}
-use Rattle.txn_replay.specs.declared.tracked.Counters.{Counters}
 use Rattle.txn_replay.specs.declared.change.Change.{Change}
-use Rattle.txn_replay.specs.Items.{item_in, cell_in, spot_in, cell_put}
-use Rattle.txn_replay.specs.State.{IsLocal, IsLeft, Leaves, IsShown, Fits, IsState, put_in, moved_in}
+use Rattle.txn_replay.specs.Items.{item_in, cell_in}
+use Rattle.txn_replay.specs.State.{IsLocal, IsShown, Fits, IsState, put_in, moved_in}
 use Rattle.txn_replay.proofs.Alike.{alike}
 
 module _ {K V A F C D : Type 0} (P : Protocol K V A F C D) where

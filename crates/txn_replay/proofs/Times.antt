@@ -1,6 +1,5 @@
 -- Moments, in order of time.
-use Rattle.std.proofs.Common.{◌≡◌, ℕ, zero, suc, ◌+◌, ◌<◌, ◌≤◌, List, [], ◌∷◌, ◌++◌, length, take, get_or, reverse, refl, sym, ap, ◌∙◌, subst, arith}
-use Rattle.std.proofs.lemmas.List.{get_or-reverse, get_or_default, length-reverse}
+use Rattle.std.proofs.Common.{◌≡◌, ℕ, zero, suc, ◌+◌, ◌<◌, ◌≤◌, List, [], ◌∷◌, length, take, get_or, reverse, sym, subst, arith}
 use Rattle.txn_core.specs.declared.entry.Entry.{Entry}
 use Rattle.txn_core.specs.History.{IsTimely}
 use Rattle.txn_core.proofs.Reversed.{newest, whole}

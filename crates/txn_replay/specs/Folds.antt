@@ -1,9 +1,8 @@
 -- What one more effect makes of what the ledger says of one number.
-use Rattle.std.specs.Prelude.{ℕ, suc, Bool, true, nat_eq, List, Option, None, Some, if◌then◌else◌}
+use Rattle.std.specs.Prelude.{ℕ, suc, Bool, true, nat_eq, List, if◌then◌else◌}
 use Rattle.txn_core.specs.declared.stamp.Stamp.{Stamp}
 use Rattle.txn_core.specs.declared.fate.Fate.{Fate}
 use Rattle.txn_core.specs.Effects.{Effect, Begun, Commits, Cancels, Finished, Forgot}
-use Rattle.txn_core.specs.Answers.{KeptToken}
 
 abbrev pub fate_by : {K A D : Type 0} → ℕ → Effect K A D → Fate → Fate
 fate_by n (Commits m) older = if nat_eq m n then Fate.Committed else older

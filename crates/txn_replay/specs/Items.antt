@@ -1,14 +1,12 @@
 -- What a replay keeps of items and their cells, in the words of cells.
-use Rattle.std.specs.Prelude.{◌≡◌, ℕ, false, Bool, Option, None, Some, if◌then◌else◌, nat_eq}
+use Rattle.std.specs.Prelude.{ℕ, false, Option, None, Some}
 use Rattle.txn_core.specs.declared.stamp.Stamp.{Stamp}
-use Rattle.txn_core.specs.Protocol.{after, Protocol}
-use Rattle.txn_core.specs.Stamps.{single}
-use Rattle.txn_core.specs.World.{Pending, Spot, Cell, last, image_or, stamp_or, cell_after, spot_wrote, spot_prepared, spot_applied, spot_released}
+use Rattle.txn_core.specs.Protocol.{Protocol}
+use Rattle.txn_core.specs.World.{Pending, Spot, Cell, last, cell_after, spot_wrote, spot_prepared, spot_applied, spot_released}
 use Rattle.txn_core.specs.Cells.{Item, item}
 use Rattle.txn_replay.specs.declared.tracked.Counters.{Counters}
 use Rattle.txn_replay.specs.declared.tracked.Hold.{Hold}
 use Rattle.txn_replay.specs.declared.tracked.ItemState.{ItemState}
-use Rattle.txn_replay.specs.declared.tracked.Tracked.{Tracked}
 
 -- the same of an item, of what holds it, and of its cell
 abbrev pub pending : {V : Type 0} → Option (Hold V) → Option (Pending V)

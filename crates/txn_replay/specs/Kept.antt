@@ -1,5 +1,5 @@
 -- What a replay keeps of a token.
-use Rattle.std.specs.Prelude.{◌≡◌, ℕ, ◌<◌, Bool, List, Option, None, Some}
+use Rattle.std.specs.Prelude.{Option, None, Some}
 use Rattle.txn_core.specs.Answers.{KeptToken}
 use Rattle.txn_replay.specs.declared.token.Kept.{Kept}
 

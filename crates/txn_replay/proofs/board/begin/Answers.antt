@@ -1,4 +1,3 @@
-use Rattle.std.proofs.Common.{refl}
 use Rattle.txn_replay.proofs.board.begin.Goals as goal
 
 pub returns-clause-state : goal.returns-clause-state

@@ -1,4 +1,4 @@
-use Rattle.std.proofs.Common.{◌≡◌, ◌∙◌, reverse, take, sym, arith}
+use Rattle.std.proofs.Common.{reverse, take, arith}
 use Rattle.std.proofs.lemmas.Result.{IfOk-weaker, IfOk-equal}
 use Rattle.txn_core.specs.World.{world}
 use Rattle.txn_core.specs.History.{effects}

@@ -1,4 +1,4 @@
-use Rattle.std.proofs.Common.{◌≡◌, ◌∙◌, Some, sym}
+use Rattle.std.proofs.Common.{◌∙◌, sym}
 use Rattle.txn_core.proofs.Basics.{true_false}
 use Rattle.txn_replay.proofs.holds.is_held_there.Goals as goal
 

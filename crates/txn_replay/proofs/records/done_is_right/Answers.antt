@@ -1,8 +1,6 @@
-use Rattle.std.proofs.Common.{◌≡◌, reverse, subst}
+use Rattle.std.proofs.Common.{◌≡◌, subst}
 use Rattle.std.specs.Prelude.{◌↔◌, IsTrue}
-use Rattle.txn_core.specs.World.{world}
-use Rattle.txn_core.specs.History.{effects}
-use Rattle.txn_core.specs.Answers.{has_record, done_answer}
+use Rattle.txn_core.specs.Answers.{done_answer}
 use Rattle.txn_replay.proofs.records.done_is_right.Goals as goal
 
 pub returns : goal.returns

@@ -2,7 +2,7 @@ use Rattle.std.proofs.Common.{◌≡◌, reverse, subst}
 use Rattle.std.specs.Prelude.{◌↔◌, IsTrue}
 use Rattle.txn_core.specs.World.{world}
 use Rattle.txn_core.specs.History.{effects}
-use Rattle.txn_core.specs.Answers.{has_record, fate_answer}
+use Rattle.txn_core.specs.Answers.{fate_answer}
 use Rattle.txn_replay.proofs.records.fate_is_right.Goals as goal
 
 pub returns : goal.returns

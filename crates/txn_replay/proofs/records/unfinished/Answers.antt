@@ -1,4 +1,4 @@
-use Rattle.std.proofs.Common.{◌≡◌, ◌∙◌, ◌&&◌, not, nat_le, filter, reverse, sym, ap, subst, arith}
+use Rattle.std.proofs.Common.{◌≡◌, ◌∙◌, ◌&&◌, not, nat_le, filter, reverse, ap, arith}
 use Rattle.txn_core.specs.World.{world}
 use Rattle.txn_core.specs.Answers.{numbers_below}
 use Rattle.txn_core.specs.History.{effects}

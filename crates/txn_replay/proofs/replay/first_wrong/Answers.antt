@@ -1,4 +1,4 @@
-use Rattle.std.proofs.Common.{◌≡◌, inl, [], length, take, get_or, None, refl, sym, ◌∙◌, arith}
+use Rattle.std.proofs.Common.{◌≡◌, inl, take, get_or, None, refl, arith}
 use Rattle.txn_core.specs.declared.kind.BreakKind.TheVariants.{WrongAnswer}
 use Rattle.txn_core.proofs.Basics.{true_false}
 use Rattle.txn_core.proofs.Breaking.{first_break, keeps_more, keeps_whole}

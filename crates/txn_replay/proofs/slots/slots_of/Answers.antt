@@ -1,4 +1,4 @@
-use Rattle.std.proofs.Common.{◌≡◌, [], ◌++◌, ◌∷◌, get_or, None, length, sym, ap, ◌∙◌, subst, arith}
+use Rattle.std.proofs.Common.{◌≡◌, [], ◌++◌, ◌∷◌, get_or, None, length, sym, ap, subst, arith}
 use Rattle.txn_core.specs.World.{world}
 use Rattle.txn_replay.specs.State.{keys_of, Fits}
 use Rattle.txn_replay.proofs.Sequences.{fits_more, fits_all}

@@ -1,4 +1,4 @@
-use Rattle.std.proofs.Common.{refl, ◌⊎◌, inl, inr, arith}
+use Rattle.std.proofs.Common.{refl, inl, inr, arith}
 use Rattle.std.proofs.lemmas.Bool.{cases_lt}
 use Rattle.txn_core.proofs.Basics.{true_false}
 use Rattle.txn_replay.proofs.Times.{timely_more, timely_all, timely_not}

@@ -1,4 +1,4 @@
-use Rattle.std.proofs.Common.{◌≡◌, ap, sym, ◌∙◌, reverse, refl, arith}
+use Rattle.std.proofs.Common.{ap, sym, ◌∙◌, reverse, refl, arith}
 use Rattle.txn_core.specs.History.{purged, kept_after, kept, found_kept}
 use Rattle.txn_replay.specs.Kept.{kept_in}
 use Rattle.txn_replay.proofs.Folding.{one_more, at_end}
