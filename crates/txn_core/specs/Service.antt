@@ -22,8 +22,10 @@ pub record Service (K V A F C D Q B : Type 0) : Type 0 where
   -- what becomes of a command that nothing stands in the way of
   pub rules : D → ℕ → C → Ruling B
 
--- a command spares the tables that it doesn't concern, and what actions do there
+-- a command concerns an item however its key is written, and spares the tables that it doesn't concern, and what actions do
+-- there
 pub record IsServiceLawful {K V A F C D Q B : Type 0} (S : Service K V A F C D Q B) : Type 0 where
   pub core : IsLawful S.core
+  pub one_concern : (d : D) (c : C) (x y : K) → S.core.same x y ≡ true → S.concerns d c x ≡ S.concerns d c y
   pub spares : (d : D) (moment : ℕ) (c : C) (q : K) → S.refuses d c ≡ None → S.concerns d c q ≡ false → S.core.there c q ≡ true → S.core.there (S.core.change d moment c) q ≡ true
   pub acts_alike : (d : D) (moment : ℕ) (c : C) (q : K) (a : A) (v : Option V) → S.refuses d c ≡ None → S.concerns d c q ≡ false → S.core.there c q ≡ true → S.core.same (S.core.key_of a) q ≡ true → S.core.act (S.core.change d moment c) a v ≡ S.core.act c a v

@@ -25,6 +25,7 @@ pub service_lawful : (n : ℕ) → IsServiceLawful (service n)
 service_lawful n =
     record {
       core = protocol_lawful n;
+      one_concern = λ d c x y e. refl;
       spares = λ d moment c q named away h.
           cond_both (nat_le 1 c) c 1 (λ v. nat_le 1 v ≡ true) (λ e. e) (λ e. refl);
       acts_alike = λ d moment c q a v named away h same. refl;

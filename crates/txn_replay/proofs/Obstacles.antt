@@ -15,7 +15,7 @@ use Rattle.txn_replay.specs.declared.tracked.Tracked.{Tracked}
 use Rattle.txn_replay.specs.declared.commands.Obstacle.{Obstacle}
 use Rattle.txn_replay.specs.Items.{item_in}
 use Rattle.txn_replay.specs.State.{IsShown, Fits, IsState}
-use Rattle.txn_replay.specs.Ways.{ConcernsItems, is_before, first_of_two, obstacle_by, obstacle_in, IsFirstOf}
+use Rattle.txn_replay.specs.Ways.{is_before, first_of_two, obstacle_by, obstacle_in, IsFirstOf}
 use Rattle.txn_replay.proofs.Holding.{slot_of_held, shows_holder}
 
 itself : (m n : ℕ) → (nat_lt m m || (nat_eq m m && nat_lt n n)) ≡ false
@@ -80,7 +80,7 @@ module _ (ways : ℕ → Option Obstacle) (i : ℕ) where
         ],
       ))
 
-module _ {K V A F C D Q B : Type 0} (S : Service K V A F C D Q B) (law : IsServiceLawful S) (keys : List (Option K)) (es : List (Effect K A D)) (now : C) (slots : List (Option (Tracked K V))) (state : IsState S keys (world S.core es) now slots) (d : D) (by_item : ConcernsItems S) where
+module _ {K V A F C D Q B : Type 0} (S : Service K V A F C D Q B) (law : IsServiceLawful S) (keys : List (Option K)) (es : List (Effect K A D)) (now : C) (slots : List (Option (Tracked K V))) (state : IsState S keys (world S.core es) now slots) (d : D) where
   -- an item of the command's table that is held stands in a slot
   way_at : (q : K) (n : ℕ) → S.concerns d (world S.core es).catalog q ≡ true → holder ((world S.core es).spot q).pend ≡ Some n → (k : ℕ) × (k < length slots) × (obstacle_in S d now (get_or slots k None) ≡ Some (record { cell = S.core.cell_of q; number = n }))
   way_at q n concerned holds = at_slot (held ((world S.core es).spot q).pend n holds)
@@ -93,7 +93,7 @@ module _ {K V A F C D Q B : Type 0} (S : Service K V A F C D Q B) (law : IsServi
             k,
             elim (cases_lt k (length slots)) [ inl l ↦ l | inr g ↦ none_some (get_or slots k None) t (get_or_past slots k None g) at ],
             ap (λ s. obstacle_in S d now s) at
-                ∙ ap (λ b. if b then obstacle_by t.home (holder (item_in t.item).pend) else None) (by_item d now t.key q same ∙ ap (λ c. S.concerns d c q) state.catalog ∙ concerned)
+                ∙ ap (λ b. if b then obstacle_by t.home (holder (item_in t.item).pend) else None) (law.one_concern d now t.key q same ∙ ap (λ c. S.concerns d c q) state.catalog ∙ concerned)
                 ∙ ap (λ h. obstacle_by t.home h) (shows_holder S law keys es now slots state t shown q same ∙ holds)
                 ∙ ap (λ c. Some (record { cell = c; number = n })) (shown.home ∙ law.core.one_cell t.key q same),
           )

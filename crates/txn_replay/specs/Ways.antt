@@ -6,10 +6,6 @@ use Rattle.txn_replay.specs.declared.tracked.Tracked.{Tracked}
 use Rattle.txn_replay.specs.declared.commands.Obstacle.{Obstacle}
 use Rattle.txn_replay.specs.Items.{item_in}
 
--- whether an item is of a command's table goes by the item, however its key is written
-abbrev pub ConcernsItems : {K V A F C D Q B : Type 0} → Service K V A F C D Q B → Type 0
-ConcernsItems {K} {V} {A} {F} {C} {D} S = (d : D) (c : C) (x y : K) → S.core.same x y ≡ true → S.concerns d c x ≡ S.concerns d c y
-
 -- the first cell comes first, and in it the least number
 abbrev pub is_before : Obstacle → Obstacle → Bool
 is_before a b = nat_lt a.cell b.cell || (nat_eq a.cell b.cell && nat_lt a.number b.number)

@@ -4,7 +4,6 @@ ghost use Rattle.txn_core.specs.World.{world};
 ghost use Rattle.txn_core.specs.History.{effects};
 ghost use Rattle.txn_core.specs.Legal.{IsAnswer};
 ghost use Rattle.txn_replay.specs.State.{key_in, IsState};
-ghost use Rattle.txn_replay.specs.Ways.{ConcernsItems};
 
 use crate::board::State;
 use crate::commands::is_command_answer;
@@ -26,7 +25,7 @@ pub fn other_is_right<R: Rules>(
     entry: &Event<R>,
 ) -> Result<bool, NoMemory>
     requires { 1 ≤ partitions }
-    ensures { IfOk result (λ right. (keys : List (Option R.Key)) → IsState (R.protocol partitions) keys (world (R.protocol partitions).core (effects (reverse past.now))) board.now.catalog board.now.slots.items → key_in (R.protocol partitions) entry.now.message ≡ None → ConcernsItems (R.protocol partitions) → (IsTrue right ↔ IsAnswer (R.protocol partitions) (reverse past.now) entry.now.moment entry.now.message entry.now.answer)) }
+    ensures { IfOk result (λ right. (keys : List (Option R.Key)) → IsState (R.protocol partitions) keys (world (R.protocol partitions).core (effects (reverse past.now))) board.now.catalog board.now.slots.items → key_in (R.protocol partitions) entry.now.message ≡ None → (IsTrue right ↔ IsAnswer (R.protocol partitions) (reverse past.now) entry.now.moment entry.now.message entry.now.answer)) }
 {
     let catalog = &board.catalog;
     let answer = &entry.answer;

@@ -6,7 +6,6 @@ ghost use Rattle.txn_core.specs.Legal.{IsAnswer};
 ghost use Rattle.txn_core.specs.Breaks.{IsRight, AllKeep, IsFirstBreak};
 ghost use Rattle.txn_core.specs.declared.kind.BreakKind.TheVariants.{WrongAnswer};
 ghost use Rattle.txn_replay.specs.State.{key_in, IsState};
-ghost use Rattle.txn_replay.specs.Ways.{ConcernsItems};
 ghost use Rattle.txn_replay.specs.Ends.{ends_at, EndsRight};
 
 use crate::board::{State, begin, step};
@@ -37,7 +36,7 @@ fn answer_is_right<R: Rules>(
 ) -> Result<bool, NoMemory>
     requires some { 1 ≤ partitions }
     requires within { place < length board.now.slots.items }
-    ensures { IfOk result (λ right. (keys : List (Option R.Key)) → IsState (R.protocol partitions) keys (world (R.protocol partitions).core (effects (reverse past.now))) board.now.catalog board.now.slots.items → slice_index_or keys place None ≡ key_in (R.protocol partitions) entry.now.message → ConcernsItems (R.protocol partitions) → (IsTrue right ↔ IsAnswer (R.protocol partitions) (reverse past.now) entry.now.moment entry.now.message entry.now.answer)) }
+    ensures { IfOk result (λ right. (keys : List (Option R.Key)) → IsState (R.protocol partitions) keys (world (R.protocol partitions).core (effects (reverse past.now))) board.now.catalog board.now.slots.items → slice_index_or keys place None ≡ key_in (R.protocol partitions) entry.now.message → (IsTrue right ↔ IsAnswer (R.protocol partitions) (reverse past.now) entry.now.moment entry.now.message entry.now.answer)) }
 {
     match &board.slots[place] {
         Some(tracked) => item_is_right::<R>(alloc, &board.catalog, tracked, entry),
@@ -56,7 +55,7 @@ fn is_right<R: Rules>(
 ) -> Result<bool, NoMemory>
     requires some { 1 ≤ partitions }
     requires within { place < length board.now.slots.items }
-    ensures { IfOk result (λ right. (keys : List (Option R.Key)) → IsState (R.protocol partitions) keys (world (R.protocol partitions).core (effects (reverse past.now))) board.now.catalog board.now.slots.items → slice_index_or keys place None ≡ key_in (R.protocol partitions) entry.now.message → ConcernsItems (R.protocol partitions) → (IsTrue right ↔ IsRight (R.protocol partitions) (reverse past.now) entry.now)) }
+    ensures { IfOk result (λ right. (keys : List (Option R.Key)) → IsState (R.protocol partitions) keys (world (R.protocol partitions).core (effects (reverse past.now))) board.now.catalog board.now.slots.items → slice_index_or keys place None ≡ key_in (R.protocol partitions) entry.now.message → (IsTrue right ↔ IsRight (R.protocol partitions) (reverse past.now) entry.now)) }
 {
     if !is_timely::<R>(past, entry.pass, entry.moment) {
         return Ok(false);
@@ -75,7 +74,7 @@ fn first_wrong<R: Rules>(
 ) -> Result<Option<usize>, NoMemory>
     requires some { 1 ≤ partitions }
     requires room { length entries.now < 2 ^ 64 }
-    ensures { IfOk result (λ found. ConcernsItems (R.protocol partitions) → MatchOption found (AllKeep (R.protocol partitions) (WrongAnswer ∷ []) (reverse entries.now)) (λ place. IsFirstBreak (R.protocol partitions) (WrongAnswer ∷ []) entries.now place WrongAnswer)) }
+    ensures { IfOk result (λ found. MatchOption found (AllKeep (R.protocol partitions) (WrongAnswer ∷ []) (reverse entries.now)) (λ place. IsFirstBreak (R.protocol partitions) (WrongAnswer ∷ []) entries.now place WrongAnswer)) }
 {
     let mut board = begin::<R>(alloc, partitions, entries)?;
     for (place, entry) in entries.iter().enumerate() {
@@ -102,9 +101,6 @@ fn up_to(sent: Option<Break>, many: usize) -> usize
 /// partitions, else the first place at which they are not, with the first rule that its entry
 /// breaks. The rule of answers is asked first, then those of what may be sent.
 ///
-/// This holds of rules under which a command concerns an item however its key is written:
-/// [`Rules`] asks that of the other members, and not yet of `concerns`.
-///
 /// A checker for tests and tools. It keeps an item for each entry, and takes at most the square of
 /// the size of the list in steps, the items that its answers list counted, where the actions of a
 /// transaction, 100 at most, count as one step; but each Unfinished takes a step for each number
@@ -115,7 +111,7 @@ pub fn replay_check<R: Rules>(
     entries: &[Event<R>],
 ) -> Result<(), ReplayEnd>
     requires { 1 ≤ partitions }
-    ensures { ConcernsItems (R.protocol partitions) → EndsRight (R.protocol partitions) entries.now result }
+    ensures { EndsRight (R.protocol partitions) entries.now result }
 {
     let sent = sending_check::<R>(partitions, entries);
     let end = up_to(sent, entries.len());

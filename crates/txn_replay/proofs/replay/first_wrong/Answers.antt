@@ -8,14 +8,14 @@ use Rattle.txn_replay.proofs.Ending.{of_answers}
 use Rattle.txn_replay.proofs.replay.first_wrong.Goals as goal
 
 pub loop-place-init : goal.loop-place-init
-loop-place-init g c = record { right = λ by_item. tt; len = c.in_ok-board.ensures.len; state = c.in_ok-board.ensures.state }
+loop-place-init g c = record { right = tt; len = c.in_ok-board.ensures.len; state = c.in_ok-board.ensures.state }
 
 pub loop-place-preserved : goal.loop-place-preserved
 loop-place-preserved g c =
     let at : get_or (keys_of (g.R.Rules.protocol c.args.partitions) c.args.entries.now) c.loop-place.place None ≡ key_in (g.R.Rules.protocol c.args.partitions) c.index-entries-place.result.message = key_at (g.R.Rules.protocol c.args.partitions) c.args.entries.now c.loop-place.place c.index-entries-place.result (omega arith) c.index-entries-place.is in
     record {
-      right = λ by_item.
-          keeps_more (g.R.Rules.protocol c.args.partitions) of_answers c.args.entries.now c.loop-place.place c.index-entries-place.result (omega arith) c.index-entries-place.is (take c.loop-place.place c.args.entries.now) refl (c.loop-place.invariant.right by_item) ((c.in_ok-is_right.ensures (keys_of (g.R.Rules.protocol c.args.partitions) c.args.entries.now) c.loop-place.invariant.state at by_item).0 c.if-not-branch.false, tt);
+      right =
+          keeps_more (g.R.Rules.protocol c.args.partitions) of_answers c.args.entries.now c.loop-place.place c.index-entries-place.result (omega arith) c.index-entries-place.is (take c.loop-place.place c.args.entries.now) refl (c.loop-place.invariant.right) ((c.in_ok-is_right.ensures (keys_of (g.R.Rules.protocol c.args.partitions) c.args.entries.now) c.loop-place.invariant.state at).0 c.if-not-branch.false, tt);
       len = c.in_ok-step.ensures.len;
       state = c.in_ok-step.ensures.state;
     }
@@ -23,8 +23,8 @@ loop-place-preserved g c =
 pub returns-then-not-branch : goal.returns-then-not-branch
 returns-then-not-branch g c =
     let at : get_or (keys_of (g.R.Rules.protocol c.args.partitions) c.args.entries.now) c.loop-place.place None ≡ key_in (g.R.Rules.protocol c.args.partitions) c.index-entries-place.result.message = key_at (g.R.Rules.protocol c.args.partitions) c.args.entries.now c.loop-place.place c.index-entries-place.result (omega arith) c.index-entries-place.is in
-    λ by_item. first_break (g.R.Rules.protocol c.args.partitions) of_answers c.args.entries.now c.loop-place.place c.index-entries-place.result (omega arith) c.index-entries-place.is (take c.loop-place.place c.args.entries.now) refl (c.loop-place.invariant.right by_item) WrongAnswer
-    (inl (refl, λ right. true_false _ ((c.in_ok-is_right.ensures (keys_of (g.R.Rules.protocol c.args.partitions) c.args.entries.now) c.loop-place.invariant.state at by_item).1 right) c.if-not-branch.true))
+    first_break (g.R.Rules.protocol c.args.partitions) of_answers c.args.entries.now c.loop-place.place c.index-entries-place.result (omega arith) c.index-entries-place.is (take c.loop-place.place c.args.entries.now) refl (c.loop-place.invariant.right) WrongAnswer
+    (inl (refl, λ right. true_false _ ((c.in_ok-is_right.ensures (keys_of (g.R.Rules.protocol c.args.partitions) c.args.entries.now) c.loop-place.invariant.state at).1 right) c.if-not-branch.true))
 
 pub returns : goal.returns
-returns g c = λ by_item. keeps_whole (g.R.Rules.protocol c.args.partitions) of_answers c.args.entries.now c.loop-place.place (omega arith) (omega arith) (c.loop-place.invariant.right by_item)
+returns g c = keeps_whole (g.R.Rules.protocol c.args.partitions) of_answers c.args.entries.now c.loop-place.place (omega arith) (omega arith) (c.loop-place.invariant.right)

@@ -25,8 +25,8 @@ first_wrong-requires-clause-room g c =
     omega arith
 
 pub returns-in-Ok-Some : goal.returns-in-Ok-Some
-returns-in-Ok-Some g c = λ by_item.
-    let first : IsFirstBreak (g.R.Rules.protocol c.args.partitions) of_answers (take c.up_to-end.result c.args.entries.now) c.in-Ok-Some.place WrongAnswer = subst (λ o. MatchOption o (AllKeep (g.R.Rules.protocol c.args.partitions) of_answers (reverse (take c.up_to-end.result c.args.entries.now))) (λ p. IsFirstBreak (g.R.Rules.protocol c.args.partitions) of_answers (take c.up_to-end.result c.args.entries.now) p WrongAnswer)) c.in-Ok-Some.field-0-is (c.in-Ok-Some.ensures by_item) in
+returns-in-Ok-Some g c =
+    let first : IsFirstBreak (g.R.Rules.protocol c.args.partitions) of_answers (take c.up_to-end.result c.args.entries.now) c.in-Ok-Some.place WrongAnswer = subst (λ o. MatchOption o (AllKeep (g.R.Rules.protocol c.args.partitions) of_answers (reverse (take c.up_to-end.result c.args.entries.now))) (λ p. IsFirstBreak (g.R.Rules.protocol c.args.partitions) of_answers (take c.up_to-end.result c.args.entries.now) p WrongAnswer)) c.in-Ok-Some.field-0-is (c.in-Ok-Some.ensures) in
     let inside = first.within in
     let long = length-take c.up_to-end.result c.args.entries.now in
     let lt : c.in-Ok-Some.place < c.up_to-end.result = omega arith in
@@ -34,13 +34,13 @@ returns-in-Ok-Some g c = λ by_item.
     wrong_first (g.R.Rules.protocol c.args.partitions) c.args.entries.now c.in-Ok-Some.place c.up_to-end.result lt before.1 before.0 first
 
 pub returns-in-Some : goal.returns-in-Some
-returns-in-Some g c = λ by_item.
-    let answers : AllKeep (g.R.Rules.protocol c.args.partitions) of_answers (reverse (take c.up_to-end.result c.args.entries.now)) = subst (λ o. MatchOption o (AllKeep (g.R.Rules.protocol c.args.partitions) of_answers (reverse (take c.up_to-end.result c.args.entries.now))) (λ p. IsFirstBreak (g.R.Rules.protocol c.args.partitions) of_answers (take c.up_to-end.result c.args.entries.now) p WrongAnswer)) c.in-Ok-None.field-0-is (c.in-Ok-None.ensures by_item) in
+returns-in-Some g c =
+    let answers : AllKeep (g.R.Rules.protocol c.args.partitions) of_answers (reverse (take c.up_to-end.result c.args.entries.now)) = subst (λ o. MatchOption o (AllKeep (g.R.Rules.protocol c.args.partitions) of_answers (reverse (take c.up_to-end.result c.args.entries.now))) (λ p. IsFirstBreak (g.R.Rules.protocol c.args.partitions) of_answers (take c.up_to-end.result c.args.entries.now) p WrongAnswer)) c.in-Ok-None.field-0-is (c.in-Ok-None.ensures) in
     let at : c.up_to-end.result ≡ c.in-Some.found.place + 1 = c.up_to-end.ensures ∙ ap (λ o. ends_at (length c.args.entries.now) o) c.in-Some.is in
     sending_first (g.R.Rules.protocol c.args.partitions) c.args.entries.now c.in-Some.found.place c.in-Some.found.kind (subst (λ n. AllKeep (g.R.Rules.protocol c.args.partitions) of_answers (reverse (take n c.args.entries.now))) at answers) c.in-Some.ensures
 
 pub returns-in-None : goal.returns-in-None
-returns-in-None g c = λ by_item.
-    let answers : AllKeep (g.R.Rules.protocol c.args.partitions) of_answers (reverse (take c.up_to-end.result c.args.entries.now)) = subst (λ o. MatchOption o (AllKeep (g.R.Rules.protocol c.args.partitions) of_answers (reverse (take c.up_to-end.result c.args.entries.now))) (λ p. IsFirstBreak (g.R.Rules.protocol c.args.partitions) of_answers (take c.up_to-end.result c.args.entries.now) p WrongAnswer)) c.in-Ok-None.field-0-is (c.in-Ok-None.ensures by_item) in
+returns-in-None g c =
+    let answers : AllKeep (g.R.Rules.protocol c.args.partitions) of_answers (reverse (take c.up_to-end.result c.args.entries.now)) = subst (λ o. MatchOption o (AllKeep (g.R.Rules.protocol c.args.partitions) of_answers (reverse (take c.up_to-end.result c.args.entries.now))) (λ p. IsFirstBreak (g.R.Rules.protocol c.args.partitions) of_answers (take c.up_to-end.result c.args.entries.now) p WrongAnswer)) c.in-Ok-None.field-0-is (c.in-Ok-None.ensures) in
     let at : c.up_to-end.result ≡ length c.args.entries.now = c.up_to-end.ensures ∙ ap (λ o. ends_at (length c.args.entries.now) o) c.in-None.is in
     both_keep (g.R.Rules.protocol c.args.partitions) (reverse c.args.entries.now) (subst (λ l. AllKeep (g.R.Rules.protocol c.args.partitions) of_answers (reverse l)) (ap (λ n. take n c.args.entries.now) at ∙ take-length c.args.entries.now) answers) c.in-None.ensures
