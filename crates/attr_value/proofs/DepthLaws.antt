@@ -2,8 +2,8 @@
 use Rattle.std.proofs.Common.{◌≡◌, ◌↔◌, ℕ, zero, suc, ◌+◌, ◌<◌, ◌≤◌, max, List, [], ◌∷◌, length, Bool, true, false, cond, Option, Some, None, option_map, option_and_then, bytes_eq, Ordering, Less, Equal, Greater, nat_cmp, refl, ap, arith}
 use Rattle.std.specs.Cmp.Lexicographic.{slice_cmp}
 use Rattle.std.specs.Ordering.{match_ordering}
-use Rattle.expr_lexer.specs.declared.path.Step.{Step}
-use Rattle.expr_lexer.specs.declared.path.Step.TheVariants.{Name, Index}
+use Rattle.base_types.specs.declared.path.Step.{Step}
+use Rattle.base_types.specs.declared.path.Step.TheVariants.{Name, Index}
 use Rattle.attr_value.specs.Tree.{Tree, map, list, Trees, no_trees, tree, Attributes, no_attributes, attribute}
 use Rattle.attr_value.specs.Paths.{value_at, put, element_at, put_at, child, placed, with_in, with_value, reach, HoldsWhereDeeper}
 use Rattle.attr_value.specs.Sizes.{depth, elements_depth, item_depth}

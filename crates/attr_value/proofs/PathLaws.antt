@@ -2,8 +2,8 @@
 use Rattle.std.proofs.Common.{◌≡◌, ℕ, zero, suc, List, [], ◌∷◌, slice_get, slice_set, Bool, true, false, cond, Option, Some, None, option_map, option_and_then, bytes_eq, refl, sym, ap, ◌∙◌}
 use Rattle.std.specs.BTreeMap.{is_at}
 use Rattle.std.specs.Map.{lookup, set_value}
-use Rattle.expr_lexer.specs.declared.path.Step.{Step}
-use Rattle.expr_lexer.specs.declared.path.Step.TheVariants.{Name, Index}
+use Rattle.base_types.specs.declared.path.Step.{Step}
+use Rattle.base_types.specs.declared.path.Step.TheVariants.{Name, Index}
 use Rattle.attr_value.specs.Tree as tree
 use Rattle.attr_value.specs.Tree.{Tree, map, list, Trees, Attributes, no_attributes, attribute}
 use Rattle.attr_value.specs.Paths.{value_at, put, change, element_at, put_at, placed, with_in, with_value, IsBadPathWhere}

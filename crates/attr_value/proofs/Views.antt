@@ -11,7 +11,7 @@ use Rattle.std.proofs.lemmas.Map.Keys.{sorted_tail}
 use Rattle.std.specs.Map.{keys_of, lookup, set_value, remove_entry}
 use Rattle.std.specs.Ordering.{match_ordering, ordering_reverse}
 use Rattle.std.specs.BTreeMap.{insert_entry, is_at}
-use Rattle.expr_lexer.specs.declared.path.Step.{Step}
+use Rattle.base_types.specs.declared.path.Step.{Step}
 use Rattle.attr_value.specs.Tree as tree
 use Rattle.attr_value.specs.Tree.{Tree, Trees, Attributes, no_attributes, attribute, IsBelowNames, AreInOrder}
 use Rattle.attr_value.specs.View.{tree_of, trees_of, attributes_of, attributes}

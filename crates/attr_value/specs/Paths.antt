@@ -4,8 +4,8 @@ use Rattle.std.specs.Prelude.{List, [], ◌∷◌, length, bytes_eq}
 use Rattle.std.specs.Prelude.{Option, Some, None, option_map, option_and_then}
 use Rattle.std.specs.Ordering.{nat_cmp, match_ordering}
 use Rattle.std.specs.Cmp.Lexicographic.{slice_cmp}
-use Rattle.expr_lexer.specs.declared.path.Step.{Step}
-use Rattle.expr_lexer.specs.declared.path.Step.TheVariants.{Name, Index}
+use Rattle.base_types.specs.declared.path.Step.{Step}
+use Rattle.base_types.specs.declared.path.Step.TheVariants.{Name, Index}
 use Rattle.attr_value.specs.Tree.{Tree, list, map, Trees, no_trees, tree}
 use Rattle.attr_value.specs.Tree.{Attributes, no_attributes, attribute}
 use Rattle.attr_value.specs.Sizes.{depth, item_depth}

@@ -12,7 +12,7 @@ ghost use Rattle.attr_value.specs.View.{tree_of, trees_of, attributes};
 
 use crate::fault::{ValueEnd, ValueFault};
 use crate::value::{Item, Value};
-use expr_lexer::{DocPath, Seq, Step, Text};
+use base_types::{DocPath, Seq, Step, Text};
 use std::alloc::AllocError as NoMemory;
 
 /// How many lists and maps may lie in one another.

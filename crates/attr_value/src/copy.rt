@@ -4,7 +4,7 @@ ghost use Rattle.std.specs.Prelude.{◌≡◌, IfOk};
 ghost use Rattle.attr_value.specs.View.{tree_of, trees_of, attributes};
 
 use crate::value::{Item, Value};
-use expr_lexer::Seq;
+use base_types::Seq;
 use std::alloc::AllocError as NoMemory;
 use std::collections::BTreeMap;
 use std::default::Emptied;

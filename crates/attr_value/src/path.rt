@@ -5,7 +5,7 @@ ghost use Rattle.attr_value.specs.Paths.{found, found_in, child, value_at, eleme
 ghost use Rattle.attr_value.specs.View.{tree_of, trees_of, attributes, lent_tree};
 
 use crate::value::{Item, Value};
-use expr_lexer::{DocPath, Seq, Step, Text};
+use base_types::{DocPath, Seq, Step, Text};
 
 impl Item {
     /// What the path finds, lent: a path begins with a name, and each step of it leads to an

@@ -10,7 +10,7 @@ ghost use Rattle.attr_value.specs.View.{tree_of};
 
 use crate::fault::{ValueEnd, ValueFault};
 use crate::value::Value;
-use expr_lexer::{Bytes, Seq, Text};
+use base_types::{Bytes, Seq, Text};
 use number38::Number;
 
 /// The set of these texts, in order of their bytes.

@@ -6,7 +6,7 @@ ghost use Rattle.attr_value.specs.Sizes.{depth, elements_depth, item_depth};
 ghost use Rattle.attr_value.specs.View.{tree_of, trees_of, attributes};
 
 use crate::value::{Item, Value};
-use expr_lexer::{Bytes, Seq, Text};
+use base_types::{Bytes, Seq, Text};
 use number38::Number;
 
 impl Value {

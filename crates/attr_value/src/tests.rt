@@ -1,5 +1,5 @@
 use crate::{Item, Value, ValueEnd, ValueFault, binary_set, number_set, string_set};
-use expr_lexer::{Bytes, DocPath, Seq, Step, Text};
+use base_types::{Bytes, DocPath, Seq, Step, Text};
 use number38::{Number, parse};
 use std::alloc::{AllocError, Global};
 use std::cmp::Ordering;

@@ -5,7 +5,7 @@ ghost use Rattle.attr_value.specs.Sizes.{attribute_count};
 ghost use Rattle.attr_value.specs.Tree.{no_attributes, AreInOrder};
 ghost use Rattle.attr_value.specs.View.{attributes, entries};
 
-use expr_lexer::{Bytes, Seq, Text};
+use base_types::{Bytes, Seq, Text};
 use number38::Number;
 use std::alloc::Global;
 use std::collections::btree_map::{self, BTreeMap};

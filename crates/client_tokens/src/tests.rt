@@ -1,5 +1,5 @@
 use super::{Kept, Tokens};
-use expr_lexer::Text;
+use base_types::Text;
 use std::alloc::Global;
 use std::process::Abort;
 use std::test::Fail;

@@ -4,7 +4,7 @@ ghost use Rattle.client_tokens.specs.TokenMap.{completed_at, purged};
 
 use crate::heap::{self, Entries};
 use crate::kept::Kept;
-use expr_lexer::Text;
+use base_types::Text;
 use indexmap::IndexMap;
 use std::alloc::{AllocError as NoMemory, Global};
 use std::marker::Model;

@@ -1,7 +1,7 @@
 ghost use Rattle.std.specs.Prelude.{◌≡◌, ℕ, ◌+◌, ◌-◌, ◌*◌, ◌^◌, ◌≤◌, min, drop, Option, Some, None, IfOk};
 ghost use Rattle.ddb_outside.specs.Clocks.{Looks, repeating};
 
-use expr_lexer::Seq;
+use base_types::Seq;
 use std::alloc::AllocError as NoMemory;
 use std::rt;
 use std::time::{Duration, Instant, SystemTime, UNIX_EPOCH};

@@ -5,7 +5,7 @@ ghost use Rattle.ddb_outside.specs.Causes.{HasCause};
 ghost use Rattle.ddb_outside.specs.Writes.{AppendsFront};
 
 use crate::failed::Failed;
-use expr_lexer::{Bytes, Seq};
+use base_types::{Bytes, Seq};
 use std::alloc::Global;
 use std::io::Write;
 

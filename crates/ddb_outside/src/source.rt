@@ -4,7 +4,7 @@ ghost use Rattle.std.specs.Io.KnownBytes.{ReadConsumes};
 ghost use Rattle.ddb_outside.specs.Causes.{HasCause};
 
 use crate::failed::Failed;
-use expr_lexer::{Bytes, Seq};
+use base_types::{Bytes, Seq};
 use std::io::Read;
 
 /// Where bytes come from.

@@ -2,7 +2,7 @@ use super::{
     Clock, Failed, ListClock, MemSink, MemSource, Sink, Source, StdSink, StdSource, StepClock,
     SystemClock, write_all,
 };
-use expr_lexer::{Bytes, Seq};
+use base_types::{Bytes, Seq};
 use std::alloc::Global;
 use std::io;
 use std::io::{Cursor, ErrorKind, Read, Write};

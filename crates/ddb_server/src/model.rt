@@ -2,7 +2,7 @@
 //! does to the tables.
 ghost use Rattle.std.specs.Prelude.{◌≡◌, [], IfOk, OnErr};
 
-use expr_lexer::{Seq, Text};
+use base_types::{Seq, Text};
 use std::alloc::{AllocError as NoMemory, Global};
 use table_schema::Schema;
 

@@ -3,7 +3,7 @@ ghost use Rattle.serde_json.specs.View.{view};
 ghost use Rattle.ddb_server.specs.Requests.{Denotes, create_table, json_of, text_at, has_text, is_absent, only_in, attribute_where, is_simple, stated_schema, hash_table};
 
 use crate::model::Request;
-use expr_lexer::{Seq, Text};
+use base_types::{Seq, Text};
 use serde_json::Value;
 use std::alloc::{AllocError as NoMemory, Global};
 use std::str;

@@ -1,6 +1,6 @@
 use crate::run;
 use ddb_outside::{ListClock, MemSink, MemSource, StepClock};
-use expr_lexer::{Bytes, Seq};
+use base_types::{Bytes, Seq};
 use std::alloc::Global;
 use std::test::Fail;
 

@@ -9,8 +9,8 @@ ghost use Rattle.expr_lexer.specs.Spans.{Follow, IsPart};
 ghost use Rattle.expr_lexer.specs.Spelling.{IsSpelled};
 ghost use Rattle.expr_lexer.specs.Steps.{Steps, GoesOn, BeginsToken};
 
-use crate::seq::Seq;
 use crate::token::{LexEnd, Token, TokenKind};
+use base_types::Seq;
 use std::alloc::Global;
 
 /// What stands at the front of some bytes.

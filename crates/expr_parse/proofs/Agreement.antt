@@ -1,8 +1,8 @@
 -- One list begins the other where they agree as far as both go.
 use Rattle.std.proofs.lemmas.Option.{slice_get-get_or, slice_get_read, slice_get_within, get_or_from_slice_get}
 use Rattle.std.proofs.Common.{◌+◌, ◌-◌, Any, Some, slice_get, get_or, get_or-drop, drop, length-drop, take, take_all, eq-zero-or-pos, ◌≡◌, ◌<◌, ◌≤◌, ◌⊎◌, ◌↔◌, inl, inr, ℕ, zero, suc, List, [], ◌∷◌, ◌++◌, length, refl, sym, ap, subst, ◌∙◌, arith}
-use Rattle.expr_lexer.specs.declared.path.DocPath.{DocPath}
-use Rattle.expr_lexer.specs.declared.path.Step.{Step}
+use Rattle.base_types.specs.declared.path.DocPath.{DocPath}
+use Rattle.base_types.specs.declared.path.Step.{Step}
 use Rattle.expr_parse.specs.Agreement.{Agree}
 use Rattle.expr_parse.specs.Reading.{Overlap, HaveOverlap}
 

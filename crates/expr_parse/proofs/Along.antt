@@ -1,6 +1,6 @@
 -- From what the machine answers to the grammar: for conditions and for lists of paths.
 use Rattle.std.proofs.Common.{◌≡◌, ℕ, List, [], ◌∷◌, ◌++◌, Result, Ok, Err, refl, sym, ap, subst, ◌∙◌, append-nil}
-use Rattle.expr_lexer.specs.declared.path.DocPath.{DocPath}
+use Rattle.base_types.specs.declared.path.DocPath.{DocPath}
 use Rattle.expr_parse.specs.Trees.{Tree}
 use Rattle.expr_parse.specs.Words.{Word}
 use Rattle.expr_parse.specs.Grammar.{IsCondition, ArePaths}

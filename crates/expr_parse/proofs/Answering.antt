@@ -16,7 +16,7 @@ use Rattle.expr_parse.specs.Grammar.{IsCondition, ArePaths, most_levels}
 use Rattle.expr_parse.specs.Machine.{Whole, Listed, ACondition, APath, Do, FirstPath, MorePaths}
 use Rattle.expr_parse.specs.declared.tree.Condition.{Condition}
 use Rattle.expr_parse.specs.declared.words.Missing.{Missing}
-use Rattle.expr_lexer.specs.declared.path.DocPath.{DocPath}
+use Rattle.base_types.specs.declared.path.DocPath.{DocPath}
 use Rattle.expr_parse.proofs.Along.{condition_is, condition_fault, paths_are, paths_fault}
 
 -- what the parser answers for all words of a text

@@ -1,8 +1,8 @@
 -- The machine reads every sentence, and keeps its tree.
 use Rattle.std.proofs.Common.{◌≡◌, ◌≤◌, ℕ, zero, suc, Bool, true, false, List, [], ◌∷◌, ◌++◌, length, Result, Ok, refl, sym, ap, subst, ◌∙◌, inl, inr, true≢false, append_assoc, append-nil, arith}
-use Rattle.expr_lexer.specs.declared.path.DocPath.{DocPath}
-use Rattle.expr_lexer.specs.declared.path.Step.{Step}
-use Rattle.expr_lexer.specs.declared.path.Step.TheVariants as step
+use Rattle.base_types.specs.declared.path.DocPath.{DocPath}
+use Rattle.base_types.specs.declared.path.Step.{Step}
+use Rattle.base_types.specs.declared.path.Step.TheVariants as step
 use Rattle.expr_lexer.specs.declared.token.TokenKind.TheVariants as sign
 use Rattle.expr_parse.specs.declared.tree.Comparison.{Comparison}
 use Rattle.expr_parse.specs.declared.tree.Operand.{Operand}

@@ -1,9 +1,9 @@
 -- What it means that something is owed: which words settle it, and what is kept then. P says of the rest what has to come.
 use Rattle.std.proofs.Common.{◌≡◌, ◌≤◌, ℕ, List, [], ◌∷◌, ◌++◌, length, sym, ap, ◌∙◌, append_assoc}
-use Rattle.expr_lexer.specs.declared.path.Step.{Step}
-use Rattle.expr_lexer.specs.declared.path.Step.TheVariants as step
+use Rattle.base_types.specs.declared.path.Step.{Step}
+use Rattle.base_types.specs.declared.path.Step.TheVariants as step
 use Rattle.expr_lexer.specs.declared.token.TokenKind.TheVariants as sign
-use Rattle.expr_lexer.specs.declared.path.DocPath.{DocPath}
+use Rattle.base_types.specs.declared.path.DocPath.{DocPath}
 use Rattle.expr_parse.specs.declared.tree.Operand.{Operand}
 use Rattle.expr_parse.specs.Trees.{Tree, Disjunction, Conjunction, Choice}
 use Rattle.expr_parse.specs.Words.{Word, Bare, Held, Number, Sign, Barred}

@@ -1,6 +1,6 @@
 -- Where the machine refuses a word, what was read begins a sentence, and no sentence goes on with that word.
 use Rattle.std.proofs.Common.{◌≡◌, ◌≤◌, ℕ, List, [], ◌∷◌, ◌++◌, length, Option, Some, None, Result, Ok, Err, refl, sym, ap, subst, append_assoc, append-nil, arith, codes}
-use Rattle.expr_lexer.specs.declared.path.Step.TheVariants as step
+use Rattle.base_types.specs.declared.path.Step.TheVariants as step
 use Rattle.expr_lexer.specs.declared.token.TokenKind.TheVariants as sign
 use Rattle.expr_parse.specs.declared.tree.Comparison.TheVariants as comparison
 use Rattle.expr_parse.specs.declared.tree.Operand.{Operand}

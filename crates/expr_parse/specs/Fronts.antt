@@ -1,6 +1,6 @@
 -- What stands at the front of words, and what the parser's steps over it answer.
 use Rattle.std.specs.Prelude.{◌≡◌, ◌<◌, ℕ, length, Bool, true, false, List, ◌∷◌, Option, Some, None, Result, Ok, Err}
-use Rattle.expr_lexer.specs.declared.path.Step.{Step}
+use Rattle.base_types.specs.declared.path.Step.{Step}
 use Rattle.expr_parse.specs.declared.stop.Stop.{Stop}
 use Rattle.expr_parse.specs.declared.stop.Stop.TheVariants as stop
 use Rattle.expr_parse.specs.Words.{Word, Bare, Held, Sign, meanings}

@@ -2,9 +2,9 @@
 -- "Projection expressions"). Each relation says which words spell which tree; k is the number of levels of parentheses and
 -- NOT that may still be opened.
 use Rattle.std.specs.Prelude.{◌≡◌, ◌≤◌, ◌⊎◌, ℕ, zero, suc, List, [], ◌∷◌, ◌++◌, length, codes}
-use Rattle.expr_lexer.specs.declared.path.DocPath.{DocPath}
-use Rattle.expr_lexer.specs.declared.path.Step.{Step}
-use Rattle.expr_lexer.specs.declared.path.Step.TheVariants as step
+use Rattle.base_types.specs.declared.path.DocPath.{DocPath}
+use Rattle.base_types.specs.declared.path.Step.{Step}
+use Rattle.base_types.specs.declared.path.Step.TheVariants as step
 use Rattle.expr_lexer.specs.declared.token.TokenKind.TheVariants as sign
 use Rattle.expr_parse.specs.declared.tree.Comparison.{Comparison}
 use Rattle.expr_parse.specs.declared.tree.Comparison.TheVariants as comparison

@@ -1,6 +1,6 @@
 -- What the steps of a call answer: over all words, over the tokens of a text, over the text.
 use Rattle.std.specs.Prelude.{◌≡◌, ◌<◌, ◌≤◌, ◌⊎◌, ℕ, List, [], ◌∷◌, length, All, Option, None, Some, Result, Ok, Err}
-use Rattle.expr_lexer.specs.declared.path.DocPath.{DocPath}
+use Rattle.base_types.specs.declared.path.DocPath.{DocPath}
 use Rattle.expr_lexer.specs.declared.token.Token.{Token}
 use Rattle.expr_lexer.specs.Lexes.{Lexes}
 use Rattle.expr_lexer.specs.Spans.{IsPart}

@@ -2,9 +2,9 @@
 -- first. No word is looked at twice, and each settles what is owed behind it. The grammar is apart from this: that the
 -- machine reads exactly the sentences is proved.
 use Rattle.std.specs.Prelude.{◌≡◌, ℕ, zero, suc, List, [], ◌∷◌, ◌++◌, length, Option, Some, None, Result, Ok, Err}
-use Rattle.expr_lexer.specs.declared.path.DocPath.{DocPath}
-use Rattle.expr_lexer.specs.declared.path.Step.{Step}
-use Rattle.expr_lexer.specs.declared.path.Step.TheVariants as step
+use Rattle.base_types.specs.declared.path.DocPath.{DocPath}
+use Rattle.base_types.specs.declared.path.Step.{Step}
+use Rattle.base_types.specs.declared.path.Step.TheVariants as step
 use Rattle.expr_lexer.specs.declared.token.TokenKind.TheVariants as sign
 use Rattle.expr_parse.specs.declared.tree.Comparison.TheVariants as comparison
 use Rattle.expr_parse.specs.declared.tree.Operand.{Operand}

@@ -1,7 +1,7 @@
 -- What a text reads as: a tree, or its first fault in the stated order.
 use Rattle.std.specs.Prelude.{◌≡◌, ◌<◌, ◌≤◌, ◌⊎◌, ◌-◌, ℕ, List, ◌++◌, length, Option, None, Some, Result, Ok, Err, option_map, unwrap_or, slice_get}
-use Rattle.expr_lexer.specs.declared.path.DocPath.{DocPath}
-use Rattle.expr_lexer.specs.declared.path.Step.{Step}
+use Rattle.base_types.specs.declared.path.DocPath.{DocPath}
+use Rattle.base_types.specs.declared.path.Step.{Step}
 use Rattle.expr_lexer.specs.declared.token.Token.{Token}
 use Rattle.expr_parse.specs.declared.given.Given.{Given}
 use Rattle.expr_parse.specs.declared.parse_end.ParseEnd.{ParseEnd}

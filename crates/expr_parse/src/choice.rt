@@ -14,7 +14,8 @@ use crate::sign::{close_parenthesis, open_parenthesis, stuck};
 use crate::stop::Stop;
 use crate::tree::{Condition, Operand};
 use crate::word::Word;
-use expr_lexer::{Seq, TokenKind};
+use base_types::Seq;
+use expr_lexer::TokenKind;
 use std::alloc::Global;
 
 /// The most choices of an IN behind the first.

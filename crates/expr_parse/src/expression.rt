@@ -1,7 +1,7 @@
 //! The calls that read an expression.
 
 ghost use Rattle.std.specs.Prelude.{◌≡◌, ◌<◌, ◌^◌, List, [], ◌∷◌, Ok, All, length, IfOk, IfErr, OnOk};
-ghost use Rattle.expr_lexer.specs.declared.path.DocPath.{DocPath};
+ghost use Rattle.base_types.specs.declared.path.DocPath.{DocPath};
 ghost use Rattle.expr_lexer.specs.Spans.{IsPart};
 ghost use Rattle.expr_lexer.specs.Spelling.{IsSpelled};
 ghost use Rattle.expr_parse.specs.Trees.{Tree, tree};
@@ -24,7 +24,8 @@ use crate::stop::Stop;
 use crate::tree::{Condition, Paths};
 use crate::word::Word;
 use crate::words::{Missing, words};
-use expr_lexer::{DocPath, LexEnd, Seq, Text, Token, tokens};
+use base_types::{DocPath, Seq, Text};
+use expr_lexer::{LexEnd, Token, tokens};
 use std::alloc::Global;
 
 /// The most bytes of an expression.

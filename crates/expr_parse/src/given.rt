@@ -5,7 +5,7 @@ ghost use Rattle.expr_parse.specs.Given.{name_place, value_place, name_at};
 ghost use Rattle.expr_parse.specs.Ascending.{Ascend, AreAscending};
 ghost use Rattle.expr_parse.specs.Marks.{IsMadeFor, IsUnmarked, first_unused};
 
-use expr_lexer::{Seq, Text};
+use base_types::{Seq, Text};
 use std::alloc::{AllocError as NoMemory, Global};
 
 /// The placeholders that a request gives, each with its sign: `#name` of names, `:name` of values.

@@ -1,7 +1,7 @@
 //! What holds of every text. Each law is the contract of a function that does nothing.
 
 ghost use Rattle.std.specs.Prelude.{◌≡◌, ℕ, List, Result};
-ghost use Rattle.expr_lexer.specs.declared.path.DocPath.{DocPath};
+ghost use Rattle.base_types.specs.declared.path.DocPath.{DocPath};
 ghost use Rattle.expr_parse.specs.declared.given.Given.{Given};
 ghost use Rattle.expr_parse.specs.declared.parse_end.ParseEnd.{ParseEnd};
 ghost use Rattle.expr_parse.specs.Trees.{Tree};

@@ -4,7 +4,7 @@ ghost use Rattle.std.specs.Prelude.{◌↔◌, IsTrue, Any};
 ghost use Rattle.expr_parse.specs.Reading.{Overlap, HaveOverlap};
 ghost use Rattle.expr_parse.specs.Agreement.{Agree};
 
-use expr_lexer::{DocPath, Step};
+use base_types::{DocPath, Step};
 
 /// Whether two lists of steps are the same as far as both go.
 fn agree(one: &[Step], other: &[Step]) -> bool

@@ -1,6 +1,6 @@
 //! Why a text is refused.
 
-use expr_lexer::Text;
+use base_types::Text;
 
 /// The clauses of an update.
 #[derive(Debug, Clone, Copy, PartialEq, Eq)]

@@ -2,7 +2,7 @@
 #![tactic(auto, using(crate::proofs::Parsing::do_it))]
 
 ghost use Rattle.std.specs.Prelude.{◌≡◌, ◌<◌, ◌∷◌, [], ◌++◌, length, IfOk, IfSome, OnOk, IsOkUnless};
-ghost use Rattle.expr_lexer.specs.declared.path.Step.{Step};
+ghost use Rattle.base_types.specs.declared.path.Step.{Step};
 ghost use Rattle.expr_parse.specs.Words.{meanings};
 ghost use Rattle.expr_parse.specs.Fronts.{StepsOn};
 ghost use Rattle.expr_parse.specs.Parses.{Parses, Extends};
@@ -11,7 +11,8 @@ ghost use Rattle.expr_parse.specs.Machine.{Steps, Listed, APath, AField, AnIndex
 use crate::sign::{close_bracket, stuck};
 use crate::stop::Stop;
 use crate::word::Word;
-use expr_lexer::{DocPath, Seq, Step, Text, TokenKind};
+use base_types::{DocPath, Seq, Step, Text};
+use expr_lexer::TokenKind;
 use std::alloc::Global;
 
 /// Adds a step by name.

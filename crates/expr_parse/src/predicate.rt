@@ -16,7 +16,8 @@ use crate::sign::{and, close_parenthesis, comma, open_parenthesis, stuck};
 use crate::stop::Stop;
 use crate::tree::{Comparison, Condition, Operand};
 use crate::word::Word;
-use expr_lexer::{DocPath, TokenKind};
+use base_types::DocPath;
+use expr_lexer::TokenKind;
 use std::alloc::Global;
 
 /// The comparison of an operand with the one that follows.

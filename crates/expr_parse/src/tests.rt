@@ -4,7 +4,7 @@ ghost use Rattle.expr_parse.specs.Marks.{IsMadeFor};
 use super::{
     Comparison, Condition, Given, NamePair, Operand, ParseEnd, Paths, Used, condition, paths,
 };
-use expr_lexer::{DocPath, Seq, Step, Text};
+use base_types::{DocPath, Seq, Step, Text};
 use std::alloc::{AllocError, Global};
 use std::test::Fail;
 

@@ -1,7 +1,7 @@
 //! The trees that expressions stand for (DynamoDB Developer Guide, "Comparison operator and
 //! function reference" and "Projection expressions").
 
-use expr_lexer::{DocPath, Seq};
+use base_types::{DocPath, Seq};
 
 /// The sign between two operands: `=`, `<>`, `<`, `<=`, `>`, `>=`.
 #[derive(Debug, Clone, Copy, PartialEq, Eq)]

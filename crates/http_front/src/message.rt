@@ -1,4 +1,4 @@
-use expr_lexer::Bytes;
+use base_types::Bytes;
 
 /// A message of a connection (RFC 9112, section 2).
 #[derive(Debug, Drop)]

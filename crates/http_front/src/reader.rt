@@ -13,7 +13,7 @@ use crate::head::{Head, ROOM, find_head};
 use crate::message::Message;
 use bytes::BytesMut;
 use ddb_outside::Source;
-use expr_lexer::Bytes;
+use base_types::Bytes;
 use httparse::spans::{EMPTY_HEADER_SPAN, HeaderSpan, Span};
 use std::alloc::{AllocError as NoMemory, Global};
 use std::marker::Model;

@@ -4,7 +4,7 @@ ghost use Rattle.http_front.specs.Replies.{IsReplyStatus};
 use super::{HttpFault, Message, NextEnd, Reader, one_reading, refuse, reply};
 use crate::head::{ROOM, find_head};
 use ddb_outside::{Failed, MemSink, MemSource};
-use expr_lexer::{Bytes, Seq};
+use base_types::{Bytes, Seq};
 use httparse::spans::EMPTY_HEADER_SPAN;
 use std::alloc::Global;
 use std::test::Fail;

@@ -10,7 +10,7 @@ use crate::indexes::Indexes;
 use crate::keys::KeyNames;
 use crate::name::is_table_name;
 use crate::schema::Schema;
-use expr_lexer::Text;
+use base_types::Text;
 
 /// The most local indexes of a table.
 const MAX_LOCALS: usize = 5;

@@ -2,7 +2,7 @@ ghost use Rattle.std.specs.Prelude.{◌≡◌, ◌≢◌, IfOk, IsTrue, ◌↔�
 ghost use Rattle.table_schema.specs.Name.{IsAttributeName};
 
 use crate::name::is_attribute_name;
-use expr_lexer::Text;
+use base_types::Text;
 use std::alloc::AllocError as NoMemory;
 
 /// The type of a key attribute: a string, a number or bytes.

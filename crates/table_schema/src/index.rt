@@ -2,7 +2,7 @@ ghost use Rattle.std.specs.Prelude.{◌≡◌, IfOk, IsTrue, ◌↔◌};
 ghost use Rattle.table_schema.specs.Index.{IsProjection};
 
 use crate::keys::KeyNames;
-use expr_lexer::{Seq, Text};
+use base_types::{Seq, Text};
 use std::alloc::AllocError as NoMemory;
 
 /// The attributes of an item that an index keeps: those of the keys, those and the named ones, or all

@@ -9,7 +9,7 @@ use crate::index::{GlobalIndex, LocalIndex, Projection};
 use crate::keys::KeyNames;
 use crate::name::is_table_name;
 use crate::schema::Schema;
-use expr_lexer::Text;
+use base_types::Text;
 
 /// An index of either kind, lent.
 #[derive(Clone, Copy)]

@@ -1,7 +1,7 @@
 ghost use Rattle.std.specs.Prelude.{◌≡◌, IfOk, IsTrue, ◌↔◌};
 ghost use Rattle.table_schema.specs.Key.{Names, AreApart, IsLocalTo};
 
-use expr_lexer::Text;
+use base_types::Text;
 use std::alloc::AllocError as NoMemory;
 
 /// The names of the attributes that are the key of a table or of an index: the partition key (HASH) and,

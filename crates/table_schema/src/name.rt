@@ -1,7 +1,7 @@
 ghost use Rattle.std.specs.Prelude.{IsTrue, ◌↔◌};
 ghost use Rattle.table_schema.specs.Name.{IsNameByte, IsTableName, IsAttributeName};
 
-use expr_lexer::Text;
+use base_types::Text;
 
 /// Whether a table or an index may have this name.
 pub fn is_table_name(name: &Text) -> bool

@@ -3,7 +3,7 @@ ghost use Rattle.std.specs.Prelude.{◌≡◌, IfOk};
 use crate::definition::Definition;
 use crate::index::{GlobalIndex, LocalIndex};
 use crate::keys::KeyNames;
-use expr_lexer::{Seq, Text};
+use base_types::{Seq, Text};
 use std::alloc::AllocError as NoMemory;
 
 /// What a table was made with (API Reference: CreateTable, TableDescription).

@@ -1,7 +1,7 @@
 use super::{
     Definition, GlobalIndex, KeyKind, KeyNames, LocalIndex, Projection, Schema, check_schema,
 };
-use expr_lexer::{Seq, Text};
+use base_types::{Seq, Text};
 use std::alloc::Global;
 use std::str::SplitWhitespace;
 use std::test::Fail;

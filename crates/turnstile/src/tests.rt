@@ -5,7 +5,7 @@ ghost use Rattle.turnstile.specs.Kept.{ticket};
 ghost use Rattle.turnstile.specs.declared.tests.Added.{Added};
 
 use super::*;
-use expr_lexer::Seq;
+use base_types::Seq;
 use std::alloc::Global;
 use std::hint;
 use std::marker::Brand;

@@ -12,7 +12,7 @@ use crate::turn::{AllTurns, Turn};
 use crate::turns::{leave_turns, take_turns};
 use crate::waiting::approach;
 use crate::world::{EntryOf, World};
-use expr_lexer::Seq;
+use base_types::Seq;
 use std::alloc::{AllocError as NoMemory, Global};
 use std::marker::Model;
 use std::sync::Wait;

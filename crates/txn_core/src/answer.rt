@@ -1,7 +1,7 @@
 use crate::fate::Fate;
 use crate::reason::Reason;
 use crate::stamp::Stamp;
-use expr_lexer::Seq;
+use base_types::Seq;
 
 /// An item that a transaction holds.
 #[derive(Drop)]

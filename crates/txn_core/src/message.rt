@@ -1,6 +1,6 @@
 use crate::reason::Reason;
 use crate::stamp::Stamp;
-use expr_lexer::{Seq, Text};
+use base_types::{Seq, Text};
 
 /// What is asked of a cell. `K` says which item or which row of an index, `V` what an item or a row
 /// holds, `A` is an action on one item, `F` why an action can't be evaluated, `D` a command that

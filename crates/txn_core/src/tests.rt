@@ -5,7 +5,7 @@ use crate::{
     Answer, Break, BreakKind, Course, Entry, Event, Fate, Message, Move, Outcome, Reason, Rules,
     Ruling, Stamp, Verdict, cells, driver, laws, sending_check,
 };
-use expr_lexer::Seq;
+use base_types::Seq;
 use std::alloc::{AllocError as NoMemory, Global};
 use std::test::Fail;
 

@@ -14,7 +14,7 @@ use crate::equal::{Reply, is_stale};
 use crate::ledger::{actions_of, fate_of, has_record, next_of, stamp_of};
 use crate::reply::{is_begin, is_decide, is_done, is_fate, is_forget, is_recall};
 use crate::token::found;
-use expr_lexer::Text;
+use base_types::Text;
 use std::alloc::{AllocError as NoMemory, Global};
 use txn_core::{Answer, Event, Message, Reason, Rules, Stamp};
 

@@ -2,7 +2,7 @@ ghost use Rattle.txn_core.specs.Simple.{service};
 ghost use Rattle.txn_core.specs.SimpleLaws.{service_lawful};
 
 use crate::{ReplayEnd, replay_check};
-use expr_lexer::Seq;
+use base_types::Seq;
 use std::alloc::{AllocError as NoMemory, Global};
 use std::test::Fail;
 use txn_core::{

@@ -4,7 +4,7 @@ ghost use Rattle.txn_core.specs.History.{is_over, purged, completed, freed, begu
 ghost use Rattle.txn_replay.specs.Kept.{kept_in};
 
 use crate::equal::Reply;
-use expr_lexer::Text;
+use base_types::Text;
 use txn_core::{Answer, Event, Fate, Message, Rules};
 
 /// How long a token lives after its transaction's first Done, in microseconds.

@@ -1,5 +1,5 @@
 use Rattle.std.proofs.Common.{◌≡◌, [], Some, None, is_some, option_and_then, sym, ap, ◌∙◌}
-use Rattle.expr_lexer.specs.declared.path.Step.TheVariants.{Name}
+use Rattle.base_types.specs.declared.path.Step.TheVariants.{Name}
 use Rattle.attr_value.specs.Paths.{found_in, child, value_at, element_at, without_in, change, change_at, changed}
 use Rattle.attr_value.specs.Tree.{map}
 use Rattle.attr_value.specs.View.{tree_of, trees_of, attributes, attributes_of}

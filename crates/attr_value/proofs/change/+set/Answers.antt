@@ -1,6 +1,6 @@
 use Rattle.std.proofs.Common.{◌≡◌, ◌∷◌, Some, None, OnOk, IfErr, sym, ap, ◌∙◌, subst}
 use Rattle.std.proofs.lemmas.Result.{on_ok_weaker, on_err_weaker, IfErr-weaker}
-use Rattle.expr_lexer.specs.declared.path.Step.TheVariants.{Name}
+use Rattle.base_types.specs.declared.path.Step.TheVariants.{Name}
 use Rattle.attr_value.specs.Paths.{with_in, IsBadPathWhere}
 use Rattle.attr_value.specs.Tree.{map}
 use Rattle.attr_value.specs.View.{tree_of, trees_of, attributes, attributes_of}

@@ -1,5 +1,5 @@
 use Rattle.std.proofs.Common.{◌≡◌, List, Ok, Err, sym, subst}
-use Rattle.expr_lexer.specs.declared.path.DocPath.{DocPath}
+use Rattle.base_types.specs.declared.path.DocPath.{DocPath}
 use Rattle.expr_parse.specs.Words.{Word, words, meanings}
 use Rattle.expr_parse.specs.Grammar.{ArePaths}
 use Rattle.expr_parse.specs.Reading.{PathsFault}

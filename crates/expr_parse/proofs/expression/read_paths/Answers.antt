@@ -1,5 +1,5 @@
 use Rattle.std.proofs.Common.{List}
-use Rattle.expr_lexer.specs.declared.path.DocPath.{DocPath}
+use Rattle.base_types.specs.declared.path.DocPath.{DocPath}
 use Rattle.expr_parse.specs.Grammar.{ArePaths}
 use Rattle.expr_parse.specs.Reading.{PathsFault}
 use Rattle.expr_parse.proofs.Answering.{read_on}

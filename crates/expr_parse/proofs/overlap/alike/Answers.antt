@@ -1,5 +1,5 @@
 use Rattle.std.proofs.Common.{◌↔◌, IsTrue, List, subst₂}
-use Rattle.expr_lexer.specs.declared.path.Step.{Step}
+use Rattle.base_types.specs.declared.path.Step.{Step}
 use Rattle.expr_parse.specs.Agreement.{Agree}
 use Rattle.expr_parse.proofs.Agreement.{overlap_agree}
 use Rattle.expr_parse.proofs.overlap.alike.Goals as goal

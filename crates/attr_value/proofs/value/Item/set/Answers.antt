@@ -1,5 +1,5 @@
 use Rattle.std.proofs.Common.{◌≡◌, Bool, ◌<◌, ◌≤◌, List, Some, None, Result, Ok, Err, OnOk, OnErr, IfErr, true, false, refl, sym, ap, subst}
-use Rattle.expr_lexer.specs.declared.path.Step.{Step}
+use Rattle.base_types.specs.declared.path.Step.{Step}
 use Rattle.attr_value.specs.Paths.{with_value, reach, IsBadPathWhere}
 use Rattle.attr_value.specs.Sizes.{item_depth}
 use Rattle.attr_value.specs.Tree.{Tree, Attributes}

@@ -14,10 +14,10 @@ use Rattle.std.specs.formers.vec.Vec as vec
 use Rattle.std.specs.declared.alloc.Global.{Global}
 use Rattle.std.specs.contracts.alloc.Global as heap
 use Rattle.std.specs.contracts.impls.GlobalAllocator.TheImpl.{ghosts}
-use Rattle.expr_lexer.specs.declared.seq.Seq.TheInside.{Inside}
-use Rattle.expr_lexer.specs.declared.seq.Seq.TheView.{view, invariant}
-use Rattle.expr_lexer.specs.contracts.seq.Seq as contract
-use Rattle.expr_lexer.specs.contracts.seq.Seq.TheInside as inside
+use Rattle.base_types.specs.declared.seq.Seq.TheInside.{Inside}
+use Rattle.base_types.specs.declared.seq.Seq.TheView.{view, invariant}
+use Rattle.base_types.specs.contracts.seq.Seq as contract
+use Rattle.base_types.specs.contracts.seq.Seq.TheInside as inside
 
 abbrev pub the_former : Former {0} → Former {0}
 the_former g = list g

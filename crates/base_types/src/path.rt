@@ -4,9 +4,9 @@ use crate::seq::Seq;
 use crate::text::Text;
 use std::alloc::AllocError as NoMemory;
 
-/// A step of a document path: to the attribute of a name, or to a place of a list, from 0.
+/// A step of a document path: to the attribute of a name, or to a place of a list, from 0. Names come before places.
 /// Developer Guide: Document paths.
-#[derive(Debug, PartialEq, Eq, Drop)]
+#[derive(Debug, PartialEq, Eq, PartialOrd, Ord, Drop)]
 pub enum Step {
     Name(Text),
     Index(u32),
@@ -32,8 +32,8 @@ impl Clone for Step {
     }
 }
 
-/// Where a value is within an item: a list of steps from the item on.
-#[derive(Debug, PartialEq, Eq, Drop)]
+/// Where a value is within an item: a list of steps from the item on. A path comes before those that go on from it.
+#[derive(Debug, PartialEq, Eq, PartialOrd, Ord, Drop)]
 pub struct DocPath {
     pub steps: Seq<Step>,
 }

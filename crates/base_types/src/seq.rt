@@ -1,12 +1,13 @@
-ghost use Rattle.std.specs.Prelude.{◌≡◌, ◌↔◌, ◌<◌, [], ◌∷◌, ◌++◌, length, remove, slice_get, IfOk, IfErr, OnOk, OnErr, IsTrue};
+ghost use Rattle.std.specs.Prelude.{◌≡◌, ◌↔◌, ◌<◌, ◌≤◌, [], ◌∷◌, ◌++◌, length, insert, remove, slice_get, take, IfOk, IfErr, OnOk, OnErr, IsTrue};
 ghost use Rattle.std.specs.Borrow.{sem};
 ghost use Rattle.std.specs.List.{AllZip};
-ghost use Rattle.std.specs.Option.{option_copied, option_copied_mut};
-ghost use Rattle.std.specs.Cmp.Lexicographic.{pointwise, lists_equiv, lists_per};
+ghost use Rattle.std.specs.Option.{option_copied, option_copied_mut, option_to_list};
+ghost use Rattle.std.specs.Cmp.Lexicographic.{pointwise, slice_cmp, slice_partial_cmp, lists_equiv, lists_per, lists_po, lists_total, lists_agrees, lists_ties};
 ghost use Rattle.std.specs.Slice.Iter.{iter_rest};
-ghost use Rattle.expr_lexer.specs.Lends.{LendsItem};
+ghost use Rattle.base_types.specs.Lends.{LendsItem, LendsItems};
 
 use std::alloc::{AllocError as NoMemory, AllocFailed, Global};
+use std::cmp::Ordering;
 use std::marker::Model;
 use std::slice;
 
@@ -70,6 +71,14 @@ impl<T> Seq<T> {
         self.items.get_mut(place)
     }
 
+    /// All items, to be changed in place.
+    pub fn as_mut_slice(&mut self) -> &mut [T]
+        ensures* writes_back { sem 𝓛 (LendsItems T.row self.entry result) }
+        ensures value { result.now ≡ self.old }
+    {
+        self.items.as_mut_slice()
+    }
+
     /// Goes over the items in order.
     pub fn iter(&self) -> slice::Iter<'_, T>
         ensures { iter_rest result ≡ self.now }
@@ -101,6 +110,24 @@ impl<T> Seq<T> {
         self.items.push(item)
     }
 
+    /// Takes out the last item, or answers that there is none.
+    pub fn pop(&mut self) -> Option<T>
+        ensures { self.old ≡ self.new ++ option_to_list result }
+    {
+        self.items.pop()
+    }
+
+    /// Puts `item` at this place, from 0. Those from there on move up. Where memory is refused the list stays as it
+    /// was, and the error gives the item back.
+    pub fn insert(&mut self, place: usize, item: T) -> Result<(), AllocFailed<T>>
+        requires { place ≤ length self.old }
+        ensures ok { OnOk result (self.new ≡ insert self.old place item) }
+        ensures unchanged { OnErr result (self.new ≡ self.old) }
+        ensures given_back { IfErr result (λ refused. refused.value ≡ item) }
+    {
+        self.items.insert(place, item)
+    }
+
     /// Takes out the item at this place, from 0. Those after it close up.
     pub fn remove(&mut self, place: usize) -> T
         requires { place < length self.old }
@@ -108,6 +135,15 @@ impl<T> Seq<T> {
         ensures rest { self.new ≡ remove self.old place }
     {
         self.items.remove(place)
+    }
+}
+
+impl<T: Drop> Seq<T> {
+    /// Keeps the first items up to this many.
+    pub fn truncate(&mut self, len: usize)
+        ensures { self.new ≡ take len self.old }
+    {
+        self.items.truncate(len);
     }
 }
 
@@ -158,4 +194,29 @@ impl<T: PartialEq> PartialEq for Seq<T> {
 
 impl<T: Eq> Eq for Seq<T> {
     ghost laws = { lists_equiv T.Eq.laws };
+}
+
+/// Lists are ordered by their first items that differ, a proper front before what it begins.
+impl<T: PartialOrd> PartialOrd for Seq<T> {
+    ghost partial_cmp = { slice_partial_cmp T.partial_cmp };
+
+    ghost laws = { lists_po T.PartialOrd.laws };
+
+    fn partial_cmp(&self, other: &Seq<T>) -> Option<Ordering> {
+        self.items.partial_cmp(&other.items)
+    }
+}
+
+impl<T: Ord> Ord for Seq<T> {
+    ghost cmp = { slice_cmp T.cmp };
+
+    ghost total = { lists_total T.total };
+
+    ghost matches_partial_cmp = { lists_agrees T.matches_partial_cmp };
+
+    ghost matches_eq = { lists_ties T.cmp T.matches_eq };
+
+    fn cmp(&self, other: &Seq<T>) -> Ordering {
+        self.items.cmp(&other.items)
+    }
 }
