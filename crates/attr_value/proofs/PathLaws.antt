@@ -1,5 +1,5 @@
 -- Putting a value below an attribute or an element, and below a whole path.
-use Rattle.std.proofs.Common.{◌≡◌, ℕ, zero, suc, List, [], ◌∷◌, slice_get, slice_set, Bool, true, false, cond, Option, Some, None, option_map, option_and_then, bytes_eq, refl, sym, ap, ◌∙◌}
+use Rattle.std.proofs.Common.{◌≡◌, ◌↔◌, ℕ, zero, suc, List, [], ◌∷◌, slice_get, slice_set, Bool, true, false, cond, Option, Some, None, option_map, option_and_then, bytes_eq, refl, sym, ap, ◌∙◌}
 use Rattle.std.specs.BTreeMap.{is_at}
 use Rattle.std.specs.Map.{lookup, set_value}
 use Rattle.base_types.specs.declared.path.Step.{Step}
@@ -20,10 +20,18 @@ pub with_attribute : (name : List ℕ) (rest : List Step) (inside : Attributes) 
 with_attribute name rest inside there below value result here fits is =
     ap (λ o. option_and_then (λ t. placed (Name name) t (map inside)) (with_in rest o value)) here ∙ ap (option_and_then (λ t. placed (Name name) t (map inside))) fits ∙ ap (λ x. Some (map x)) is
 
+none_placed : (step : Step) (t : Tree) (o : Option Tree) → ((below : Tree) → placed step below t ≡ None → ⊥)
+    → option_and_then (λ below. placed step below t) o ≡ None → o ≡ None
+none_placed step t None always e = refl
+none_placed step t (Some below) always e = absurd (always below e)
+
 pub with_no_attribute : (name : List ℕ) (rest : List Step) (inside : Attributes) (there : Option Tree) (value : Tree)
-    → value_at name inside ≡ there → with_in rest there value ≡ None → with_in (Name name ∷ rest) (Some (map inside)) value ≡ None
-with_no_attribute name rest inside there value here none =
-    ap (λ o. option_and_then (λ t. placed (Name name) t (map inside)) (with_in rest o value)) here ∙ ap (option_and_then (λ t. placed (Name name) t (map inside))) none
+    → value_at name inside ≡ there → with_in rest there value ≡ None ↔ with_in (Name name ∷ rest) (Some (map inside)) value ≡ None
+with_no_attribute name rest inside there value here =
+    let whole = ap (λ o. option_and_then (λ t. placed (Name name) t (map inside)) (with_in rest o value)) here in (
+      λ none. whole ∙ ap (option_and_then (λ t. placed (Name name) t (map inside))) none,
+      λ none. none_placed (Name name) (map inside) (with_in rest there value) (λ below e. cc) (sym whole ∙ none),
+    )
 
 -- the same below an element
 pub with_element : (place : ℕ) (rest : List Step) (inside : Trees) (there : Option Tree) (below value : Tree) (result : Trees)
@@ -32,17 +40,20 @@ with_element place rest inside there below value result here fits is =
     ap (λ o. option_and_then (λ t. placed (Index place) t (list inside)) (with_in rest o value)) here ∙ ap (option_and_then (λ t. placed (Index place) t (list inside))) fits ∙ ap (λ x. Some (list x)) is
 
 pub with_no_element : (place : ℕ) (rest : List Step) (inside : Trees) (there : Option Tree) (value : Tree)
-    → element_at place inside ≡ there → with_in rest there value ≡ None → with_in (Index place ∷ rest) (Some (list inside)) value ≡ None
-with_no_element place rest inside there value here none =
-    ap (λ o. option_and_then (λ t. placed (Index place) t (list inside)) (with_in rest o value)) here ∙ ap (option_and_then (λ t. placed (Index place) t (list inside))) none
+    → element_at place inside ≡ there → with_in rest there value ≡ None ↔ with_in (Index place ∷ rest) (Some (list inside)) value ≡ None
+with_no_element place rest inside there value here =
+    let whole = ap (λ o. option_and_then (λ t. placed (Index place) t (list inside)) (with_in rest o value)) here in (
+      λ none. whole ∙ ap (option_and_then (λ t. placed (Index place) t (list inside))) none,
+      λ none. none_placed (Index place) (list inside) (with_in rest there value) (λ below e. cc) (sym whole ∙ none),
+    )
 
--- a bad path stays one where more is known
-pub bad_path_weaker : {P Q : Type 0} → (P → Q) → (end : ValueEnd) → IsBadPathWhere P end → IsBadPathWhere Q end
-bad_path_weaker f NoMemory h = h
-bad_path_weaker f (Fault EmptySet) h = h
-bad_path_weaker f (Fault DuplicateInSet) h = h
-bad_path_weaker f (Fault TooDeep) h = h
-bad_path_weaker f (Fault BadPath) h = f h
+-- a bad path is one however it is said
+pub bad_path_along : {P Q : Type 0} → P ↔ Q → (end : ValueEnd) → IsBadPathWhere P end → IsBadPathWhere Q end
+bad_path_along f NoMemory h = λ q. h (f.1 q)
+bad_path_along f (Fault EmptySet) h = h
+bad_path_along f (Fault DuplicateInSet) h = h
+bad_path_along f (Fault TooDeep) h = h
+bad_path_along f (Fault BadPath) h = f.0 h
 
 same_first : (b : Bool) (x y : Attributes) → y ≡ x → cond b x y ≡ x
 same_first true x y e = refl

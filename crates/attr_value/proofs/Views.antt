@@ -1,5 +1,5 @@
--- A value, level by level, and a map of the code beside the attributes that it stands for.
-use Rattle.std.proofs.Common.{◌≡◌, ◌↔◌, ℕ, List, [], ◌∷◌, ◌++◌, Option, Some, None, option_map, option_and_then, is_some, Ordering, Less, Equal, Greater, nat_cmp, is_eq, cond, Bool, true, false, bytes_eq, Bor, zero, suc, ◌<◌, ◌≤◌, length, slice_get, slice_set, remove, refl, sym, subst, ap, ◌∙◌, arith, rules}
+-- A map of the code beside the attributes that it stands for.
+use Rattle.std.proofs.Common.{◌≡◌, ◌↔◌, ℕ, List, [], ◌∷◌, ◌++◌, Option, Some, None, option_map, option_and_then, is_some, Ordering, Less, Equal, Greater, nat_cmp, is_eq, cond, Bool, true, false, bytes_eq, Bor, zero, suc, ◌<◌, ◌≤◌, length, slice_get, slice_set, remove, refl, sym, subst, ap, ◌∙◌, arith}
 use Rattle.std.proofs.lemmas.Cmp.{nat_list_cmp_total}
 use Rattle.std.proofs.lemmas.Map.Text.{is_eq-slice_cmp}
 use Rattle.std.specs.Cmp.Lexicographic.{slice_cmp}
@@ -14,10 +14,10 @@ use Rattle.std.specs.BTreeMap.{insert_entry, is_at}
 use Rattle.base_types.specs.declared.path.Step.{Step}
 use Rattle.attr_value.specs.Tree as tree
 use Rattle.attr_value.specs.Tree.{Tree, Trees, Attributes, no_attributes, attribute, IsBelowNames, AreInOrder}
-use Rattle.attr_value.specs.View.{tree_of, trees_of, attributes_of, attributes}
-use Rattle.attr_value.specs.Paths.{put, value_at, element_at, change, kept_attribute, change_at, kept_element, put_at, without_in, found_in}
-use Rattle.attr_value.specs.declared.value.Value.{Value, L, M, the_lemmas}
-use Rattle.attr_value.specs.declared.value.Item.{Item}
+use Rattle.attr_value.specs.View.{tree_of, trees_of, attributes_of}
+use Rattle.attr_value.specs.Paths.{put, appended, value_at, element_at, change, kept_attribute, change_at, kept_element, put_at, without_in, found_in}
+use Rattle.attr_value.specs.Sizes.{count}
+use Rattle.attr_value.specs.declared.value.Value.{Value}
 
 abbrev pub Entry : Type 0
 Entry = List ℕ × Value
@@ -25,12 +25,6 @@ Entry = List ℕ × Value
 -- the order of names
 abbrev pub name_cmp : List ℕ → List ℕ → Ordering
 name_cmp = slice_cmp nat_cmp
-
-pub tree_of-L : (v : List Value) → tree_of (L v) ≡ tree.list (trees_of v)
-tree_of-L v = search (rules, the_lemmas)
-
-pub tree_of-M : (i : Item) → tree_of (M i) ≡ tree.map (attributes i)
-tree_of-M i = search (rules, the_lemmas)
 
 attributes_of-match_ordering : (o : Ordering) (a b c : List Entry) → attributes_of (match_ordering o a b c) ≡ match_ordering o (attributes_of a) (attributes_of b) (attributes_of c)
 attributes_of-match_ordering Less a b c = refl
@@ -61,13 +55,13 @@ below_middle first [] e more h = h.0
 below_middle first (x ∷ es) e more h = below_middle first es e more h.1
 
 -- a name that is above those before it goes last
-pub put_last : (done : List Entry) (e : Entry) (more : List Entry) → IsStrictlySortedBy name_cmp (keys_of (done ++ e ∷ more))
-    → put e.0 (tree_of e.1) (attributes_of done) ≡ attributes_of (done ++ e ∷ [])
+pub insert_last : (done : List Entry) (e : Entry) (more : List Entry) → IsStrictlySortedBy name_cmp (keys_of (done ++ e ∷ more))
+    → insert_entry name_cmp done e.0 e.1 ≡ done ++ e ∷ []
 unfolding IsStrictlySortedBy
-put_last [] e more h = refl
-put_last (first ∷ done) e more h =
+insert_last [] e more h = refl
+insert_last (first ∷ done) e more h =
     let above : name_cmp e.0 first.0 ≡ Greater = nat_list_cmp_total.antisymm e.0 first.0 ∙ ap ordering_reverse (below_middle first done e more h.0) in
-    rw above (ap (attribute first.0 (tree_of first.1)) (put_last done e more h.1))
+    rw above (ap (λ es. first ∷ es) (insert_last done e more h.1))
 
 found_or : (a b : Bool) → a ≡ b → (v : Value) (rest : Option Value) (d : Option Tree) → option_map tree_of rest ≡ d → option_map tree_of (cond a (Some v) rest) ≡ cond b (Some (tree_of v)) d
 found_or true true same v rest d e = refl
@@ -205,3 +199,17 @@ is_some_here (Some v) = refl
 
 pub value_at_found : (name : List ℕ) (es : List Entry) (v : Option Value) → v ≡ lookup (is_at (name_cmp name)) es → value_at name (attributes_of es) ≡ option_map tree_of v
 value_at_found name es v here = sym (value_at-lookup name es) ∙ ap (option_map tree_of) (sym here)
+
+-- a value at the end of a list
+pub appended-push : (w : Value) (vs : List Value) → trees_of (vs ++ w ∷ []) ≡ appended (trees_of vs) (tree_of w)
+appended-push w [] = refl
+appended-push w (v ∷ vs) = ap (tree.tree (tree_of v)) (appended-push w vs)
+
+-- what has no value has no tree
+pub no_values : (vs : List Value) → (vs ≡ []) ↔ (trees_of vs ≡ tree.no_trees)
+no_values [] = (λ _. refl, λ _. refl)
+no_values (v ∷ vs) = (λ none. cc, λ none. cc)
+
+pub count-length : (vs : List Value) → count (trees_of vs) ≡ length vs
+count-length [] = refl
+count-length (v ∷ vs) = omega (arith, count-length vs)

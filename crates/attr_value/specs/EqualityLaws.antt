@@ -1,5 +1,5 @@
 -- `same` says of two values whether they are equal.
-use Rattle.std.proofs.Common.{◌≡◌, ℕ, List, Bool, true, false, ◌&&◌, bytes_eq, refl, ap, ◌∙◌, subst}
+use Rattle.std.proofs.Common.{◌≡◌, ℕ, List, Bool as Flag, true, false, ◌&&◌, bytes_eq, refl, sym, ap, ◌∙◌, subst}
 use Rattle.std.specs.Bool.{Decides}
 use Rattle.std.specs.Cmp.{IsEquivalence, decided, booleans_Decides}
 use Rattle.std.specs.Cmp.Lexicographic.{pointwise}
@@ -8,12 +8,12 @@ use Rattle.std.proofs.lemmas.Slice.Eq.{slice_eq-Decides, bytes_eq-Decides}
 use Rattle.attr_value.specs.Tree.{Tree, text, number, binary, boolean, null, list, map}
 use Rattle.attr_value.specs.Tree.{text_set, number_set, binary_set}
 use Rattle.attr_value.specs.Tree.{Trees, no_trees, tree, Attributes, no_attributes, attribute}
-use Rattle.attr_value.specs.View.{tree_of, attributes}
+use Rattle.attr_value.specs.View.{tree_of}
 use Rattle.attr_value.specs.declared.value.Value.{Value}
-use Rattle.attr_value.specs.declared.value.Item.{Item}
+use Rattle.attr_value.specs.declared.value.Value.TheVariants.{S, N, B, Bool, Null, L, M, Ss, Ns, Bs}
 use Rattle.attr_value.specs.Equality.{same, same_elements, same_attributes}
 
-both : (a b : Bool) → (a && b) ≡ true → (a ≡ true) × (b ≡ true)
+both : (a b : Flag) → (a && b) ≡ true → (a ≡ true) × (b ≡ true)
 both true b e = (refl, e)
 both false b e = cc
 
@@ -35,7 +35,7 @@ mutual
   equal_where_same (binary_set s) (binary_set u) e = ap binary_set ((texts s u).0 e)
   equal_where_same _ _ e = cc
 
-  equal_elements : (ts us : Trees) → same_elements ts us ≡ true → ts ≡ us
+  pub equal_elements : (ts us : Trees) → same_elements ts us ≡ true → ts ≡ us
   equal_elements no_trees no_trees e = refl
   equal_elements (tree t ts) (tree u us) e =
       let parts = both (same t u) (same_elements ts us) e in
@@ -53,7 +53,7 @@ mutual
       ∙ ap (attribute m u) (equal_attributes ts us parts.1)
   equal_attributes _ _ e = cc
 
-all_true : (a b : Bool) → a ≡ true → b ≡ true → (a && b) ≡ true
+all_true : (a b : Flag) → a ≡ true → b ≡ true → (a && b) ≡ true
 all_true true b p q = q
 all_true false b p q = cc
 
@@ -70,7 +70,7 @@ mutual
   same_itself (number_set s) = (slice_eq-Decides Decides-int_eq s s _ refl).1 refl
   same_itself (binary_set s) = (texts s s).1 refl
 
-  elements_itself : (ts : Trees) → same_elements ts ts ≡ true
+  pub elements_itself : (ts : Trees) → same_elements ts ts ≡ true
   elements_itself no_trees = refl
   elements_itself (tree t ts) =
       all_true (same t t) (same_elements ts ts) (same_itself t) (elements_itself ts)
@@ -87,18 +87,49 @@ same-Decides t u = (equal_where_same t u, λ e. subst (λ x. same t x ≡ true) 
 pub same_laws : IsEquivalence same
 same_laws = decided same same-Decides
 
--- the same of values and items
-pub values_laws : IsEquivalence (λ (v w : Value). same (tree_of v) (tree_of w))
-values_laws = record {
-  refl = λ v. same_laws.refl (tree_of v);
-  symm = λ v w. same_laws.symm (tree_of v) (tree_of w);
-  congr = λ v w x e. same_laws.congr (tree_of v) (tree_of w) (tree_of x) e;
-}
+-- the same of values, which are told apart as their trees are
+abbrev value_in : Tree → Value
+value_in (text s) = S s
+value_in (number z) = N z
+value_in (binary s) = B s
+value_in (boolean b) = Bool b
+value_in null = Null
+value_in (list inside) = L inside
+value_in (map inside) = M inside
+value_in (text_set s) = Ss s
+value_in (number_set s) = Ns s
+value_in (binary_set s) = Bs s
 
-pub items_laws : IsEquivalence (λ (i j : Item). same (map (attributes i)) (map (attributes j)))
-items_laws = record {
-  refl = λ i. same_laws.refl (map (attributes i));
-  symm = λ i j. same_laws.symm (map (attributes i)) (map (attributes j));
-  congr = λ i j k e.
-      same_laws.congr (map (attributes i)) (map (attributes j)) (map (attributes k)) e;
-}
+value_back : (v : Value) → value_in (tree_of v) ≡ v
+value_back (S s) = refl
+value_back (N z) = refl
+value_back (B s) = refl
+value_back (Bool b) = refl
+value_back Null = refl
+value_back (L inside) = refl
+value_back (M inside) = refl
+value_back (Ss s) = refl
+value_back (Ns s) = refl
+value_back (Bs s) = refl
+
+pub values_Decides : (v w : Value) → Decides (same (tree_of v) (tree_of w)) (v ≡ w)
+values_Decides v w = (
+  λ e. sym (value_back v) ∙ ap value_in (equal_where_same (tree_of v) (tree_of w) e) ∙ value_back w,
+  λ e. subst (λ x. same (tree_of v) (tree_of x) ≡ true) e (same_itself (tree_of v)),
+)
+
+pub values_laws : IsEquivalence (λ (v w : Value). same (tree_of v) (tree_of w))
+values_laws = decided (λ (v w : Value). same (tree_of v) (tree_of w)) values_Decides
+
+-- the same of lists and items
+pub elements_Decides : (ts us : Trees) → Decides (same_elements ts us) (ts ≡ us)
+elements_Decides ts us = (equal_elements ts us, λ e. subst (λ x. same_elements ts x ≡ true) e (elements_itself ts))
+
+pub elements_laws : IsEquivalence same_elements
+elements_laws = decided same_elements elements_Decides
+
+pub items_Decides : (ts us : Attributes) → Decides (same_attributes ts us) (ts ≡ us)
+items_Decides ts us = (equal_attributes ts us, λ e. subst (λ x. same_attributes ts x ≡ true) e (attributes_itself ts))
+
+pub items_laws : IsEquivalence same_attributes
+items_laws = decided same_attributes items_Decides

@@ -1,5 +1,9 @@
+-- The definitions in reading order: values as trees, and how a value is seen as one; equality and order; sets; sizes and
+-- depths; document paths. `Codes` and `Falls` are what the type of values needs to be seen so.
 pub mod Tree
 pub mod View
+pub mod Codes
+pub mod Falls
 pub mod Equality
 pub mod EqualityLaws
 pub mod Sets

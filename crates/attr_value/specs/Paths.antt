@@ -54,6 +54,11 @@ put_at place value no_trees = tree value no_trees
 put_at zero value (tree t rest) = tree value rest
 put_at (suc place) value (tree t rest) = tree t (put_at place value rest)
 
+-- the list with this value at its end
+abbrev pub appended : Trees → Tree → Trees
+appended no_trees value = tree value no_trees
+appended (tree t rest) value = tree t (appended rest value)
+
 -- an element that keeps a value, or goes, so that those after it close up
 abbrev pub kept_element : Option Tree → Trees → Trees
 kept_element None rest = rest
@@ -145,9 +150,13 @@ HoldsWhereDeeper limit steps item value P =
     item_depth item ≤ limit → (new : Attributes) → with_value steps item value ≡ Some new
     → P ↔ (limit < item_depth new)
 
--- memory was refused, or the path is bad and this holds
+-- the path leads to no place for the value, though the value does not reach too deep
+abbrev pub HasBadPath : ℕ → List Step → Attributes → Tree → Type 0
+HasBadPath limit steps item value = (reach steps value ≤ limit) × (with_value steps item value ≡ None)
+
+-- the path is bad exactly where this holds, and else memory was refused
 abbrev pub IsBadPathWhere : Type 0 → ValueEnd → Type 0
-IsBadPathWhere P NoMemory = ⊤
+IsBadPathWhere P NoMemory = ¬ P
 IsBadPathWhere P (Fault EmptySet) = ⊥
 IsBadPathWhere P (Fault DuplicateInSet) = ⊥
 IsBadPathWhere P (Fault TooDeep) = ⊥

@@ -1,25 +1,15 @@
--- Sets as lists: in order, without repeats.
-use Rattle.std.specs.Prelude.{◌≡◌, ℕ, ◌≤◌, ℤ, List, count_by, ⊤}
+-- Sets as values.
+use Rattle.std.specs.Prelude.{◌≡◌, ℕ, ℤ, List, ⊤}
 use Rattle.std.specs.Cmp.Lexicographic.{slice_cmp}
-use Rattle.std.specs.declared.cmp.Ordering.{Ordering}
-use Rattle.std.specs.Ordering.{is_eq, nat_cmp, int_cmp}
-use Rattle.std.specs.List.Sorted.{IsPermutation, IsStrictlySortedBy}
+use Rattle.std.specs.Ordering.{nat_cmp, int_cmp}
+use Rattle.ordered_set.specs.Sets.{IsSetOf}
+use Rattle.ordered_set.specs.declared.set.SetFault.{SetFault}
+use Rattle.ordered_set.specs.declared.set.SetFault.TheVariants.{Empty, Duplicate}
 use Rattle.attr_value.specs.Tree.{Tree, text_set, number_set, binary_set}
-use Rattle.attr_value.specs.declared.fault.ValueFault.{ValueFault}
 use Rattle.attr_value.specs.declared.fault.ValueFault.TheVariants.{EmptySet, DuplicateInSet}
 use Rattle.attr_value.specs.declared.fault.ValueFault.TheVariants.{TooDeep, BadPath}
 use Rattle.attr_value.specs.declared.fault.ValueEnd.{ValueEnd}
 use Rattle.attr_value.specs.declared.fault.ValueEnd.TheVariants.{Fault, NoMemory}
-
--- the list that a set of these elements is kept as: the elements themselves, each below those after
--- it
-pub record IsSetOf {A : Type 0} (cmp : A → A → Ordering) (elements set : List A) : Type 0 where
-  pub same_elements : IsPermutation elements set
-  pub in_order : IsStrictlySortedBy cmp set
-
--- some element is there twice
-abbrev pub HasRepeat : {A : Type 0} → (A → A → Ordering) → List A → Type 0
-HasRepeat {A} cmp elements = (x : A) × (2 ≤ count_by (λ y. is_eq (cmp x y)) elements)
 
 -- the value is the set of these texts, numbers or binaries
 abbrev pub IsTextSet : List (List ℕ) → Tree → Type 0
@@ -34,14 +24,15 @@ abbrev pub IsBinarySet : List (List ℕ) → Tree → Type 0
 IsBinarySet elements value =
     (set : List (List ℕ)) × (value ≡ binary_set set) × IsSetOf (slice_cmp nat_cmp) elements set
 
--- the faults of a set
-abbrev pub IsSetFault : ValueFault → Type 0
-IsSetFault EmptySet = ⊤
-IsSetFault DuplicateInSet = ⊤
-IsSetFault TooDeep = ⊥
-IsSetFault BadPath = ⊥
-
--- such a fault, and no want of memory
+-- the fault of a set, and no want of memory
 abbrev pub IsSetEnd : ValueEnd → Type 0
-IsSetEnd (Fault fault) = IsSetFault fault
+IsSetEnd (Fault EmptySet) = ⊤
+IsSetEnd (Fault DuplicateInSet) = ⊤
+IsSetEnd (Fault TooDeep) = ⊥
+IsSetEnd (Fault BadPath) = ⊥
 IsSetEnd NoMemory = ⊥
+
+-- a set's fault as a value's
+abbrev pub fault_of : SetFault → ValueEnd
+fault_of Empty = Fault EmptySet
+fault_of Duplicate = Fault DuplicateInSet

@@ -74,3 +74,8 @@ abbrev mutual
   pub item_depth : Attributes → ℕ
   item_depth no_attributes = 0
   item_depth (attribute name t rest) = max (depth t) (item_depth rest)
+
+-- how many lists and maps may lie in one another (DynamoDB Developer Guide, "Service, account, and table quotas": nested
+-- attribute depth)
+abbrev pub most_levels : ℕ
+most_levels = 32

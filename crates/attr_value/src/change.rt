@@ -5,14 +5,14 @@ ghost use Rattle.std.specs.Prelude.{IsTrue, OnOk, OnErr, IfErr};
 ghost use Rattle.attr_value.specs.Paths.{found, found_in, child, value_at, element_at, put, put_at};
 ghost use Rattle.attr_value.specs.Paths.{without, without_in, change, change_at, changed};
 ghost use Rattle.attr_value.specs.Paths.{with_value, reach, IsWith, HasNoPlace, HoldsWhereDeeper};
-ghost use Rattle.attr_value.specs.Paths.{IsPathEnd, IsBadPathWhere};
-ghost use Rattle.attr_value.specs.Sizes.{item_depth};
+ghost use Rattle.attr_value.specs.Paths.{HasBadPath, IsPathEnd, IsBadPathWhere};
+ghost use Rattle.attr_value.specs.Sizes.{item_depth, most_levels};
 ghost use Rattle.attr_value.specs.Tree as tree;
-ghost use Rattle.attr_value.specs.View.{tree_of, trees_of, attributes};
+ghost use Rattle.attr_value.specs.View.{tree_of};
 
 use crate::fault::{ValueEnd, ValueFault};
-use crate::value::{Item, Value};
-use base_types::{DocPath, Seq, Step, Text};
+use crate::value::{Elements, Item, Value};
+use base_types::{DocPath, Step, Text};
 use std::alloc::AllocError as NoMemory;
 
 /// How many lists and maps may lie in one another.
@@ -27,18 +27,16 @@ impl Item {
     /// there or is of another kind. The item stays as it was where there is no `Ok`, and the value
     /// is dropped then.
     pub fn set(&mut self, path: &DocPath, value: Value) -> Result<(), ValueEnd>
-        ensures ok { OnOk result (with_value path.now.steps (attributes self.old) (tree_of value)
-            ≡ Some (attributes self.new)) }
+        ensures ok { OnOk result (with_value path.now.steps self.old (tree_of value) ≡ Some self.new) }
         ensures too_deep { (result ≡ Err (ValueEnd.Fault ValueFault.TooDeep))
-            ↔ (MAX_DEPTH < reach path.now.steps (tree_of value)) }
-        ensures deeper { HoldsWhereDeeper MAX_DEPTH path.now.steps (attributes self.old)
-            (tree_of value) (result ≡ Err (ValueEnd.Fault ValueFault.TooDeep)) }
-        ensures bad_path { result ≡ Err (ValueEnd.Fault ValueFault.BadPath)
-            → with_value path.now.steps (attributes self.old) (tree_of value) ≡ None }
+            ↔ (most_levels < reach path.now.steps (tree_of value)) }
+        ensures deeper { HoldsWhereDeeper most_levels path.now.steps self.old (tree_of value)
+            (result ≡ Err (ValueEnd.Fault ValueFault.TooDeep)) }
+        ensures bad_path { (result ≡ Err (ValueEnd.Fault ValueFault.BadPath))
+            ↔ HasBadPath most_levels path.now.steps self.old (tree_of value) }
         ensures no_other { IfErr result IsPathEnd }
-        ensures unchanged { OnErr result (attributes self.new ≡ attributes self.old) }
-        ensures within { item_depth (attributes self.old) ≤ MAX_DEPTH
-            → item_depth (attributes self.new) ≤ MAX_DEPTH }
+        ensures unchanged { OnErr result (self.new ≡ self.old) }
+        ensures within { item_depth self.old ≤ most_levels → item_depth self.new ≤ most_levels }
     {
         if is_too_deep(path, &value) {
             return Err(ValueEnd::Fault(ValueFault::TooDeep));
@@ -46,24 +44,11 @@ impl Item {
         set_in(self, path.steps.as_slice(), value)
     }
 
-    /// Gives the attribute of this name the value, in place of what it had. Where memory is refused
-    /// the item stays as it was.
-    ///
-    /// It does not measure how deep the value nests: who makes an item from outside does so before.
-    pub fn put(&mut self, name: Text, value: Value) -> Result<(), NoMemory>
-        ensures ok { OnOk result
-            (attributes self.new ≡ put name (tree_of value) (attributes self.old)) }
-        ensures unchanged { OnErr result (attributes self.new ≡ attributes self.old) }
-    {
-        self.attributes.insert(name, value)?;
-        Ok(())
-    }
-
     /// Takes out what the path finds, and answers whether something was there. The elements of a
     /// list after one that goes close up. It takes no memory.
     pub fn remove(&mut self, path: &DocPath) -> bool
-        ensures found { result ≡ is_some (found path.now.steps (attributes self.old)) }
-        ensures without { attributes self.new ≡ without path.now.steps (attributes self.old) }
+        ensures found { result ≡ is_some (found path.now.steps self.old) }
+        ensures without { self.new ≡ without path.now.steps self.old }
     {
         let Some((first, rest)) = path.steps.as_slice().split_first() else {
             return false;
@@ -79,9 +64,9 @@ impl Item {
 #[cycle(remove)]
 fn remove_attribute(item: &mut Item, name: &Text, rest: &[Step]) -> bool
     ensures found { result
-        ≡ is_some (option_and_then (found_in rest.now) (value_at name.now (attributes item.old))) }
-    ensures without { attributes item.new
-        ≡ change name.now (without_in rest.now) (attributes item.old) }
+        ≡ is_some (option_and_then (found_in rest.now) (value_at name.now item.old)) }
+    ensures without { item.new
+        ≡ change name.now (without_in rest.now) item.old }
 {
     let Some((step, deeper)) = rest.split_first() else {
         return item.attributes.remove(name).is_some();
@@ -114,36 +99,36 @@ fn remove_below(value: &mut Value, step: &Step, rest: &[Step]) -> bool
 
 /// Takes out what the place and then the rest of the steps find.
 #[cycle(remove)]
-fn remove_element(list: &mut Seq<Value>, place: usize, rest: &[Step]) -> bool
+fn remove_element(list: &mut Elements, place: usize, rest: &[Step]) -> bool
     ensures found { result
-        ≡ is_some (option_and_then (found_in rest.now) (element_at place (trees_of list.old))) }
-    ensures without { trees_of list.new
-        ≡ change_at place (without_in rest.now) (trees_of list.old) }
+        ≡ is_some (option_and_then (found_in rest.now) (element_at place list.old)) }
+    ensures without { list.new
+        ≡ change_at place (without_in rest.now) list.old }
 {
     let Some((step, deeper)) = rest.split_first() else {
         return take_element(list, place);
     };
-    let Some(value) = list.get_mut(place) else {
+    let Some(value) = list.values.get_mut(place) else {
         return false;
     };
     remove_below(value, step, deeper)
 }
 
 /// Takes out the element at this place.
-fn take_element(list: &mut Seq<Value>, place: usize) -> bool
-    ensures found { result ≡ is_some (element_at place (trees_of list.old)) }
-    ensures without { trees_of list.new ≡ change_at place (without_in []) (trees_of list.old) }
+fn take_element(list: &mut Elements, place: usize) -> bool
+    ensures found { result ≡ is_some (element_at place list.old) }
+    ensures without { list.new ≡ change_at place (without_in []) list.old }
 {
-    if list.len() <= place {
+    if list.values.len() <= place {
         return false;
     }
-    drop(list.remove(place));
+    drop(list.values.remove(place));
     true
 }
 
 /// Whether the value would lie, or hold lists and maps, deeper than an item may nest.
 fn is_too_deep(path: &DocPath, value: &Value) -> bool
-    ensures { IsTrue result ↔ (MAX_DEPTH < reach path.now.steps (tree_of value.now)) }
+    ensures { IsTrue result ↔ (most_levels < reach path.now.steps (tree_of value.now)) }
 {
     let above = path.steps.len().saturating_sub(1);
     above > MAX_DEPTH as usize || value.depth() > MAX_DEPTH - above as u32
@@ -152,10 +137,10 @@ fn is_too_deep(path: &DocPath, value: &Value) -> bool
 /// Puts the value where the steps lead.
 fn set_in(item: &mut Item, steps: &[Step], value: Value) -> Result<(), ValueEnd>
     ensures ok { OnOk result
-        (with_value steps.now (attributes item.old) (tree_of value) ≡ Some (attributes item.new)) }
+        (with_value steps.now item.old (tree_of value) ≡ Some item.new) }
     ensures bad_path { IfErr result
-        (IsBadPathWhere (with_value steps.now (attributes item.old) (tree_of value) ≡ None)) }
-    ensures unchanged { OnErr result (attributes item.new ≡ attributes item.old) }
+        (IsBadPathWhere (with_value steps.now item.old (tree_of value) ≡ None)) }
+    ensures unchanged { OnErr result (item.new ≡ item.old) }
 {
     let Some((first, rest)) = steps.split_first() else {
         return Err(ValueEnd::Fault(ValueFault::BadPath));
@@ -170,10 +155,10 @@ fn set_in(item: &mut Item, steps: &[Step], value: Value) -> Result<(), ValueEnd>
 #[cycle(set)]
 fn set_attribute(item: &mut Item, name: &Text, rest: &[Step], value: Value) -> Result<(), ValueEnd>
     ensures ok { OnOk result (IsWith (Step.Name name.now) rest.now (tree_of value)
-        (tree.map (attributes item.old)) (tree.map (attributes item.new))) }
+        (tree.map item.old) (tree.map item.new)) }
     ensures bad_path { IfErr result (IsBadPathWhere (HasNoPlace (Step.Name name.now) rest.now
-        (tree_of value) (tree.map (attributes item.old)))) }
-    ensures unchanged { OnErr result (attributes item.new ≡ attributes item.old) }
+        (tree_of value) (tree.map item.old))) }
+    ensures unchanged { OnErr result (item.new ≡ item.old) }
 {
     let Some((step, deeper)) = rest.split_first() else {
         put_attribute(item, name, value)?;
@@ -209,22 +194,22 @@ fn set_below(parent: &mut Value, step: &Step, rest: &[Step], value: Value) -> Re
 /// Puts the value where the place and then the rest of the steps lead.
 #[cycle(set)]
 fn set_element(
-    list: &mut Seq<Value>,
+    list: &mut Elements,
     place: usize,
     rest: &[Step],
     value: Value,
 ) -> Result<(), ValueEnd>
     ensures ok { OnOk result (IsWith (Step.Index place) rest.now (tree_of value)
-        (tree.list (trees_of list.old)) (tree.list (trees_of list.new))) }
+        (tree.list list.old) (tree.list list.new)) }
     ensures bad_path { IfErr result (IsBadPathWhere (HasNoPlace (Step.Index place) rest.now
-        (tree_of value) (tree.list (trees_of list.old)))) }
-    ensures unchanged { OnErr result (trees_of list.new ≡ trees_of list.old) }
+        (tree_of value) (tree.list list.old))) }
+    ensures unchanged { OnErr result (list.new ≡ list.old) }
 {
     let Some((step, deeper)) = rest.split_first() else {
         put_element(list, place, value)?;
         return Ok(());
     };
-    let Some(parent) = list.get_mut(place) else {
+    let Some(parent) = list.values.get_mut(place) else {
         return Err(ValueEnd::Fault(ValueFault::BadPath));
     };
     set_below(parent, step, deeper, value)
@@ -233,8 +218,8 @@ fn set_element(
 /// Gives the attribute of this name the value, in its place where it is there.
 fn put_attribute(item: &mut Item, name: &Text, value: Value) -> Result<(), NoMemory>
     ensures ok { OnOk result
-        (attributes item.new ≡ put name.now (tree_of value) (attributes item.old)) }
-    ensures unchanged { OnErr result (attributes item.new ≡ attributes item.old) }
+        (item.new ≡ put name.now (tree_of value) item.old) }
+    ensures unchanged { OnErr result (item.new ≡ item.old) }
 {
     if let Some(kept) = item.attributes.get_mut(name) {
         *kept = value;
@@ -244,15 +229,15 @@ fn put_attribute(item: &mut Item, name: &Text, value: Value) -> Result<(), NoMem
 }
 
 /// Puts the value at this place of the list, or at its end.
-fn put_element(list: &mut Seq<Value>, place: usize, value: Value) -> Result<(), NoMemory>
+fn put_element(list: &mut Elements, place: usize, value: Value) -> Result<(), NoMemory>
     ensures ok { OnOk result
-        (trees_of list.new ≡ put_at place (tree_of value) (trees_of list.old)) }
-    ensures unchanged { OnErr result (trees_of list.new ≡ trees_of list.old) }
+        (list.new ≡ put_at place (tree_of value) list.old) }
+    ensures unchanged { OnErr result (list.new ≡ list.old) }
 {
-    if let Some(kept) = list.get_mut(place) {
+    if let Some(kept) = list.values.get_mut(place) {
         *kept = value;
         return Ok(());
     }
-    list.push(value)?;
+    list.values.push(value)?;
     Ok(())
 }

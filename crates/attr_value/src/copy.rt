@@ -1,9 +1,8 @@
 //! Copies, which may want memory.
 
 ghost use Rattle.std.specs.Prelude.{◌≡◌, IfOk};
-ghost use Rattle.attr_value.specs.View.{tree_of, trees_of, attributes};
 
-use crate::value::{Item, Value};
+use crate::value::{Elements, Item, Value};
 use base_types::Seq;
 use std::alloc::AllocError as NoMemory;
 use std::collections::BTreeMap;
@@ -13,7 +12,7 @@ impl Value {
     /// An equal value.
     #[cycle(copy)]
     pub fn try_clone(&self) -> Result<Value, NoMemory>
-        ensures { IfOk result (λ copy. tree_of copy ≡ tree_of self.now) }
+        ensures { IfOk result (λ copy. copy ≡ self.now) }
     {
         match self {
             Value::S(text) => Ok(Value::S(text.try_clone()?)),
@@ -21,7 +20,7 @@ impl Value {
             Value::B(bytes) => Ok(Value::B(bytes.try_clone()?)),
             Value::Bool(flag) => Ok(Value::Bool(*flag)),
             Value::Null => Ok(Value::Null),
-            Value::L(list) => Ok(Value::L(copy_of_list(list)?)),
+            Value::L(list) => Ok(Value::L(list.try_clone()?)),
             Value::M(item) => Ok(Value::M(item.try_clone()?)),
             Value::Ss(texts) => Ok(Value::Ss(texts.try_clone()?)),
             Value::Ns(numbers) => Ok(Value::Ns(numbers.try_clone()?)),
@@ -34,7 +33,7 @@ impl Item {
     /// An equal item.
     #[cycle(copy)]
     pub fn try_clone(&self) -> Result<Item, NoMemory>
-        ensures { IfOk result (λ copy. attributes copy ≡ attributes self.now) }
+        ensures { IfOk result (λ copy. copy ≡ self.now) }
     {
         let mut copies = BTreeMap::emptied(&self.attributes)?;
         for (name, value) in self.attributes.iter() {
@@ -45,19 +44,22 @@ impl Item {
     }
 }
 
-#[cycle(copy)]
-fn copy_of_list(list: &Seq<Value>) -> Result<Seq<Value>, NoMemory>
-    ensures { IfOk result (λ copy. trees_of copy ≡ trees_of list.now) }
-{
-    let mut copies = Seq::with_capacity(list.allocator(), list.len())?;
-    for value in list.as_slice() {
-        copies.push(value.try_clone()?)?;
+impl Elements {
+    /// An equal list.
+    #[cycle(copy)]
+    pub fn try_clone(&self) -> Result<Elements, NoMemory>
+        ensures { IfOk result (λ copy. copy ≡ self.now) }
+    {
+        let mut copies = Seq::with_capacity(self.values.allocator(), self.values.len())?;
+        for value in self.values.as_slice() {
+            copies.push(value.try_clone()?)?;
+        }
+        Ok(Elements { values: copies })
     }
-    Ok(copies)
 }
 
 impl Clone for Value {
-    ghost is_clone = { λ value copy. tree_of copy ≡ tree_of value };
+    ghost is_clone = { λ value copy. copy ≡ value };
 
     fn clone(&self) -> Result<Value, NoMemory> {
         self.try_clone()
@@ -65,9 +67,17 @@ impl Clone for Value {
 }
 
 impl Clone for Item {
-    ghost is_clone = { λ item copy. attributes copy ≡ attributes item };
+    ghost is_clone = { λ item copy. copy ≡ item };
 
     fn clone(&self) -> Result<Item, NoMemory> {
+        self.try_clone()
+    }
+}
+
+impl Clone for Elements {
+    ghost is_clone = { λ list copy. copy ≡ list };
+
+    fn clone(&self) -> Result<Elements, NoMemory> {
         self.try_clone()
     }
 }

@@ -2,9 +2,9 @@
 
 ghost use Rattle.std.specs.Prelude.{◌≡◌};
 ghost use Rattle.attr_value.specs.Equality.{same, same_elements, same_attributes, order};
-ghost use Rattle.attr_value.specs.View.{tree_of, trees_of, attributes};
+ghost use Rattle.attr_value.specs.View.{tree_of};
 
-use crate::value::{Item, Value};
+use crate::value::{Elements, Item, Value};
 use std::cmp::Ordering;
 
 impl Value {
@@ -45,15 +45,34 @@ impl Eq for Value {
     ghost laws = { values_laws };
 }
 
+/// Lists are equal where they have equal values in the same order.
+impl PartialEq for Elements {
+    ghost use Rattle.std.specs.Cmp.{partial_equiv_from_equiv};
+    ghost use Rattle.attr_value.specs.Equality.{same_elements};
+    ghost use Rattle.attr_value.specs.EqualityLaws.{elements_laws};
+
+    ghost eq = { same_elements };
+
+    ghost laws = { partial_equiv_from_equiv elements_laws };
+
+    fn eq(&self, other: &Elements) -> bool {
+        are_equal_lists(self, other)
+    }
+}
+
+impl Eq for Elements {
+    ghost use Rattle.attr_value.specs.EqualityLaws.{elements_laws};
+
+    ghost laws = { elements_laws };
+}
+
 /// Items are equal where they have the same names with equal values.
 impl PartialEq for Item {
     ghost use Rattle.std.specs.Cmp.{partial_equiv_from_equiv};
-    ghost use Rattle.attr_value.specs.Equality.{same};
+    ghost use Rattle.attr_value.specs.Equality.{same_attributes};
     ghost use Rattle.attr_value.specs.EqualityLaws.{items_laws};
-    ghost use Rattle.attr_value.specs.Tree.{map};
-    ghost use Rattle.attr_value.specs.View.{attributes};
 
-    ghost eq = { λ i j. same (map (attributes i)) (map (attributes j)) };
+    ghost eq = { same_attributes };
 
     ghost laws = { partial_equiv_from_equiv items_laws };
 
@@ -78,7 +97,7 @@ fn are_equal(value: &Value, other: &Value) -> bool
         (Value::B(bytes), Value::B(other)) => bytes == other,
         (Value::Bool(flag), Value::Bool(other)) => flag == other,
         (Value::Null, Value::Null) => true,
-        (Value::L(list), Value::L(other)) => are_equal_lists(list.as_slice(), other.as_slice()),
+        (Value::L(list), Value::L(other)) => are_equal_lists(list, other),
         (Value::M(item), Value::M(other)) => are_equal_items(item, other),
         (Value::Ss(texts), Value::Ss(other)) => texts == other,
         (Value::Ns(numbers), Value::Ns(other)) => numbers == other,
@@ -88,14 +107,16 @@ fn are_equal(value: &Value, other: &Value) -> bool
 }
 
 #[cycle(equal)]
-fn are_equal_lists(list: &[Value], other: &[Value]) -> bool
-    ensures { result ≡ same_elements (trees_of list.now) (trees_of other.now) }
+fn are_equal_lists(list: &Elements, other: &Elements) -> bool
+    ensures { result ≡ same_elements list.now other.now }
 {
-    if list.len() != other.len() {
+    let values = list.values.as_slice();
+    let others = other.values.as_slice();
+    if values.len() != others.len() {
         return false;
     }
-    for place in 0..list.len() {
-        if !are_equal(&list[place], &other[place]) {
+    for place in 0..values.len() {
+        if !are_equal(&values[place], &others[place]) {
             return false;
         }
     }
@@ -104,7 +125,7 @@ fn are_equal_lists(list: &[Value], other: &[Value]) -> bool
 
 #[cycle(equal)]
 fn are_equal_items(item: &Item, other: &Item) -> bool
-    ensures { result ≡ same_attributes (attributes item.now) (attributes other.now) }
+    ensures { result ≡ same_attributes item.now other.now }
 {
     let mut others = other.attributes.iter();
     for (name, value) in item.attributes.iter() {

@@ -2,6 +2,7 @@
 
 ghost use Rattle.std.specs.Prelude.{◌≡◌};
 
+use ordered_set::SetFault;
 use std::alloc::AllocError as NoMemory;
 
 /// What is wrong with a set or a path. Where several stand together, the first in this order is
@@ -44,5 +45,18 @@ impl From<ValueFault> for ValueEnd {
 
     fn from(fault: ValueFault) -> ValueEnd {
         ValueEnd::Fault(fault)
+    }
+}
+
+impl From<SetFault> for ValueEnd {
+    ghost use Rattle.attr_value.specs.Sets.{fault_of};
+
+    ghost from_gives = { λ fault end. end ≡ fault_of fault };
+
+    fn from(fault: SetFault) -> ValueEnd {
+        ValueEnd::Fault(match fault {
+            SetFault::Empty => ValueFault::EmptySet,
+            SetFault::Duplicate => ValueFault::DuplicateInSet,
+        })
     }
 }

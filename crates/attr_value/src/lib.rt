@@ -24,8 +24,10 @@
 
 mod change;
 mod copy;
+mod elements;
 mod equal;
 mod fault;
+mod item;
 mod path;
 mod set;
 mod size;
@@ -34,7 +36,7 @@ mod value;
 pub use change::MAX_DEPTH;
 pub use fault::{ValueEnd, ValueFault};
 pub use set::{binary_set, number_set, string_set};
-pub use value::{Item, Value};
+pub use value::{Elements, Item, Value};
 
 #[cfg(test)]
 mod tests;

@@ -3,10 +3,10 @@
 ghost use Rattle.std.specs.Prelude.{◌≡◌, length, min, sum_by};
 ghost use Rattle.attr_value.specs.Sizes.{size, list_size, item_size, number_size};
 ghost use Rattle.attr_value.specs.Sizes.{depth, elements_depth, item_depth};
-ghost use Rattle.attr_value.specs.View.{tree_of, trees_of, attributes};
+ghost use Rattle.attr_value.specs.View.{tree_of};
 
-use crate::value::{Item, Value};
-use base_types::{Bytes, Seq, Text};
+use crate::value::{Elements, Item, Value};
+use base_types::{Bytes, Text};
 use number38::Number;
 
 impl Value {
@@ -28,7 +28,7 @@ impl Value {
             Value::L(list) => list_bytes(list).saturating_add(3),
             Value::M(item) => item
                 .size()
-                .saturating_add(item.attributes.len() as u64)
+                .saturating_add(item.len() as u64)
                 .saturating_add(3),
             Value::Ss(texts) => texts_bytes(texts.as_slice()),
             Value::Ns(numbers) => numbers_bytes(numbers.as_slice()),
@@ -54,7 +54,7 @@ impl Item {
     /// The size in bytes, names and values, or `u64::MAX` where it is more than that.
     #[cycle(size)]
     pub fn size(&self) -> u64
-        ensures { result ≡ min (item_size (attributes self.now)) u64.MAX }
+        ensures { result ≡ min (item_size self.now) u64.MAX }
     {
         let mut total = 0u64;
         for (name, value) in self.attributes.iter() {
@@ -68,7 +68,7 @@ impl Item {
     /// The greatest depth of an attribute's value, 0 where there is none.
     #[cycle(depth)]
     pub fn depth(&self) -> u32
-        ensures { result ≡ min (item_depth (attributes self.now)) u32.MAX }
+        ensures { result ≡ min (item_depth self.now) u32.MAX }
     {
         let mut deepest = 0u32;
         for (_name, value) in self.attributes.iter() {
@@ -80,11 +80,11 @@ impl Item {
 
 /// The bytes of a list's elements, and 1 for each.
 #[cycle(size)]
-fn list_bytes(list: &Seq<Value>) -> u64
-    ensures { result ≡ min (list_size (trees_of list.now)) u64.MAX }
+fn list_bytes(list: &Elements) -> u64
+    ensures { result ≡ min (list_size list.now) u64.MAX }
 {
     let mut total = 0u64;
-    for value in list.as_slice() {
+    for value in list.values.as_slice() {
         total = total.saturating_add(value.size()).saturating_add(1);
     }
     total
@@ -92,11 +92,11 @@ fn list_bytes(list: &Seq<Value>) -> u64
 
 /// The greatest depth of an element, 0 where there is none.
 #[cycle(depth)]
-fn list_depth(list: &Seq<Value>) -> u32
-    ensures { result ≡ min (elements_depth (trees_of list.now)) u32.MAX }
+fn list_depth(list: &Elements) -> u32
+    ensures { result ≡ min (elements_depth list.now) u32.MAX }
 {
     let mut deepest = 0u32;
-    for value in list.as_slice() {
+    for value in list.values.as_slice() {
         deepest = deepest.max(value.depth());
     }
     deepest

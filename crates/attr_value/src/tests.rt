@@ -1,4 +1,4 @@
-use crate::{Item, Value, ValueEnd, ValueFault, binary_set, number_set, string_set};
+use crate::{Elements, Item, Value, ValueEnd, ValueFault, binary_set, number_set, string_set};
 use base_types::{Bytes, DocPath, Seq, Step, Text};
 use number38::{Number, parse};
 use std::alloc::{AllocError, Global};
@@ -19,14 +19,14 @@ fn number(from: &str) -> Result<Value, Fail> {
 }
 
 fn list_of(alloc: Global, value: Value) -> Result<Value, AllocError> {
-    let mut list = Seq::new(alloc);
+    let mut list = Elements::new(alloc);
     list.push(value)?;
     Ok(Value::L(list))
 }
 
 /// This many lists in one another, the innermost of which is empty.
 fn nested(alloc: Global, levels: u32) -> Result<Value, AllocError> {
-    let mut value = Value::L(Seq::new(alloc));
+    let mut value = Value::L(Elements::new(alloc));
     for _level in 1..levels {
         value = list_of(alloc, value)?;
     }
@@ -155,7 +155,7 @@ const LISTS: [&str; 3] = ["l", "m.y", "m.y.0"];
 
 fn put_lists(alloc: Global, item: &mut Item, places: &[&str]) -> Result<(), Fail> {
     for steps in places {
-        set(alloc, item, steps, Value::L(Seq::new(alloc)))?;
+        set(alloc, item, steps, Value::L(Elements::new(alloc)))?;
     }
     Ok(())
 }
@@ -486,6 +486,50 @@ fn attributes_in_order(rt: HostRuntime) -> Result<(), Fail> {
     assert_eq!(rt; item.len(), 4);
     assert_eq!(rt; joined_names(rt.alloc(), &item)?.as_str(), "Babbé");
     Ok(())
+}
+
+/// The names of an item that is given up, joined.
+fn names_given_up(alloc: Global, item: Item) -> Result<String, AllocError> {
+    let mut joined = String::new(alloc);
+    for (name, value) in item {
+        drop(value);
+        joined.push_str(name.as_str())?;
+    }
+    Ok(joined)
+}
+
+#[test]
+fn items_given_up(rt: HostRuntime) -> Result<(), Fail> {
+    let mut item = Item::new(rt.alloc());
+    put_nulls(rt.alloc(), &mut item, NAMES.as_slice())?;
+    let name = Text::copied(rt.alloc(), "ab")?;
+    assert!(rt; item.take(&name) == Some(Value::Null));
+    assert!(rt; item.take(&name).is_none());
+    assert_eq!(rt; names_given_up(rt.alloc(), item)?.as_str(), "Bbé");
+    Ok(())
+}
+
+/// The list has these numbers, in this order.
+fn has_numbers(rt: &impl Abort, list: &Elements, numbers: &[&str]) -> Result<(), Fail> {
+    assert_eq!(rt; list.len(), numbers.len());
+    for (value, digits) in list.iter().zip(numbers) {
+        assert!(rt; *value == number(digits)?);
+    }
+    assert!(rt; list.get(numbers.len()).is_none());
+    Ok(())
+}
+
+#[test]
+fn lists_of_values(rt: HostRuntime) -> Result<(), Fail> {
+    let mut list = Elements::new(rt.alloc());
+    assert!(rt; list.is_empty());
+    list.push(number("3")?)?;
+    list.push(number("1")?)?;
+    has_numbers(&rt, &list, ["3", "1"].as_slice())?;
+    assert!(rt; list == list.clone()?);
+    let mut values = Seq::<Value>::from(list);
+    values.truncate(1);
+    has_numbers(&rt, &Elements::from(values), ["3"].as_slice())
 }
 
 const ORDERS: [(&str, Ordering); 3] = [

@@ -1,14 +1,10 @@
-//! The ten kinds of values, and items.
-
-ghost use Rattle.std.specs.Prelude.{◌≡◌, ◌↔◌, IsTrue};
-ghost use Rattle.attr_value.specs.Sizes.{attribute_count};
-ghost use Rattle.attr_value.specs.Tree.{no_attributes, AreInOrder};
-ghost use Rattle.attr_value.specs.View.{attributes, entries};
+//! The ten kinds of values, lists of them, and items.
 
 use base_types::{Bytes, Seq, Text};
 use number38::Number;
-use std::alloc::Global;
-use std::collections::btree_map::{self, BTreeMap};
+use ordered_set::OrderedSet;
+use std::collections::btree_map::BTreeMap;
+use std::marker::Model;
 
 /// An attribute value (DynamoDB API Reference: AttributeValue).
 #[cycle(value)]
@@ -25,54 +21,69 @@ pub enum Value {
     /// The null value.
     Null,
     /// A list of values of any kinds.
-    L(Seq<Value>),
+    L(Elements),
     /// A map from names to values of any kinds.
     M(Item),
-    /// A set of texts, as [`string_set`](crate::string_set) makes it.
-    Ss(Seq<Text>),
-    /// A set of numbers, as [`number_set`](crate::number_set) makes it.
-    Ns(Seq<Number>),
-    /// A set of binaries, as [`binary_set`](crate::binary_set) makes it.
-    Bs(Seq<Bytes>),
+    /// A set of texts, in order of their bytes.
+    Ss(OrderedSet<Text>),
+    /// A set of numbers, in order of their values.
+    Ns(OrderedSet<Number>),
+    /// A set of binaries, in order of their unsigned bytes.
+    Bs(OrderedSet<Bytes>),
 }
 
-/// An item, or the inside of a map: attributes with a name and a value each, in order of the names'
-/// bytes.
+/// An item, or the inside of a map: attributes with a name and a value each, in order of the names' bytes.
 #[cycle(value)]
 #[derive(Debug, Drop)]
 pub struct Item {
     pub(crate) attributes: BTreeMap<Text, Value>,
 }
 
-impl Item {
-    /// The item with no attribute, which takes no memory until it grows.
-    pub fn new(alloc: Global) -> Item
-        ensures { attributes result ≡ no_attributes }
-    {
-        Item {
-            attributes: BTreeMap::new(alloc),
-        }
-    }
+impl Model for Item {
+    ghost use Rattle.attr_value.specs.Tree.{Attributes};
+    ghost use Rattle.attr_value.specs.Codes.{attributes_code};
 
-    /// How many attributes there are.
-    pub fn len(&self) -> usize
-        ensures { result ≡ attribute_count (attributes self.now) }
-    {
-        self.attributes.len()
-    }
+    ghost Value = { Attributes };
 
-    /// Whether there is no attribute.
-    pub fn is_empty(&self) -> bool
-        ensures { IsTrue result ↔ (attributes self.now ≡ no_attributes) }
-    {
-        self.attributes.is_empty()
-    }
+    ghost coded = { attributes_code };
 
-    /// Goes over the attributes, each a name and its value, in order of the names' bytes.
-    pub fn iter(&self) -> btree_map::Iter<'_, Text, Value>
-        ensures shows { result ≡ entries self.now }
-        ensures in_order { AreInOrder (attributes self.now) }
-    {
-        self.attributes.iter()
-    }
+    ghost use Rattle.attr_value.specs.View.{attributes_of};
+
+    ghost view = { λ i. attributes_of i.attributes.entries };
+
+    ghost use Rattle.attr_value.specs.Tree.{weight};
+
+    ghost size = { weight };
+
+    ghost use Rattle.attr_value.specs.Falls.{item_falls};
+
+    ghost size_decreases = { λ i h. item_falls i.attributes.entries };
+}
+
+/// The values of a list, in their order.
+#[cycle(value)]
+#[derive(Debug, Drop)]
+pub struct Elements {
+    pub(crate) values: Seq<Value>,
+}
+
+impl Model for Elements {
+    ghost use Rattle.attr_value.specs.Tree.{Trees};
+    ghost use Rattle.attr_value.specs.Codes.{trees_code};
+
+    ghost Value = { Trees };
+
+    ghost coded = { trees_code };
+
+    ghost use Rattle.attr_value.specs.View.{trees_of};
+
+    ghost view = { λ i. trees_of i.values };
+
+    ghost use Rattle.attr_value.specs.Tree.{trees_weight};
+
+    ghost size = { trees_weight };
+
+    ghost use Rattle.attr_value.specs.Falls.{list_falls};
+
+    ghost size_decreases = { λ i h. list_falls i.values };
 }

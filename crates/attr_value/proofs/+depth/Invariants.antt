@@ -9,4 +9,4 @@ invariant-size::list_depth-loop-value l =
 
 abbrev pub invariant-value::Item::depth-loop-name : goal.invariant-value::Item::depth-loop-name
 invariant-value::Item::depth-loop-name l =
-    max l.deepest (min (item_depth (attributes_of l._name-iterator)) (2 ^ 32 - 1)) ≡ min (item_depth (attributes_of l.self.attributes.entries)) (2 ^ 32 - 1)
+    max l.deepest (min (item_depth (attributes_of l._name-iterator)) (2 ^ 32 - 1)) ≡ min (item_depth l.self) (2 ^ 32 - 1)

@@ -9,4 +9,4 @@ invariant-size::list_bytes-loop-value l =
 
 abbrev pub invariant-value::Item::size-loop-name : goal.invariant-value::Item::size-loop-name
 invariant-value::Item::size-loop-name l =
-    record { fits : l.total < 2 ^ 64; sum : min (l.total + item_size (attributes_of l.name-iterator)) (2 ^ 64 - 1) ≡ min (item_size (attributes_of l.self.attributes.entries)) (2 ^ 64 - 1) }
+    record { fits : l.total < 2 ^ 64; sum : min (l.total + item_size (attributes_of l.name-iterator)) (2 ^ 64 - 1) ≡ min (item_size l.self) (2 ^ 64 - 1) }

@@ -1,7 +1,8 @@
+use Rattle.std.proofs.Common.{sym, ◌∙◌}
 use Rattle.attr_value.proofs.Views.{no_entries}
 use Rattle.attr_value.proofs.value.Item.is_empty.Goals as goal
 
 pub returns : goal.returns
 returns c =
-    let none = no_entries c.args.self.now.attributes.entries in
-    (λ empty. none.0 (c.is_empty.ensures.0 empty), λ empty. c.is_empty.ensures.1 (none.1 empty))
+    let none = no_entries c.self.inside.attributes.entries in
+    (λ empty. sym c.self.view_is ∙ none.0 (c.is_empty.ensures.0 empty), λ empty. c.is_empty.ensures.1 (none.1 (c.self.view_is ∙ empty)))

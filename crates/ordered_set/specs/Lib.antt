@@ -1,0 +1,2 @@
+-- What a set is.
+pub mod Sets
