@@ -1,4 +1,4 @@
-use Rattle.std.proofs.Common.{◌≡◌, [], length, drop, ap, ◌∙◌, arith}
+use Rattle.std.proofs.Common.{◌≡◌, [], drop, ap, ◌∙◌, arith}
 use Rattle.std.proofs.lemmas.List.{drop_all}
 use Rattle.attr_value.specs.Sizes.{list_size, item_size}
 use Rattle.attr_value.specs.View.{trees_of, attributes_of}

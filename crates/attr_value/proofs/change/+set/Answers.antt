@@ -1,7 +1,7 @@
-use Rattle.std.proofs.Common.{◌≡◌, ◌∷◌, Some, None, OnOk, IfErr, sym, ap, ◌∙◌, subst}
+use Rattle.std.proofs.Common.{◌∷◌, Some, None, sym, ap, ◌∙◌}
 use Rattle.std.proofs.lemmas.Result.{on_ok_weaker, on_err_weaker, IfErr-weaker}
 use Rattle.base_types.specs.declared.path.Step.TheVariants.{Name, Index}
-use Rattle.attr_value.specs.Paths.{with_in, IsBadPathWhere}
+use Rattle.attr_value.specs.Paths.{with_in}
 use Rattle.attr_value.specs.Tree.{map, list}
 use Rattle.attr_value.specs.View.{tree_of, trees_of, attributes_of}
 use Rattle.attr_value.proofs.PathLaws.{with_attribute, with_no_attribute, with_element, with_no_element, bad_path_along, attribute_same, element_same}

@@ -1,4 +1,4 @@
-use Rattle.std.proofs.Common.{◌≡◌, Bool, ◌<◌, ◌≤◌, List, Some, None, Result, Ok, Err, OnOk, OnErr, IfErr, true, false, refl, sym, ap, ◌∙◌, subst, arith}
+use Rattle.std.proofs.Common.{◌≡◌, Bool, ◌<◌, ◌≤◌, List, Some, None, Result, Ok, Err, OnOk, OnErr, IfErr, true, false, refl, sym, ap, subst, arith}
 use Rattle.base_types.specs.declared.path.Step.{Step}
 use Rattle.attr_value.specs.Paths.{with_value, reach, HasBadPath, IsBadPathWhere}
 use Rattle.attr_value.specs.Sizes.{item_depth, most_levels}
