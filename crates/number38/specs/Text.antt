@@ -1,5 +1,5 @@
 -- The texts that denote numbers.
-use Rattle.std.specs.Prelude.{◌≡◌, ℕ, ◌+◌, ◌*◌, ◌/◌, ◌^◌, ◌<◌, Bool, true, false, if◌then◌else◌, ◌==◌, nat_lt, ℤ, pos, List, [], ◌++◌, length, Option, Some, None, IfSome, unwrap_or, Result, Ok, Err, codes}
+use Rattle.std.specs.Prelude.{◌≡◌, ℕ, ◌+◌, ◌*◌, ◌/◌, ◌^◌, ◌<◌, Bool, true, false, if◌then◌else◌, ◌==◌, nat_lt, ℤ, pos, unsigned_abs, List, [], ◌++◌, length, Option, Some, None, IfSome, unwrap_or, Result, Ok, Err, codes}
 use Rattle.std.specs.Str.Parse.{AllDigits, digits_value}
 use Rattle.number38.specs.Digits.{significant_digits}
 use Rattle.number38.specs.Number.{signed, is_in_range}
@@ -95,6 +95,13 @@ valued negative m right left = let n = m * 10 ^ (167 + right) / 10 ^ left in
 -- the number that a numeral denotes, or the first fault
 abbrev pub denoted : Numeral → Result ℤ NumberFault
 denoted n = valued (is_minus n.sign) (digits_value 10 (n.whole ++ decimals n)) (raised n.exponent) (length (decimals n) + lowered n.exponent)
+
+-- the number is 10^167 times the numeral's value, with nothing rounded: moved back by the places that the point moved to
+-- the left, it is the digits moved by those to the right
+abbrev pub IsExactly : Numeral → ℤ → Type 0
+IsExactly n z =
+    unsigned_abs z * 10 ^ (length (decimals n) + lowered n.exponent)
+    ≡ digits_value 10 (n.whole ++ decimals n) * 10 ^ (167 + raised n.exponent)
 
 -- the text denotes the number
 pub record Denotes (text : List ℕ) (z : ℤ) : Type 0 where

@@ -6,7 +6,8 @@
 //!
 //! What the layer above can rely on:
 //!
-//! - [`parse`] answers the number that a text denotes by the grammar of numerals, or the first fault.
+//! - [`parse`] answers the number that a text denotes by the grammar of numerals, or the first fault. What it answers is
+//!   exact ([`nothing_is_rounded`]).
 //! - [`Number::add`] and [`Number::sub`] are exact: a sum that is no number is refused and never rounded.
 //! - [`Number::print`] writes the one plain decimal text of the number.
 //! - Only `print` takes memory.
@@ -22,7 +23,7 @@ mod sum;
 mod text;
 
 pub use number::{Number, NumberFault, from_u64};
-pub use text::parse;
+pub use text::{nothing_is_rounded, parse};
 
 #[cfg(test)]
 mod tests;

@@ -3,7 +3,7 @@
 //! The tables' right sides were computed by Python's `decimal` with ample precision, under the limits of 38 digits
 //! and of magnitudes from 1E-130 up to but not including 1E126.
 
-use crate::{Number, NumberFault, from_u64, parse};
+use crate::{Number, NumberFault, from_u64, nothing_is_rounded, parse};
 use std::alloc::{AllocError, Global};
 use std::test::Fail;
 
@@ -513,5 +513,6 @@ fn counts_digits(rt: HostRuntime) -> Result<(), Fail> {
     assert_eq!(rt; from_u64(1_000).digits(), 1);
     let printed = from_u64(u64::MAX).print(rt.alloc())?;
     assert!(rt; printed.as_str() == "18446744073709551615");
+    nothing_is_rounded();
     Ok(())
 }

@@ -3,10 +3,10 @@
 //! The text is taken apart by the grammar first. Then its digits are counted and their value computed, and the exponent
 //! is looked at last. So the faults come in their order, and no number on the way grows with the text.
 
-ghost use Rattle.std.specs.Prelude.{◌≡◌, ◌+◌, ◌*◌, ◌%◌, ◌^◌, ◌<◌, ◌≤◌, ◌⊎◌, ◌++◌, length, IfSome, IfNone, IsErrOf};
+ghost use Rattle.std.specs.Prelude.{ℤ, ◌≡◌, ◌+◌, ◌*◌, ◌%◌, ◌^◌, ◌<◌, ◌≤◌, ◌⊎◌, ◌++◌, length, IfSome, IfNone, IsErrOf};
 ghost use Rattle.std.specs.Str.Parse.{AllDigits, digits_value};
 ghost use Rattle.number38.specs.Digits.{significant_digits};
-ghost use Rattle.number38.specs.Text.{Numeral, IsTextOf, denoted, valued};
+ghost use Rattle.number38.specs.Text.{Numeral, IsTextOf, IsExactly, denoted, valued};
 ghost use Rattle.number38.specs.Reading.{pieces, answer_to, HasDigits};
 
 use crate::mantissa::{Mantissa, bounded_value, nothing};
@@ -87,3 +87,9 @@ pub fn parse(text: &str) -> Result<Number, NumberFault>
         None => Err(NumberFault::Grammar),
     }
 }
+
+/// No digit of a numeral is lost: where it denotes a number, that number, moved back by the places that the point moved
+/// to the left, is the value of the digits moved to the right. So the quotient in `denoted` is exact.
+pub fn nothing_is_rounded()
+    ensures { (n : Numeral) (z : ℤ) → denoted n ≡ Ok z → IsExactly n z }
+{}
