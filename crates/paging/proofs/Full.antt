@@ -1,0 +1,94 @@
+-- Fronts of rows that fill a page, and of rows that don't.
+use Rattle.std.proofs.Common.{◌≡◌, ℕ, zero, suc, ◌+◌, ◌<◌, ◌≤◌, Bool, true, false, List, [], ◌∷◌, ◌++◌, length, take, Option, None, Some, refl, sym, ap, ◌∙◌, subst, inl, inr, arith}
+use Rattle.std.specs.Prelude.{◌-◌, ◌||◌, ◌==◌, nat_le, nat_lt, map, filter, if◌then◌else◌}
+use Rattle.std.specs.List.{enumerate_from}
+use Rattle.std.proofs.lemmas.Bool.Decides.{nat_tests}
+use Rattle.std.proofs.lemmas.Bool.{cond-true, cond-false}
+use Rattle.std.proofs.lemmas.List.{length-take, length-append, take-append-le, append_assoc, append-nil, map-append}
+use Rattle.std.proofs.Math.Seq.{take-length, take-append_seam}
+use Rattle.std.proofs.lemmas.List.Elements.{filter-append}
+use Rattle.std.proofs.lemmas.List.Sums.{sum_by-take-le}
+use Rattle.paging.specs.declared.page.Judged.{Judged}
+use Rattle.std.specs.Option.{option_map}
+use Rattle.paging.specs.Page.{page_bytes, bytes_of, has_limit, is_full, IsPage, kept_of}
+use Rattle.paging.specs.Room.{room_after, has_stopped}
+
+fewer : (limit : Option ℕ) (more less : ℕ) → less ≤ more → has_limit limit more ≡ false → has_limit limit less ≡ false
+fewer None more less h going = refl
+fewer (Some most) more less h going = grind (arith, nat_tests)
+
+neither : (a b : Bool) → (a || b) ≡ false → (a ≡ false) × (b ≡ false)
+neither true b h = absurd (cc)
+neither false b h = (refl, h)
+
+none_of : (a b : Bool) → a ≡ false → b ≡ false → (a || b) ≡ false
+none_of true b h k = absurd (cc)
+none_of false b h k = k
+
+lighter : (more less : ℕ) → less ≤ more → nat_lt page_bytes more ≡ false → nat_lt page_bytes less ≡ false
+lighter more less h going = grind (arith, nat_tests)
+
+-- a front of rows that don't fill a page doesn't either
+pub front_not_full : (limit : Option ℕ) (rows : List Judged) (k : ℕ) → is_full limit rows ≡ false → is_full limit (take k rows) ≡ false
+front_not_full limit rows k going =
+    let both = neither (has_limit limit (length rows)) (nat_lt page_bytes (bytes_of rows)) going in
+    let shorter : length (take k rows) ≤ length rows = omega (arith, length-take k rows) in
+    none_of _ _ (fewer limit (length rows) (length (take k rows)) shorter both.0)
+    (lighter (bytes_of rows) (bytes_of (take k rows)) (sum_by-take-le (λ row. row.size) rows k) both.1)
+
+-- the whole list, where it fills no page
+pub whole_page : (limit : Option ℕ) (rows : List Judged) → is_full limit rows ≡ false → IsPage limit rows (length rows)
+whole_page limit rows going = record {
+  within = omega arith;
+  shortest = λ k h. front_not_full limit rows k going;
+  ends = inr refl;
+}
+
+-- the front with the row that fills the page
+pub page_with : (limit : Option ℕ) (front : List Judged) (row : Judged) (rest : List Judged) → is_full limit front ≡ false
+    → is_full limit (front ++ row ∷ []) ≡ true → IsPage limit ((front ++ row ∷ []) ++ rest) (length (front ++ row ∷ []))
+page_with limit front row rest going full = record {
+  within = omega (arith, length-append (front ++ row ∷ []) rest);
+  shortest = λ k h.
+    let short : k ≤ length front = omega (arith, length-append front (row ∷ [])) in
+    let same : take k ((front ++ row ∷ []) ++ rest) ≡ take k front =
+      ap (take k) (append_assoc front (row ∷ []) rest) ∙ take-append-le k front ((row ∷ []) ++ rest) short in
+    subst (λ rows. is_full limit rows ≡ false) (sym same) (front_not_full limit front k going);
+  ends = inl (subst (λ rows. is_full limit rows ≡ true) (sym (take-append_seam (front ++ row ∷ []) rest)) full);
+}
+
+numbered_push : (n : ℕ) (rows : List Judged) (row : Judged) → enumerate_from n (rows ++ row ∷ []) ≡ enumerate_from n rows ++ (n + length rows, row) ∷ []
+numbered_push n [] row = let e : n ≡ n + 0 = omega arith in ap (λ k. (k, row) ∷ []) e
+numbered_push n (first ∷ rows) row =
+    let e : n + 1 + length rows ≡ n + length (first ∷ rows) = omega arith in
+    ap (λ rest. (n, first) ∷ rest) (numbered_push (n + 1) rows row ∙ ap (λ k. enumerate_from (n + 1) rows ++ (k, row) ∷ []) e)
+
+kept_parts : (rows : List Judged) (row : Judged)
+    → kept_of (rows ++ row ∷ []) ≡ kept_of rows ++ map (λ entry. entry.0) (filter (λ (entry : ℕ × Judged). entry.1.passes) ((length rows, row) ∷ []))
+kept_parts rows row =
+    let named : 0 + length rows ≡ length rows = omega arith in
+    ap (λ entries. map (λ (entry : ℕ × Judged). entry.0) (filter (λ (entry : ℕ × Judged). entry.1.passes) entries))
+    (numbered_push 0 rows row ∙ ap (λ k. enumerate_from 0 rows ++ (k, row) ∷ []) named)
+    ∙ ap (map (λ (entry : ℕ × Judged). entry.0)) (filter-append (λ (entry : ℕ × Judged). entry.1.passes) (enumerate_from 0 rows) ((length rows, row) ∷ []))
+    ∙ map-append (λ (entry : ℕ × Judged). entry.0) (filter (λ (entry : ℕ × Judged). entry.1.passes) (enumerate_from 0 rows)) _
+
+-- a row that passes the filter is kept under its number, and another row is not
+pub kept_push : (rows : List Judged) (row : Judged) → kept_of (rows ++ row ∷ []) ≡ (if row.passes then kept_of rows ++ length rows ∷ [] else kept_of rows)
+kept_push rows row = kept_parts rows row ∙ at row.passes
+  where
+    at : (passes : Bool) → kept_of rows ++ map (λ (entry : ℕ × Judged). entry.0) (if passes then (length rows, row) ∷ [] else [])
+        ≡ (if passes then kept_of rows ++ length rows ∷ [] else kept_of rows)
+    at true = refl
+    at false = append-nil (kept_of rows)
+
+-- what is left of a limit is reached where the limit is
+limit_left : (limit : Option ℕ) (count : ℕ) → has_limit (option_map (λ most. most - count) limit) 0 ≡ has_limit limit count
+limit_left None count = refl
+limit_left (Some most) count = grind (arith, nat_tests)
+
+bytes_left : (bytes : ℕ) → (page_bytes + 1 - bytes == 0) ≡ nat_lt page_bytes bytes
+bytes_left bytes = grind (arith, nat_tests)
+
+-- a page has stopped where its rows fill it
+pub stopped_where_full : (limit : Option ℕ) (rows : List Judged) → has_stopped (room_after limit rows) ≡ is_full limit rows
+stopped_where_full limit rows = λ j. limit_left limit (length rows) j || bytes_left (bytes_of rows) j

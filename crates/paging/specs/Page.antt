@@ -1,0 +1,31 @@
+-- Pages: which rows of a list are taken together, and which of them are shown.
+use Rattle.std.specs.Prelude.{◌≡◌, ℕ, ◌<◌, ◌≤◌, Bool, true, false, ◌||◌, ◌⊎◌, nat_le, nat_lt, List, length, take, map, filter, sum_by, Option, None, Some}
+use Rattle.std.specs.List.{enumerate_from}
+use Rattle.paging.specs.declared.page.Judged.{Judged}
+
+-- the bytes that a page may have before it ends
+abbrev pub page_bytes : ℕ
+page_bytes = 1048576
+
+-- the bytes of some rows together
+abbrev pub bytes_of : List Judged → ℕ
+bytes_of rows = sum_by (λ row. row.size) rows
+
+-- there are as many rows as the limit, where there is one
+abbrev pub has_limit : Option ℕ → ℕ → Bool
+has_limit None count = false
+has_limit (Some limit) count = nat_le limit count
+
+-- the rows fill a page: they are as many as the limit, or have more than 1,048,576 bytes
+abbrev pub is_full : Option ℕ → List Judged → Bool
+is_full limit rows = has_limit limit (length rows) || nat_lt page_bytes (bytes_of rows)
+
+-- of these rows the first `count` are the page: the shortest front that is full, or where none is the whole list
+pub record IsPage (limit : Option ℕ) (rows : List Judged) (count : ℕ) : Type 0 where
+  pub within : count ≤ length rows
+  pub shortest : (k : ℕ) → k < count → is_full limit (take k rows) ≡ false
+  pub ends : (is_full limit (take count rows) ≡ true) ⊎ (count ≡ length rows)
+
+-- the numbers, from 0, of the rows that pass the filter
+abbrev pub kept_of : List Judged → List ℕ
+kept_of rows = map (λ entry. entry.0) (filter (λ entry. entry.1.passes) (enumerate_from 0 rows))

@@ -1,0 +1,103 @@
+ghost use Rattle.std.specs.Prelude.{◌≡◌, ℕ, ◌≤◌, Bool, false, List, [], ◌∷◌, ◌++◌, Option};
+ghost use Rattle.std.specs.Option.{ForSome};
+ghost use Rattle.paging.specs.declared.page.Judged.{Judged as Row};
+ghost use Rattle.paging.specs.Page.{is_full};
+ghost use Rattle.paging.specs.Room.{room_after, has_stopped, is_kept, is_stop, offer_of, row_of};
+
+use std::marker::Model;
+
+/// The bytes that a page may have before it ends.
+const PAGE_BYTES: u64 = 1_048_576;
+
+/// A row as a page sees it.
+#[derive(Clone, Copy, Drop)]
+pub struct Judged {
+    /// In bytes.
+    pub size: u64,
+    /// Whether the row passes the filter. It counts to the page either way.
+    pub passes: bool,
+}
+
+/// What becomes of a row that is offered to a page: whether it is kept, and whether the page goes on.
+#[derive(Clone, Copy, PartialEq, Eq, Debug, Drop)]
+pub enum Offer {
+    KeepGoOn,
+    SkipGoOn,
+    KeepStop,
+    SkipStop,
+}
+
+impl Offer {
+    /// Whether the row is kept.
+    pub fn is_kept(self) -> bool
+        ensures { result ≡ is_kept self }
+    {
+        matches!(self, Offer::KeepGoOn | Offer::KeepStop)
+    }
+
+    /// Whether the page ends with the row.
+    pub fn is_stop(self) -> bool
+        ensures { result ≡ is_stop self }
+    {
+        matches!(self, Offer::KeepStop | Offer::SkipStop)
+    }
+}
+
+/// How far a page is filled by the rows that were offered to it.
+///
+/// Contracts see what it may still take: rows, where there is a limit, and bytes.
+#[derive(Drop)]
+pub struct PageState {
+    rows_left: Option<u64>,
+    /// Of the rows so far, or the last `u64` where they have more.
+    bytes: u64,
+}
+
+impl Model for PageState {
+    ghost use Rattle.std.specs.Prelude.{◌+◌, ◌-◌};
+    ghost use Rattle.paging.specs.Page.{page_bytes};
+    ghost use Rattle.paging.specs.Room.{Room};
+
+    ghost Value = { Room };
+
+    ghost view = { λ s. record { rows = s.rows_left; bytes = page_bytes + 1 - s.bytes } };
+}
+
+impl PageState {
+    /// A page without rows, which takes at most `limit` rows where there is a limit.
+    pub fn start(limit: Option<u64>) -> PageState
+        requires { ForSome limit (λ most. 1 ≤ most) }
+        ensures { result ≡ room_after limit [] }
+    {
+        PageState {
+            rows_left: limit,
+            bytes: 0,
+        }
+    }
+
+    /// Takes the next row.
+    pub fn offer(&mut self, size: u64, passes_filter: bool) -> Offer
+        requires { has_stopped self.old ≡ false }
+        ensures row { (limit : Option ℕ) (rows : List Row) → self.old ≡ room_after limit rows → self.new ≡ room_after limit (rows ++ row_of size passes_filter ∷ []) }
+        ensures offer { result ≡ offer_of passes_filter (has_stopped self.new) }
+    {
+        self.bytes = self.bytes.saturating_add(size);
+        if let Some(left) = self.rows_left {
+            self.rows_left = Some(left - 1);
+        }
+        match (passes_filter, self.stopped()) {
+            (true, false) => Offer::KeepGoOn,
+            (false, false) => Offer::SkipGoOn,
+            (true, true) => Offer::KeepStop,
+            (false, true) => Offer::SkipStop,
+        }
+    }
+
+    /// Whether the page has ended: it takes no further row.
+    pub fn stopped(&self) -> bool
+        ensures stopped { result ≡ has_stopped self.now }
+        ensures full { (limit : Option ℕ) (rows : List Row) → self.now ≡ room_after limit rows → result ≡ is_full limit rows }
+    {
+        self.rows_left == Some(0) || self.bytes > PAGE_BYTES
+    }
+}
