@@ -19,7 +19,7 @@ abbrev pub Ascends : {K X : Type 0} → (K → K → Ordering) → List (K × X)
 Ascends R [] = Unit {0}
 Ascends R (row ∷ rows) = AllByRecursion (λ other. R row.0 other.0 ≡ Less) rows × Ascends R rows
 
-all_weaker : {X : Type 0} (P Q : X → Type 0) → ((x : X) → P x → Q x) → (xs : List X) → AllByRecursion P xs → AllByRecursion Q xs
+pub all_weaker : {X : Type 0} (P Q : X → Type 0) → ((x : X) → P x → Q x) → (xs : List X) → AllByRecursion P xs → AllByRecursion Q xs
 all_weaker P Q f [] all = tt
 all_weaker P Q f (x ∷ xs) all = (f x all.0, all_weaker P Q f xs all.1)
 
@@ -27,7 +27,7 @@ all_push : {X : Type 0} (P : X → Type 0) (xs : List X) (y : X) → AllByRecurs
 all_push P [] y all last = (last, tt)
 all_push P (x ∷ xs) y all last = (all.0, all_push P xs y all.1 last)
 
-reverse_cons : {X : Type 0} (x : X) (xs : List X) → reverse (x ∷ xs) ≡ reverse xs ++ x ∷ []
+pub reverse_cons : {X : Type 0} (x : X) (xs : List X) → reverse (x ∷ xs) ≡ reverse xs ++ x ∷ []
 reverse_cons x xs = reverse-append (x ∷ []) xs
 
 all_reverse : {X : Type 0} (P : X → Type 0) (xs : List X) → AllByRecursion P xs → AllByRecursion P (reverse xs)
@@ -54,6 +54,15 @@ pub ascends : {K X : Type 0} (R : K → K → Ordering) (rows : List (K × X)) �
 unfolding IsStrictlySortedBy
 ascends R [] sorted = tt
 ascends R (row ∷ rows) sorted = (all_keys (λ other. R row.0 other ≡ Less) rows sorted.0, ascends R rows sorted.1)
+
+keys_all : {K X : Type 0} (P : K → Type 0) (rows : List (K × X)) → AllByRecursion (λ row. P row.0) rows → AllByRecursion P (keys_of rows)
+keys_all P [] all = tt
+keys_all P (row ∷ rows) all = (all.0, keys_all P rows all.1)
+
+pub sorted : {K X : Type 0} (R : K → K → Ordering) (rows : List (K × X)) → Ascends R rows → IsStrictlySortedBy R (keys_of rows)
+unfolding IsStrictlySortedBy
+sorted R [] up = tt
+sorted R (row ∷ rows) up = (keys_all (λ other. R row.0 other ≡ Less) rows up.0, sorted R rows up.1)
 
 -- as a walk meets them, rows are in its order
 pub in_walk_order : {K X : Type 0} (cmp : K → K → Ordering) (forward : Bool) (rows : List (K × X)) → IsStrictlySortedBy cmp (keys_of rows)

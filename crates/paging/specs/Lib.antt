@@ -2,4 +2,5 @@
 pub mod Page
 pub mod Room
 pub mod Rows
+pub mod MapRange
 pub mod Walks

@@ -2,9 +2,11 @@
 #![tactic(auto)]
 
 mod page;
+mod range;
 mod steps;
 mod walk;
 
 pub use page::{Judged, Offer, PageState};
+pub use range::MapRange;
 pub use steps::Steps;
 pub use walk::{Judge, Walk, Walked, walk_page};
