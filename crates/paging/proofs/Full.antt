@@ -1,6 +1,6 @@
 -- Fronts of rows that fill a page, and of rows that don't.
 use Rattle.std.proofs.Common.{◌≡◌, ℕ, zero, suc, ◌+◌, ◌<◌, ◌≤◌, Bool, true, false, List, [], ◌∷◌, ◌++◌, length, take, Option, None, Some, refl, sym, ap, ◌∙◌, subst, inl, inr, arith}
-use Rattle.std.specs.Prelude.{◌-◌, ◌||◌, ◌==◌, nat_le, nat_lt, map, filter, if◌then◌else◌}
+use Rattle.std.specs.Prelude.{◌⊎◌, ◌-◌, ◌||◌, ◌==◌, nat_le, nat_lt, map, filter, if◌then◌else◌}
 use Rattle.std.specs.List.{enumerate_from}
 use Rattle.std.proofs.lemmas.Bool.Decides.{nat_tests}
 use Rattle.std.proofs.lemmas.Bool.{cond-true, cond-false}
@@ -92,3 +92,16 @@ bytes_left bytes = grind (arith, nat_tests)
 -- a page has stopped where its rows fill it
 pub stopped_where_full : (limit : Option ℕ) (rows : List Judged) → has_stopped (room_after limit rows) ≡ is_full limit rows
 stopped_where_full limit rows = λ j. limit_left limit (length rows) j || bytes_left (bytes_of rows) j
+
+no_shorter : (limit : Option ℕ) (rows : List Judged) (count other : ℕ) → IsPage limit rows count → IsPage limit rows other → ¬ (count < other)
+no_shorter limit rows count other page longer h = at page.ends
+  where
+    at : (is_full limit (take count rows) ≡ true) ⊎ (count ≡ length rows) → ⊥
+    at (inl full) = let going : is_full limit (take count rows) ≡ false = longer.shortest count h in absurd (cc)
+    at (inr whole) = let within : other ≤ length rows = longer.within in absurd (omega arith)
+
+pub one_page : (limit : Option ℕ) (rows : List Judged) (count other : ℕ) → IsPage limit rows count → IsPage limit rows other → count ≡ other
+one_page limit rows count other page another =
+    let least = no_shorter limit rows count other page another in
+    let least_too = no_shorter limit rows other count another page in
+    omega (arith, least, least_too)

@@ -10,26 +10,10 @@ use Rattle.paging.specs.declared.page.Judged.{Judged}
 use Rattle.paging.specs.declared.page.Offer.{Offer}
 use Rattle.paging.specs.declared.walk.Walked.{Walked}
 use Rattle.paging.specs.Page.{is_full, IsPage, kept_of}
-use Rattle.paging.specs.Room.{Room, room_after, has_stopped, offer_of, is_kept, is_stop}
+use Rattle.paging.specs.Room.{Room, room_after, has_stopped, Takes, is_kept, is_stop}
 use Rattle.paging.specs.Rows.{judged_rows, count_passed_over}
-use Rattle.paging.specs.Walks.{with_offer, looked_at, offered_rows, IsWalked}
+use Rattle.paging.specs.Walks.{with_offer, rows_seen, offered_rows, IsWalk}
 use Rattle.paging.proofs.Full.{whole_page, page_with, kept_push, stopped_where_full}
-
--- a page that had room now has what is left after this row
-abbrev pub Takes : Room → Room → Judged → Type 0
-Takes old new row = (limit : Option ℕ) (before : List Judged) → old ≡ room_after limit before → new ≡ room_after limit (before ++ row ∷ [])
-
-kept_is_passing : (passes stops : Bool) → is_kept (offer_of passes stops) ≡ passes
-kept_is_passing true true = refl
-kept_is_passing true false = refl
-kept_is_passing false true = refl
-kept_is_passing false false = refl
-
-pub stop_is_stopped : (passes stops : Bool) → is_stop (offer_of passes stops) ≡ stops
-stop_is_stopped true true = refl
-stop_is_stopped true false = refl
-stop_is_stopped false true = refl
-stop_is_stopped false false = refl
 
 module _ {K X : Type 0} (look : X → Option Judged) where
   -- the rows were looked at up to those that are left
@@ -74,13 +58,16 @@ module _ {K X : Type 0} (look : X → Option Judged) where
           omega arith
 
   module _ {rows left : List (K × X)} {old new : Room} {walked : Walked} (along : Along rows left old new walked) where
-    looked_at_seen : looked_at look rows walked ≡ along.seen
-    looked_at_seen =
+    seen_rows : rows_seen look rows walked ≡ along.seen
+    seen_rows =
         let many : walked.offered + walked.passed_over ≡ length along.seen = omega (arith, along.offered, along.passed, counted along.seen) in
         ap (λ n. take n rows) many ∙ ap (take (length along.seen)) along.parts ∙ take-append_seam along.seen left
 
     judged_parts : judged_rows look rows ≡ judged_rows look along.seen ++ judged_rows look left
     judged_parts = ap (judged_rows look) along.parts ∙ filter_map-append (λ (r : K × X). look r.1) along.seen left
+
+    passed_parts : count_passed_over look rows ≡ count_passed_over look along.seen + count_passed_over look left
+    passed_parts = ap (count_passed_over look) along.parts ∙ sum_by-append (λ (r : K × X). if is_none (look r.1) then 1 else 0) along.seen left
 
     offered_seen : offered_rows look rows walked ≡ judged_rows look along.seen
     offered_seen =
@@ -121,8 +108,8 @@ module _ {K X : Type 0} (look : X → Option Judged) where
   -- the next row is offered
   pub take_in : {rows left : List (K × X)} {old new : Room} {walked : Walked} → Along rows left old new walked
       → (row : K × X) (rest : List (K × X)) → left ≡ row ∷ rest → (judged : Judged) → look row.1 ≡ Some judged → (newer : Room) → Takes new newer judged
-      → (offer : Offer) → offer ≡ offer_of judged.passes (has_stopped newer) → Along rows rest old newer (with_offer walked offer)
-  take_in {rows} {left} {old} {new} {walked} along row rest is judged some newer takes offer answer = record {
+      → (offer : Offer) → is_kept offer ≡ judged.passes → Along rows rest old newer (with_offer walked offer)
+  take_in {rows} {left} {old} {new} {walked} along row rest is judged some newer takes offer passes = record {
     seen = along.seen ++ row ∷ [];
     parts = further rows along.seen rest left row along.parts is;
     offered = ap (λ n. n + 1) along.offered ∙ sym (ap length same ∙ length-append (judged_rows look along.seen) (judged ∷ []));
@@ -139,7 +126,7 @@ module _ {K X : Type 0} (look : X → Option Judged) where
       none = omega arith
       numbers : (if is_kept offer then walked.kept ++ walked.offered ∷ [] else walked.kept) ≡ kept_of (judged_rows look along.seen ++ judged ∷ [])
       numbers =
-          (λ j. if (ap is_kept answer ∙ kept_is_passing judged.passes (has_stopped newer)) j then along.kept j ++ along.offered j ∷ [] else along.kept j)
+          (λ j. if passes j then along.kept j ++ along.offered j ∷ [] else along.kept j)
           ∙ sym (kept_push (judged_rows look along.seen) judged)
 
   -- the page of all judged rows, where those that were looked at are a page with what was there before
@@ -156,15 +143,22 @@ module _ {K X : Type 0} (look : X → Option Judged) where
     -- where the rows that were looked at end the page, this is what came of the walk
     ended : ((limit : Option ℕ) (before : List Judged) → old ≡ room_after limit before
         → IsPage limit ((before ++ judged_rows look along.seen) ++ judged_rows look left) (length (before ++ judged_rows look along.seen)))
-        → IsWalked look rows old new walked
+        → IsWalk look rows old new walked
     ended page = record {
-      page = λ limit before e. page_of rows along.seen left limit before walked.offered (judged_parts along) along.offered (page limit before e);
-      room = λ limit before e. along.room limit before e ∙ ap (λ x. room_after limit (before ++ x)) (sym (offered_seen along));
+      fills = λ limit before e. record {
+        page = page_of rows along.seen left limit before walked.offered (judged_parts along) along.offered (page limit before e);
+        stopped = is ∙ ap has_stopped (room limit before e) ∙ stopped_where_full limit (before ++ offered_rows look rows walked);
+        room = room limit before e;
+      };
       stopped = is;
       kept = along.kept ∙ ap kept_of (sym (offered_seen along));
-      looked = ap (judged_rows look) (looked_at_seen along) ∙ sym (offered_seen along);
-      passed = along.passed ∙ ap (count_passed_over look) (sym (looked_at_seen along));
+      offered = ap (judged_rows look) (seen_rows along) ∙ sym (offered_seen along);
+      over = along.passed ∙ ap (count_passed_over look) (sym (seen_rows along));
+      over_at_most = omega (arith, along.passed, passed_parts along);
     }
+      where
+        room : (limit : Option ℕ) (before : List Judged) → old ≡ room_after limit before → new ≡ room_after limit (before ++ offered_rows look rows walked)
+        room limit before e = along.room limit before e ∙ ap (λ x. room_after limit (before ++ x)) (sym (offered_seen along))
 
   not_full : {rows left : List (K × X)} {old new : Room} {walked : Walked} (along : Along rows left old new walked) → has_stopped new ≡ false
       → (limit : Option ℕ) (before : List Judged) → old ≡ room_after limit before → is_full limit (before ++ judged_rows look along.seen) ≡ false
@@ -172,7 +166,7 @@ module _ {K X : Type 0} (look : X → Option Judged) where
 
   -- the rows ended before the page
   pub at_end : {rows left : List (K × X)} {old new : Room} {walked : Walked} → Along rows left old new walked → left ≡ [] → has_stopped new ≡ false
-      → walked.stopped ≡ false → IsWalked look rows old new walked
+      → walked.stopped ≡ false → IsWalk look rows old new walked
   at_end {rows} {left} along none going is =
       ended along (is ∙ sym going) (λ limit before e.
       let front : List Judged = before ++ judged_rows look along.seen in
@@ -182,11 +176,10 @@ module _ {K X : Type 0} (look : X → Option Judged) where
   -- the page ended with this row
   pub at_stop : {rows left : List (K × X)} {old new : Room} {walked : Walked} → Along rows left old new walked → has_stopped new ≡ false
       → (row : K × X) (rest : List (K × X)) → left ≡ row ∷ rest → (judged : Judged) → look row.1 ≡ Some judged → (newer : Room) → Takes new newer judged
-      → (offer : Offer) → offer ≡ offer_of judged.passes (has_stopped newer) → is_stop offer ≡ true → IsWalked look rows old newer (with_offer walked offer)
+      → (offer : Offer) → is_kept offer ≡ judged.passes → is_stop offer ≡ has_stopped newer → is_stop offer ≡ true → IsWalk look rows old newer (with_offer walked offer)
   unfolding take_in
-  at_stop {rows} {left} {old} {new} {walked} along going row rest is judged some newer takes offer answer stops =
-      let last = take_in along row rest is judged some newer takes offer answer in
-      let same : is_stop offer ≡ has_stopped newer = ap is_stop answer ∙ stop_is_stopped judged.passes (has_stopped newer) in
+  at_stop {rows} {left} {old} {new} {walked} along going row rest is judged some newer takes offer passes same stops =
+      let last = take_in along row rest is judged some newer takes offer passes in
       ended last same (λ limit before e.
       let front : List Judged = before ++ judged_rows look along.seen in
       let with_row : (front ++ judged ∷ []) ≡ before ++ judged_rows look last.seen =

@@ -1,6 +1,7 @@
--- The definitions in reading order: pages of lists, what a page may still take, the rows of a walk and what came of it.
+-- The definitions in reading order: pages of lists and what a page may still take; the rows of a walk, what came of it,
+-- and the rows of a range of a map.
 pub mod Page
 pub mod Room
 pub mod Rows
-pub mod MapRange
 pub mod Walks
+pub mod MapRange

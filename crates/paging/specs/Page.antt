@@ -3,7 +3,7 @@ use Rattle.std.specs.Prelude.{◌≡◌, ℕ, ◌<◌, ◌≤◌, Bool, true, fa
 use Rattle.std.specs.List.{enumerate_from}
 use Rattle.paging.specs.declared.page.Judged.{Judged}
 
--- the bytes that a page may have before it ends
+-- a page with more bytes than these is full
 abbrev pub page_bytes : ℕ
 page_bytes = 1048576
 
@@ -11,7 +11,7 @@ page_bytes = 1048576
 abbrev pub bytes_of : List Judged → ℕ
 bytes_of rows = sum_by (λ row. row.size) rows
 
--- there are as many rows as the limit, where there is one
+-- there are as many rows as the limit allows, where there is a limit
 abbrev pub has_limit : Option ℕ → ℕ → Bool
 has_limit None count = false
 has_limit (Some limit) count = nat_le limit count
@@ -20,11 +20,16 @@ has_limit (Some limit) count = nat_le limit count
 abbrev pub is_full : Option ℕ → List Judged → Bool
 is_full limit rows = has_limit limit (length rows) || nat_lt page_bytes (bytes_of rows)
 
--- of these rows the first `count` are the page: the shortest front that is full, or where none is the whole list
+-- the first `count` of the rows are their page: the shortest front that is full, or the whole list where none is
 pub record IsPage (limit : Option ℕ) (rows : List Judged) (count : ℕ) : Type 0 where
   pub within : count ≤ length rows
   pub shortest : (k : ℕ) → k < count → is_full limit (take k rows) ≡ false
   pub ends : (is_full limit (take count rows) ≡ true) ⊎ (count ≡ length rows)
+
+-- no list has two pages
+abbrev pub HasOnePage : Type 0
+HasOnePage =
+    (limit : Option ℕ) (rows : List Judged) (count other : ℕ) → IsPage limit rows count → IsPage limit rows other → count ≡ other
 
 -- the numbers, from 0, of the rows that pass the filter
 abbrev pub kept_of : List Judged → List ℕ

@@ -6,7 +6,7 @@ mod range;
 mod steps;
 mod walk;
 
-pub use page::{Judged, Offer, PageState};
+pub use page::{Judged, Offer, PageState, one_page};
 pub use range::MapRange;
 pub use steps::Steps;
 pub use walk::{Judge, Walk, Walked, walk_page};

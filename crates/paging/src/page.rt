@@ -1,8 +1,7 @@
-ghost use Rattle.std.specs.Prelude.{◌≡◌, ℕ, ◌≤◌, Bool, false, List, [], ◌∷◌, ◌++◌, Option};
+ghost use Rattle.std.specs.Prelude.{◌≡◌, ◌≤◌, false, []};
 ghost use Rattle.std.specs.Option.{ForSome};
-ghost use Rattle.paging.specs.declared.page.Judged.{Judged as Row};
-ghost use Rattle.paging.specs.Page.{is_full};
-ghost use Rattle.paging.specs.Room.{room_after, has_stopped, is_kept, is_stop, offer_of, row_of};
+ghost use Rattle.paging.specs.Page.{HasOnePage};
+ghost use Rattle.paging.specs.Room.{room_after, has_stopped, is_kept, is_stop, row_of, Takes, TellsFull};
 
 use std::marker::Model;
 
@@ -78,8 +77,10 @@ impl PageState {
     /// Takes the next row.
     pub fn offer(&mut self, size: u64, passes_filter: bool) -> Offer
         requires { has_stopped self.old ≡ false }
-        ensures row { (limit : Option ℕ) (rows : List Row) → self.old ≡ room_after limit rows → self.new ≡ room_after limit (rows ++ row_of size passes_filter ∷ []) }
-        ensures offer { result ≡ offer_of passes_filter (has_stopped self.new) }
+        ensures row { Takes self.old self.new (row_of size passes_filter) }
+        ensures kept { is_kept result ≡ passes_filter }
+        ensures full { TellsFull self.new (is_stop result) }
+        ensures stopped { is_stop result ≡ has_stopped self.new }
     {
         self.bytes = self.bytes.saturating_add(size);
         if let Some(left) = self.rows_left {
@@ -96,8 +97,13 @@ impl PageState {
     /// Whether the page has ended: it takes no further row.
     pub fn stopped(&self) -> bool
         ensures stopped { result ≡ has_stopped self.now }
-        ensures full { (limit : Option ℕ) (rows : List Row) → self.now ≡ room_after limit rows → result ≡ is_full limit rows }
+        ensures full { TellsFull self.now result }
     {
         self.rows_left == Some(0) || self.bytes > PAGE_BYTES
     }
 }
+
+/// A list has one page. The function does nothing: its clause is the law.
+pub fn one_page()
+    ensures { HasOnePage }
+{}

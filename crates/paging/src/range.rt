@@ -1,8 +1,9 @@
 ghost use Rattle.std.specs.Prelude.{◌≡◌, List, reverse, slice_get};
 ghost use Rattle.std.specs.Range.Bound.{bound_map};
-ghost use Rattle.std.specs.BTreeMap.Range.{entries_between, is_from_start, is_past_end};
+ghost use Rattle.std.specs.BTreeMap.Range.{is_from_start, is_past_end};
+ghost use Rattle.std.specs.Map.Iter.{deref_pair};
 ghost use Rattle.std.specs.Option.{option_copied, option_map};
-ghost use Rattle.paging.specs.MapRange.{start_of, end_of};
+ghost use Rattle.paging.specs.MapRange.{rows_between, start_of, end_of};
 
 use crate::steps::Steps;
 use crate::walk::Walk;
@@ -25,13 +26,12 @@ pub struct MapRange<'a, K: Ord, V> {
 
 impl<'a, K: Ord, V> Model for MapRange<'a, K, V> {
     ghost use Rattle.std.specs.Prelude.{◌^◌, ◌<◌, List};
-    ghost use Rattle.std.specs.Range.Bound.{bound_map};
     ghost use Rattle.std.specs.BTreeMap.{IsOrdered, btree_map_len};
-    ghost use Rattle.std.specs.BTreeMap.Range.{entries_between};
+    ghost use Rattle.paging.specs.MapRange.{rows_between};
 
     ghost Value = { List (K × V) };
 
-    ghost view = { λ r. entries_between K.cmp (bound_map (λ key. key.now) r.low) (bound_map (λ key. key.now) r.high) r.map.now.entries };
+    ghost view = { λ r. rows_between K.cmp r.map.now r.low r.high };
 
     ghost invariant = { λ r. IsOrdered K.cmp r.map.now × (btree_map_len r.map.now < 2 ^ 64) };
 }
@@ -39,9 +39,10 @@ impl<'a, K: Ord, V> Model for MapRange<'a, K, V> {
 impl<'a, K: Ord, V> MapRange<'a, K, V> {
     /// The rows of `map` from `low` to `high`.
     pub fn new(map: &'a BTreeMap<K, V>, low: Bound<&'a K>, high: Bound<&'a K>) -> MapRange<'a, K, V>
-        ensures { result ≡ entries_between K.cmp (bound_map (λ key. key.now) low.entry) (bound_map (λ key. key.now) high.entry) map.now.entries }
+        ensures { result ≡ rows_between K.cmp map.now low.entry high.entry }
     {
-        let _rows = map.len();
+        // What `len` tells of a map: that its keys ascend and are fewer than 2^64.
+        let _ = map.len();
         MapRange { map, low, high }
     }
 }
@@ -90,7 +91,7 @@ fn end_before<'a, K: Ord>(high: Bound<&'a K>, before: Option<&'a K>) -> Bound<&'
 
 /// The first row between two ends.
 fn first_between<'a, K: Ord, V>(map: &'a BTreeMap<K, V>, low: Bound<&'a K>, high: Bound<&'a K>) -> Option<(&'a K, &'a V)>
-    ensures { option_map (λ row. (row.0.now, row.1.now)) result ≡ slice_get (entries_between K.cmp (bound_map (λ end. end.now) low.entry) (bound_map (λ end. end.now) high.entry) map.now.entries) 0 }
+    ensures { option_map deref_pair result ≡ slice_get (rows_between K.cmp map.now low.entry high.entry) 0 }
 {
     let (key, row) = map.range((low, Bound::Unbounded)).next()?;
     if is_past(high, key) {
@@ -101,7 +102,7 @@ fn first_between<'a, K: Ord, V>(map: &'a BTreeMap<K, V>, low: Bound<&'a K>, high
 
 /// The last row between two ends.
 fn last_between<'a, K: Ord, V>(map: &'a BTreeMap<K, V>, low: Bound<&'a K>, high: Bound<&'a K>) -> Option<(&'a K, &'a V)>
-    ensures { option_map (λ row. (row.0.now, row.1.now)) result ≡ slice_get (reverse (entries_between K.cmp (bound_map (λ end. end.now) low.entry) (bound_map (λ end. end.now) high.entry) map.now.entries)) 0 }
+    ensures { option_map deref_pair result ≡ slice_get (reverse (rows_between K.cmp map.now low.entry high.entry)) 0 }
 {
     let (key, row) = map.range((Bound::Unbounded, high)).next_back()?;
     if !is_from(low, key) {

@@ -2,10 +2,11 @@ ghost use Rattle.std.specs.Prelude.{◌≡◌, ◌+◌, ◌^◌, ◌<◌, ◌≤
 ghost use Rattle.std.specs.Option.{option_copied, option_map};
 ghost use Rattle.std.specs.List.Sorted.{IsStrictlySortedBy};
 ghost use Rattle.std.specs.Map.{keys_of};
+ghost use Rattle.std.specs.Map.Iter.{deref_pair};
 ghost use Rattle.paging.specs.declared.page.Judged.{Judged as Judgement};
 ghost use Rattle.paging.specs.Room.{has_stopped};
 ghost use Rattle.paging.specs.Rows.{rows_after};
-ghost use Rattle.paging.specs.Walks.{IsWalked};
+ghost use Rattle.paging.specs.Walks.{IsWalk};
 
 use crate::page::{Judged, Offer, PageState};
 use crate::steps::Steps;
@@ -29,7 +30,7 @@ pub trait Walk {
         forward: bool,
         steps: &mut Steps<L>,
     ) -> Option<(&'a Self::Place, &'a Self::Row)>
-        ensures first { option_map (λ p. (p.0.now, p.1.now)) result ≡ slice_get (rows_after Self.Place.cmp forward (option_copied after.entry) (listed self.now)) 0 }
+        ensures first { option_map deref_pair result ≡ slice_get (rows_after Self.Place.cmp forward (option_copied after.entry) (listed self.now)) 0 }
         ensures step { steps.new ≡ steps.old + 1 }
         ensures ordered { IsStrictlySortedBy Self.Place.cmp (keys_of (listed self.now)) }
         ensures few { length (listed self.now) < 2 ^ 64 };
@@ -86,7 +87,7 @@ pub fn walk_page<'a, W: Walk, J: Judge<W::Row>, L: Ledger>(
     steps: &mut Steps<L>,
 ) -> Result<Walked, NoMemory>
     requires { has_stopped state.old ≡ false }
-    ensures page { IfOk result (IsWalked (J.judged judge.now) (rows_after W.Place.cmp forward (option_copied after.entry) (W.listed rows.now)) state.old state.new) }
+    ensures page { IfOk result (IsWalk (J.judged judge.now) (rows_after W.Place.cmp forward (option_copied after.entry) (W.listed rows.now)) state.old state.new) }
     ensures cost { IfOk result (λ walked. steps.new ≤ steps.old + walked.offered + walked.passed_over + 1) }
 {
     let mut walked = Walked {

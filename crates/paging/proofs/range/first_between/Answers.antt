@@ -1,11 +1,12 @@
 use Rattle.std.proofs.Common.{sym, ap, ◌∙◌}
 use Rattle.std.specs.Option.{option_map}
+use Rattle.std.specs.Map.Iter.{deref_pair}
 use Rattle.paging.proofs.Ends.{first_none, first_past, first_within}
 use Rattle.paging.proofs.range.first_between.Goals as goal
 
 pub returns-in_err-key : goal.returns-in_err-key
 returns-in_err-key g c =
-    ap (option_map (λ row. (row.0.now, row.1.now))) c.from_residual.ensures
+    ap (option_map deref_pair) c.from_residual.ensures
     ∙ first_none g.K.Ord.cmp _ _ c.args.map.now.entries (sym (c.range.ensures.between tt) ∙ c.in_err-key.ensures.steps.0)
 
 pub returns-then-is_past : goal.returns-then-is_past

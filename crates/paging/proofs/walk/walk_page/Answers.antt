@@ -2,9 +2,9 @@ use Rattle.std.proofs.Common.{◌≡◌, ◌+◌, ◌<◌, ◌≤◌, ◌∷◌,
 use Rattle.std.specs.Option.{option_copied}
 use Rattle.paging.specs.Room.{has_stopped, is_stop}
 use Rattle.paging.specs.Rows.{rows_after}
-use Rattle.paging.specs.Walks.{IsWalked}
+use Rattle.paging.specs.Walks.{IsWalk}
 use Rattle.paging.proofs.Ordered.{next_row, none_there, fewer_after}
-use Rattle.paging.proofs.Walking.{Along, at_first, pass_over, take_in, at_stop, at_end, stop_is_stopped}
+use Rattle.paging.proofs.Walking.{Along, at_first, pass_over, take_in, at_stop, at_end}
 use Rattle.paging.proofs.walk.walk_page.Goals as goal
 
 pub loop-place-init : goal.loop-place-init
@@ -40,10 +40,10 @@ pub returns-then-walked-clause-page : goal.returns-then-walked-clause-page
 returns-then-walked-clause-page g c =
     let left = next_row g.met.W.Place.Ord.total c.args.forward (option_copied c.loop-place.cursor) (g.W.Walk.listed c.args.rows.now)
       (c.in-Some.place.now, c.in-Some.row.now) c.in-Some.ensures.ordered c.in-Some.ensures.first in
-    subst (IsWalked (g.J.Judge.judged c.args.judge.now) _ c.args.state.now c.offer.new.self) (sym c.in_ok-add.ensures)
+    subst (IsWalk (g.J.Judge.judged c.args.judge.now) _ c.args.state.now c.offer.new.self) (sym c.in_ok-add.ensures)
     (at_stop (g.J.Judge.judged c.args.judge.now) c.loop-place.invariant.along c.loop-place.invariant.going (c.in-Some.place.now, c.in-Some.row.now) _ left
-    c.in-Some-look.row (sym c.in-Some-look.ensures) c.offer.new.self c.offer.ensures.row c.offer.result c.offer.ensures.offer
-    (ap (λ walked. walked.stopped) (sym c.in_ok-add.ensures) ∙ c.if-walked.true))
+    c.in-Some-look.row (sym c.in-Some-look.ensures) c.offer.new.self c.offer.ensures.row c.offer.result c.offer.ensures.kept
+    c.offer.ensures.stopped (ap (λ walked. walked.stopped) (sym c.in_ok-add.ensures) ∙ c.if-walked.true))
 
 pub loop-place-smaller : goal.loop-place-smaller
 loop-place-smaller g c =
@@ -58,10 +58,9 @@ loop-place-preserved g c =
     record {
       along = subst (Along (g.J.Judge.judged c.args.judge.now) _ _ c.args.state.now c.offer.new.self) (sym c.in_ok-add.ensures)
         (take_in (g.J.Judge.judged c.args.judge.now) c.loop-place.invariant.along (c.in-Some.place.now, c.in-Some.row.now) _ left
-        c.in-Some-look.row (sym c.in-Some-look.ensures) c.offer.new.self c.offer.ensures.row c.offer.result c.offer.ensures.offer);
+        c.in-Some-look.row (sym c.in-Some-look.ensures) c.offer.new.self c.offer.ensures.row c.offer.result c.offer.ensures.kept);
       going =
-        sym (stop_is_stopped c.in-Some-look.row.passes (has_stopped c.offer.new.self)) ∙ ap is_stop (sym c.offer.ensures.offer)
-        ∙ ap (λ walked. walked.stopped) (sym c.in_ok-add.ensures) ∙ c.if-walked.false;
+        sym c.offer.ensures.stopped ∙ ap (λ walked. walked.stopped) (sym c.in_ok-add.ensures) ∙ c.if-walked.false;
       unfinished = c.if-walked.false;
       cost = omega (arith, ap (λ walked. walked.offered) c.in_ok-add.ensures, ap (λ walked. walked.passed_over) c.in_ok-add.ensures);
       counted = omega (arith, ap length left, ap (λ walked. walked.offered) c.in_ok-add.ensures, ap (λ walked. walked.passed_over) c.in_ok-add.ensures);
