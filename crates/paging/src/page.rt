@@ -66,7 +66,8 @@ impl PageState {
     /// A page without rows, which takes at most `limit` rows where there is a limit.
     pub fn start(limit: Option<u64>) -> PageState
         requires { ForSome limit (λ most. 1 ≤ most) }
-        ensures { result ≡ room_after limit [] }
+        ensures room { result ≡ room_after limit [] }
+        ensures going { has_stopped result ≡ false }
     {
         PageState {
             rows_left: limit,
