@@ -126,6 +126,7 @@ module _ {K : Type 0} {R : K → K → Ordering} (total : IsTotalOrder R) where
           in_or_out : (b : Bool) → is_past_end R high key ≡ b → not b ≡ true
           in_or_out true past = absurd (not_both (is_past_end R high place) (past_up total high key place past lt) is)
           in_or_out false past = refl
+
       at : (b : Bool) → is_past_end R high place ≡ b
           → (range_contains R low high key && is_lt (R key place)) ≡ range_contains R low (if b then high else Excluded place) key
       at true is =
@@ -242,7 +243,7 @@ module _ {K X : Type 0} (R : K → K → Ordering) (low high : Bound K) (rows : 
     first_past rest is past =
         let up : Ascends R (found ∷ rest) = subst (Ascends R) is (ascends_filter R (λ (row : K × X). range_contains R low Unbounded row.0) rows (ascends R rows sorted)) in
         let on : (x y : K) → not (is_past_end R high x) ≡ false → R x y ≡ Less → not (is_past_end R high y) ≡ false
-          = λ x y out less. not_from_true (is_past_end R high y) (past_up total high x y (not-false (is_past_end R high x) out) (ap is_lt less)) in
+        = λ x y out less. not_from_true (is_past_end R high y) (past_up total high x y (not-false (is_past_end R high x) out) (ap is_lt less)) in
         sym (ap (λ es. slice_get es 0) (up_to_end ∙ ap (filter (λ (row : K × X). not (is_past_end R high row.0))) is
         ∙ none_from R (λ key. not (is_past_end R high key)) on found rest up (not_from_true (is_past_end R high found.0) past)))
 
@@ -262,10 +263,10 @@ module _ {K X : Type 0} (R : K → K → Ordering) (low high : Bound K) (rows : 
         → None ≡ slice_get (reverse (entries_between R low high rows)) 0
     last_out front is out =
         let down : Ascends (flip_args R) (found ∷ reverse front) =
-          subst (Ascends (flip_args R)) (ap reverse is ∙ reverse-append front (found ∷ []))
-          (ascends_back R (entries_between R Unbounded high rows) (ascends_filter R (λ (row : K × X). range_contains R Unbounded high row.0) rows (ascends R rows sorted))) in
+        subst (Ascends (flip_args R)) (ap reverse is ∙ reverse-append front (found ∷ []))
+        (ascends_back R (entries_between R Unbounded high rows) (ascends_filter R (λ (row : K × X). range_contains R Unbounded high row.0) rows (ascends R rows sorted))) in
         let on : (x y : K) → is_from_start R low x ≡ false → flip_args R x y ≡ Less → is_from_start R low y ≡ false
-          = λ x y outside less. still_out x y outside less in
+        = λ x y outside less. still_out x y outside less in
         sym (ap (λ es. slice_get es 0) (backward front is ∙ none_from (flip_args R) (is_from_start R low) on found (reverse front) down out))
       where
         still_out : (x y : K) → is_from_start R low x ≡ false → R y x ≡ Less → is_from_start R low y ≡ false

@@ -50,10 +50,10 @@ pub page_with : (limit : Option ℕ) (front : List Judged) (row : Judged) (rest 
 page_with limit front row rest going full = record {
   within = omega (arith, length-append (front ++ row ∷ []) rest);
   shortest = λ k h.
-    let short : k ≤ length front = omega (arith, length-append front (row ∷ [])) in
-    let same : take k ((front ++ row ∷ []) ++ rest) ≡ take k front =
+      let short : k ≤ length front = omega (arith, length-append front (row ∷ [])) in
+      let same : take k ((front ++ row ∷ []) ++ rest) ≡ take k front =
       ap (take k) (append_assoc front (row ∷ []) rest) ∙ take-append-le k front ((row ∷ []) ++ rest) short in
-    subst (λ rows. is_full limit rows ≡ false) (sym same) (front_not_full limit front k going);
+      subst (λ rows. is_full limit rows ≡ false) (sym same) (front_not_full limit front k going);
   ends = inl (subst (λ rows. is_full limit rows ≡ true) (sym (take-append_seam (front ++ row ∷ []) rest)) full);
 }
 

@@ -105,7 +105,7 @@ module _ {K X : Type 0} {R : K → K → Ordering} (total : IsTotalOrder R) wher
   after_first first rest up =
       cond-false (is_lt (R first.0 first.0)) _ _ (itself total first.0)
       ∙ all_pass (λ row. is_lt (R first.0 row.0)) rest
-        (all_weaker (λ other. R first.0 other.0 ≡ Less) (λ other. is_lt (R first.0 other.0) ≡ true) (λ other l. ap is_lt l) rest up.0)
+      (all_weaker (λ other. R first.0 other.0 ≡ Less) (λ other. is_lt (R first.0 other.0) ≡ true) (λ other l. ap is_lt l) rest up.0)
 
   -- and of those after a place, those after the first of these
   after_next : (place : K) (rows : List (K × X)) (first : K × X) (rest : List (K × X)) → Ascends R rows
@@ -118,6 +118,7 @@ module _ {K X : Type 0} {R : K → K → Ordering} (total : IsTotalOrder R) wher
       skip is later =
           let less : R row.0 first.0 ≡ Less = first_has (λ other. R row.0 other.0 ≡ Less) (λ r. is_lt (R place r.0)) rows first rest up.0 is in
           cond-false (is_lt (R first.0 row.0)) _ _ (turned total row.0 first.0 less) ∙ later is
+
       at : (o : Ordering) → R place row.0 ≡ o → (if is_lt o then row ∷ filter (λ r. is_lt (R place r.0)) rows else filter (λ r. is_lt (R place r.0)) rows) ≡ first ∷ rest
           → (filter (λ r. is_lt (R place r.0)) rows ≡ first ∷ rest → filter (λ r. is_lt (R first.0 r.0)) rows ≡ rest) → filter (λ r. is_lt (R first.0 r.0)) (row ∷ rows) ≡ rest
       at Less less is later =
@@ -157,6 +158,7 @@ fewer_after {K} {X} cmp forward after rows = at after
     same : (towards : Bool) → length (in_direction towards rows) ≡ length rows
     same true = refl
     same false = length-reverse rows
+
     at : (after : Option K) → length (rows_after cmp forward after rows) ≤ length rows
     at None = omega (arith, same forward)
     at (Some place) =

@@ -48,13 +48,13 @@ module _ {K X : Type 0} (look : X → Option Judged) where
       at None is rest =
           let judged : length (judged_rows look (row ∷ seen)) ≡ length (judged_rows look seen) = ap (λ o. length (cons_option o (judged_rows look seen))) is in
           let over : count_passed_over look (row ∷ seen) ≡ 1 + count_passed_over look seen =
-            sum_by-cons (λ (r : K × X). if is_none (look r.1) then 1 else 0) row seen ∙ ap (λ o. (if is_none o then 1 else 0) + count_passed_over look seen) is in
+          sum_by-cons (λ (r : K × X). if is_none (look r.1) then 1 else 0) row seen ∙ ap (λ o. (if is_none o then 1 else 0) + count_passed_over look seen) is in
           omega arith
       at (Some j) is rest =
           let judged : length (judged_rows look (row ∷ seen)) ≡ 1 + length (judged_rows look seen) =
-            ap (λ o. length (cons_option o (judged_rows look seen))) is ∙ omega arith in
+          ap (λ o. length (cons_option o (judged_rows look seen))) is ∙ omega arith in
           let over : count_passed_over look (row ∷ seen) ≡ 0 + count_passed_over look seen =
-            sum_by-cons (λ (r : K × X). if is_none (look r.1) then 1 else 0) row seen ∙ ap (λ o. (if is_none o then 1 else 0) + count_passed_over look seen) is in
+          sum_by-cons (λ (r : K × X). if is_none (look r.1) then 1 else 0) row seen ∙ ap (λ o. (if is_none o then 1 else 0) + count_passed_over look seen) is in
           omega arith
 
   module _ {rows left : List (K × X)} {old new : Room} {walked : Walked} (along : Along rows left old new walked) where
@@ -116,14 +116,16 @@ module _ {K X : Type 0} (look : X → Option Judged) where
     passed = along.passed ∙ sym (over_more along.seen row (Some judged) some ∙ none);
     kept = numbers ∙ ap kept_of (sym same);
     room = λ limit before e.
-      takes limit (before ++ judged_rows look along.seen) (along.room limit before e)
-      ∙ ap (room_after limit) (append_assoc before (judged_rows look along.seen) (judged ∷ []) ∙ ap (λ x. before ++ x) (sym same));
+        takes limit (before ++ judged_rows look along.seen) (along.room limit before e)
+        ∙ ap (room_after limit) (append_assoc before (judged_rows look along.seen) (judged ∷ []) ∙ ap (λ x. before ++ x) (sym same));
   }
     where
       same : judged_rows look (along.seen ++ row ∷ []) ≡ judged_rows look along.seen ++ judged ∷ []
       same = judged_more along.seen row (Some judged) some
+
       none : count_passed_over look along.seen + 0 ≡ count_passed_over look along.seen
       none = omega arith
+
       numbers : (if is_kept offer then walked.kept ++ walked.offered ∷ [] else walked.kept) ≡ kept_of (judged_rows look along.seen ++ judged ∷ [])
       numbers =
           (λ j. if passes j then along.kept j ++ along.offered j ∷ [] else along.kept j)
@@ -136,8 +138,10 @@ module _ {K X : Type 0} (look : X → Option Judged) where
       → IsPage limit (before ++ judged_rows look rows) (length before + count)
   page_of rows seen left limit before count parts is page =
       subst (λ (p : List Judged × ℕ). IsPage limit p.0 p.1)
-      (λ j. ((append_assoc before (judged_rows look seen) (judged_rows look left) ∙ ap (λ x. before ++ x) (sym parts)) j,
-        (length-append before (judged_rows look seen) ∙ ap (λ n. length before + n) (sym is)) j)) page
+      (λ j. (
+        (append_assoc before (judged_rows look seen) (judged_rows look left) ∙ ap (λ x. before ++ x) (sym parts)) j,
+        (length-append before (judged_rows look seen) ∙ ap (λ n. length before + n) (sym is)) j,
+      )) page
 
   module _ {rows left : List (K × X)} {old new : Room} {walked : Walked} (along : Along rows left old new walked) (is : walked.stopped ≡ has_stopped new) where
     -- where the rows that were looked at end the page, this is what came of the walk
@@ -183,8 +187,8 @@ module _ {K X : Type 0} (look : X → Option Judged) where
       ended last same (λ limit before e.
       let front : List Judged = before ++ judged_rows look along.seen in
       let with_row : (front ++ judged ∷ []) ≡ before ++ judged_rows look last.seen =
-        append_assoc before (judged_rows look along.seen) (judged ∷ []) ∙ ap (λ x. before ++ x) (sym (judged_more along.seen row (Some judged) some)) in
+      append_assoc before (judged_rows look along.seen) (judged ∷ []) ∙ ap (λ x. before ++ x) (sym (judged_more along.seen row (Some judged) some)) in
       let fills : is_full limit (front ++ judged ∷ []) ≡ true =
-        sym (stopped_where_full limit (front ++ judged ∷ [])) ∙ ap has_stopped (sym (takes limit front (along.room limit before e))) ∙ sym same ∙ stops in
+      sym (stopped_where_full limit (front ++ judged ∷ [])) ∙ ap has_stopped (sym (takes limit front (along.room limit before e))) ∙ sym same ∙ stops in
       subst (λ all. IsPage limit (all ++ judged_rows look rest) (length all)) with_row
       (page_with limit front judged (judged_rows look rest) (not_full along going limit before e) fills))

@@ -16,6 +16,10 @@ with_offer walked offer = record {
   kept = if is_kept offer then walked.kept ++ walked.offered ∷ [] else walked.kept;
 }
 
+-- one step for each row that was looked at, and where the page did not stop the one that found no more rows
+abbrev pub steps_of : Walked → ℕ
+steps_of walked = walked.offered + walked.passed_over + (if walked.stopped then 0 else 1)
+
 module _ {K X : Type 0} (look : X → Option Judged) (rows : List (K × X)) where
   -- the rows that were offered: the first of those that are not passed over
   abbrev pub offered_rows : Walked → List Judged

@@ -44,11 +44,12 @@ impl Offer {
 
 /// How far a page is filled by the rows that were offered to it.
 ///
-/// Contracts see what it may still take: rows, where there is a limit, and bytes.
+/// Contracts see what it may still take: rows, where there is a limit, and bytes. A sum of sizes past the last `u64`
+/// shows nowhere, since the page has ended long before.
 #[derive(Drop)]
 pub struct PageState {
     rows_left: Option<u64>,
-    /// Of the rows so far, or the last `u64` where they have more.
+    /// Those of the rows so far, or the last `u64` where they have more.
     bytes: u64,
 }
 
@@ -63,7 +64,8 @@ impl Model for PageState {
 }
 
 impl PageState {
-    /// A page without rows, which takes at most `limit` rows where there is a limit.
+    /// A page without rows, which ends with its `limit`-th row where there is a limit. A limit is at least 1. It takes no
+    /// memory. API Reference: Query, Limit.
     pub fn start(limit: Option<u64>) -> PageState
         requires { ForSome limit (λ most. 1 ≤ most) }
         ensures room { result ≡ room_after limit [] }
@@ -75,7 +77,8 @@ impl PageState {
         }
     }
 
-    /// Takes the next row.
+    /// Gives the page its next row, of this size in bytes, and answers whether the row is kept and whether the page ends
+    /// with it. A page that has ended takes no row. It takes no memory. API Reference: Query, LastEvaluatedKey.
     pub fn offer(&mut self, size: u64, passes_filter: bool) -> Offer
         requires { has_stopped self.old ≡ false }
         ensures row { Takes self.old self.new (row_of size passes_filter) }
@@ -95,7 +98,7 @@ impl PageState {
         }
     }
 
-    /// Whether the page has ended: it takes no further row.
+    /// Whether the page has ended by its limit or its size.
     pub fn stopped(&self) -> bool
         ensures stopped { result ≡ has_stopped self.now }
         ensures full { TellsFull self.now result }

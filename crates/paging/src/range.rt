@@ -13,10 +13,11 @@ use std::marker::Model;
 use std::ops::Bound;
 use std::sync::ledger::Ledger;
 
-/// The rows of an ordered map between two keys. Each end is with its key, without it, or open.
+/// The rows of an ordered map between two keys. Each end is with its key, without it, or open. Where the low end is
+/// above the high one there are none.
 ///
-/// Contracts see the rows, each under its key, in ascending order. Where the low end is above the high one there are
-/// none.
+/// Contracts see the rows, each under its key, in ascending order. A step of a walk looks up one key, whose cost is the
+/// logarithm of the map's size, and takes no memory.
 #[derive(Drop)]
 pub struct MapRange<'a, K: Ord, V> {
     map: &'a BTreeMap<K, V>,
@@ -90,7 +91,11 @@ fn end_before<'a, K: Ord>(high: Bound<&'a K>, before: Option<&'a K>) -> Bound<&'
 }
 
 /// The first row between two ends.
-fn first_between<'a, K: Ord, V>(map: &'a BTreeMap<K, V>, low: Bound<&'a K>, high: Bound<&'a K>) -> Option<(&'a K, &'a V)>
+fn first_between<'a, K: Ord, V>(
+    map: &'a BTreeMap<K, V>,
+    low: Bound<&'a K>,
+    high: Bound<&'a K>,
+) -> Option<(&'a K, &'a V)>
     ensures { option_map deref_pair result ≡ slice_get (rows_between K.cmp map.now low.entry high.entry) 0 }
 {
     let (key, row) = map.range((low, Bound::Unbounded)).next()?;
@@ -101,7 +106,11 @@ fn first_between<'a, K: Ord, V>(map: &'a BTreeMap<K, V>, low: Bound<&'a K>, high
 }
 
 /// The last row between two ends.
-fn last_between<'a, K: Ord, V>(map: &'a BTreeMap<K, V>, low: Bound<&'a K>, high: Bound<&'a K>) -> Option<(&'a K, &'a V)>
+fn last_between<'a, K: Ord, V>(
+    map: &'a BTreeMap<K, V>,
+    low: Bound<&'a K>,
+    high: Bound<&'a K>,
+) -> Option<(&'a K, &'a V)>
     ensures { option_map deref_pair result ≡ slice_get (reverse (rows_between K.cmp map.now low.entry high.entry)) 0 }
 {
     let (key, row) = map.range((Bound::Unbounded, high)).next_back()?;
@@ -113,6 +122,7 @@ fn last_between<'a, K: Ord, V>(map: &'a BTreeMap<K, V>, low: Bound<&'a K>, high:
 
 impl<'a, K: Ord, V> Walk for MapRange<'a, K, V> {
     type Place = K;
+
     type Row = V;
 
     ghost listed = { λ rows. rows };

@@ -16,7 +16,12 @@ static PAGES: [(Option<u64>, &[u64], &[Offer]); 8] = [
     (
         None,
         &[409_600, 409_600, 229_376, 100],
-        &[Offer::KeepGoOn, Offer::KeepGoOn, Offer::KeepGoOn, Offer::KeepStop],
+        &[
+            Offer::KeepGoOn,
+            Offer::KeepGoOn,
+            Offer::KeepGoOn,
+            Offer::KeepStop,
+        ],
     ),
     (
         None,
@@ -32,7 +37,11 @@ static PAGES: [(Option<u64>, &[u64], &[Offer]); 8] = [
     (None, &[1_048_577], &[Offer::KeepStop]),
     (None, &[1, u64::MAX], &[Offer::KeepGoOn, Offer::KeepStop]),
     (Some(1), &[0], &[Offer::KeepStop]),
-    (Some(3), &[0, 0, 0], &[Offer::KeepGoOn, Offer::KeepGoOn, Offer::KeepStop]),
+    (
+        Some(3),
+        &[0, 0, 0],
+        &[Offer::KeepGoOn, Offer::KeepGoOn, Offer::KeepStop],
+    ),
 ];
 
 #[test]
@@ -85,6 +94,7 @@ struct Counted<'a> {
 
 impl<'a> Walk for Counted<'a> {
     type Place = u64;
+
     type Row = u64;
 
     ghost listed = { λ counted. counted.rows };
@@ -181,26 +191,142 @@ fn rows_are_passed_over_and_kept(rt: HostRuntime) -> Result<(), Fail> {
     Ok(())
 }
 
+#[test]
+fn a_limit_counts_rows_that_fail_the_filter(rt: HostRuntime) -> Result<(), Fail> {
+    let alloc = rt.alloc();
+    let mut map = BTreeMap::new(alloc);
+    for key in 1..4 {
+        map.insert(key, 2)?;
+    }
+    for (after, limit, offered, stopped) in [(0, 2, 2, true), (0, 3, 3, true), (3, 3, 0, false)] {
+        let rows = Counted {
+            rows: MapRange::new(&map, Bound::Unbounded, Bound::Unbounded),
+            asked: Cell::new(0),
+        };
+        let walked = page(alloc, &rows, after, Some(limit))?;
+        assert_eq!(rt; walked.offered, offered, "after {after}");
+        assert_eq!(rt; walked.stopped, stopped, "after {after}");
+        assert!(rt; walked.kept.is_empty());
+    }
+    Ok(())
+}
+
 /// The ends of a range over the keys 10, 20, .. 90, a start key, the direction, and the keys that follow.
 static WALKS: [(Bound<u64>, Bound<u64>, Option<u64>, bool, &[u64]); 19] = [
     (Bound::Unbounded, Bound::Excluded(30), None, true, &[10, 20]),
-    (Bound::Included(30), Bound::Included(60), None, true, &[30, 40, 50, 60]),
-    (Bound::Excluded(30), Bound::Excluded(60), None, true, &[40, 50]),
-    (Bound::Included(35), Bound::Included(55), None, true, &[40, 50]),
-    (Bound::Included(30), Bound::Included(60), Some(40), true, &[50, 60]),
-    (Bound::Included(30), Bound::Included(60), Some(45), true, &[50, 60]),
-    (Bound::Included(30), Bound::Included(60), Some(60), true, &[]),
-    (Bound::Included(30), Bound::Included(60), Some(10), true, &[30, 40, 50, 60]),
-    (Bound::Excluded(30), Bound::Included(60), Some(30), true, &[40, 50, 60]),
-    (Bound::Included(30), Bound::Included(60), Some(80), true, &[]),
+    (
+        Bound::Included(30),
+        Bound::Included(60),
+        None,
+        true,
+        &[30, 40, 50, 60],
+    ),
+    (
+        Bound::Excluded(30),
+        Bound::Excluded(60),
+        None,
+        true,
+        &[40, 50],
+    ),
+    (
+        Bound::Included(35),
+        Bound::Included(55),
+        None,
+        true,
+        &[40, 50],
+    ),
+    (
+        Bound::Included(30),
+        Bound::Included(60),
+        Some(40),
+        true,
+        &[50, 60],
+    ),
+    (
+        Bound::Included(30),
+        Bound::Included(60),
+        Some(45),
+        true,
+        &[50, 60],
+    ),
+    (
+        Bound::Included(30),
+        Bound::Included(60),
+        Some(60),
+        true,
+        &[],
+    ),
+    (
+        Bound::Included(30),
+        Bound::Included(60),
+        Some(10),
+        true,
+        &[30, 40, 50, 60],
+    ),
+    (
+        Bound::Excluded(30),
+        Bound::Included(60),
+        Some(30),
+        true,
+        &[40, 50, 60],
+    ),
+    (
+        Bound::Included(30),
+        Bound::Included(60),
+        Some(80),
+        true,
+        &[],
+    ),
     (Bound::Included(60), Bound::Included(30), None, true, &[]),
-    (Bound::Excluded(70), Bound::Unbounded, None, false, &[90, 80]),
-    (Bound::Included(30), Bound::Included(60), None, false, &[60, 50, 40, 30]),
-    (Bound::Excluded(30), Bound::Excluded(60), None, false, &[50, 40]),
-    (Bound::Included(30), Bound::Included(60), Some(50), false, &[40, 30]),
-    (Bound::Included(30), Bound::Included(60), Some(45), false, &[40, 30]),
-    (Bound::Included(30), Bound::Included(60), Some(10), false, &[]),
-    (Bound::Included(30), Bound::Included(60), Some(80), false, &[60, 50, 40, 30]),
+    (
+        Bound::Excluded(70),
+        Bound::Unbounded,
+        None,
+        false,
+        &[90, 80],
+    ),
+    (
+        Bound::Included(30),
+        Bound::Included(60),
+        None,
+        false,
+        &[60, 50, 40, 30],
+    ),
+    (
+        Bound::Excluded(30),
+        Bound::Excluded(60),
+        None,
+        false,
+        &[50, 40],
+    ),
+    (
+        Bound::Included(30),
+        Bound::Included(60),
+        Some(50),
+        false,
+        &[40, 30],
+    ),
+    (
+        Bound::Included(30),
+        Bound::Included(60),
+        Some(45),
+        false,
+        &[40, 30],
+    ),
+    (
+        Bound::Included(30),
+        Bound::Included(60),
+        Some(10),
+        false,
+        &[],
+    ),
+    (
+        Bound::Included(30),
+        Bound::Included(60),
+        Some(80),
+        false,
+        &[60, 50, 40, 30],
+    ),
     (Bound::Included(60), Bound::Included(30), None, false, &[]),
 ];
 
@@ -248,7 +374,11 @@ fn a_walk_stays_in_its_range(rt: HostRuntime) -> Result<(), Fail> {
     for (low, high, after, forward, expected) in WALKS {
         let rows = MapRange::new(&map, low.as_ref(), high.as_ref());
         let found = keys(alloc, &rows, after, forward)?;
-        assert_eq!(rt; found.as_slice(), expected, "{low:?} to {high:?} after {after:?}");
+        assert_eq!(rt;
+            found.as_slice(),
+            expected,
+            "{low:?} to {high:?} after {after:?}"
+        );
     }
     Ok(())
 }

@@ -6,7 +6,7 @@ ghost use Rattle.std.specs.Map.Iter.{deref_pair};
 ghost use Rattle.paging.specs.declared.page.Judged.{Judged as Judgement};
 ghost use Rattle.paging.specs.Room.{has_stopped};
 ghost use Rattle.paging.specs.Rows.{rows_after};
-ghost use Rattle.paging.specs.Walks.{IsWalk};
+ghost use Rattle.paging.specs.Walks.{IsWalk, steps_of};
 
 use crate::page::{Judged, Offer, PageState};
 use crate::steps::Steps;
@@ -15,29 +15,33 @@ use std::alloc::{AllocError as NoMemory, Global};
 use std::cmp::Ord;
 use std::sync::ledger::Ledger;
 
-/// A list of rows in ascending order of their places, such as those of a range of keys.
+/// A list of fewer than 2^64 rows in ascending order of their places, such as the rows of a range of keys.
 pub trait Walk {
     type Place: Ord;
+
     type Row;
 
     /// The rows, each at its place.
     ghost listed: { Self → List (Self.Place × Self.Row) };
 
-    /// The first row strictly after a place, or of all, in the direction asked. It takes no memory.
+    /// The first row strictly after a place, or of all rows, in the direction asked; or `None` where there is no such
+    /// row. The place need not be that of a row. One step, which takes no memory.
     fn next<'a, L: Ledger>(
         &'a self,
         after: Option<&'a Self::Place>,
         forward: bool,
         steps: &mut Steps<L>,
     ) -> Option<(&'a Self::Place, &'a Self::Row)>
-        ensures first { option_map deref_pair result ≡ slice_get (rows_after Self.Place.cmp forward (option_copied after.entry) (listed self.now)) 0 }
+        ensures first { option_map deref_pair result
+            ≡ slice_get (rows_after Self.Place.cmp forward (option_copied after.entry) (listed self.now)) 0 }
         ensures step { steps.new ≡ steps.old + 1 }
         ensures ordered { IsStrictlySortedBy Self.Place.cmp (keys_of (listed self.now)) }
         ensures few { length (listed self.now) < 2 ^ 64 };
 }
 
-/// What a page sees of a row.
+/// What a page sees of rows.
 pub trait Judge<R> {
+    /// What `look` answers.
     ghost judged: { Self → R → Option Judgement };
 
     /// The row's size and whether it passes the filter, or `None` where the row is passed over. It takes no memory.
@@ -76,7 +80,12 @@ impl Walked {
     }
 }
 
-/// Offers the rows after a place to a page, in order, until the page stops or the rows end.
+/// Offers the rows strictly after a place, or all, to a page in the direction asked, until the page ends or the rows do.
+/// Rows that `judge` passes over are not offered. It looks at no row behind the one that ends the page: each row that it
+/// looks at is a step, and so is finding the end of the rows.
+///
+/// `NoMemory` is for want of memory for the numbers of the rows that are kept. The page may then have taken some rows.
+/// API Reference: Query, ExclusiveStartKey, ScanIndexForward.
 pub fn walk_page<'a, W: Walk, J: Judge<W::Row>, L: Ledger>(
     alloc: Global,
     rows: &'a W,
@@ -87,8 +96,9 @@ pub fn walk_page<'a, W: Walk, J: Judge<W::Row>, L: Ledger>(
     steps: &mut Steps<L>,
 ) -> Result<Walked, NoMemory>
     requires { has_stopped state.old ≡ false }
-    ensures page { IfOk result (IsWalk (J.judged judge.now) (rows_after W.Place.cmp forward (option_copied after.entry) (W.listed rows.now)) state.old state.new) }
-    ensures cost { IfOk result (λ walked. steps.new ≤ steps.old + walked.offered + walked.passed_over + 1) }
+    ensures page { IfOk result (IsWalk (J.judged judge.now)
+        (rows_after W.Place.cmp forward (option_copied after.entry) (W.listed rows.now)) state.old state.new) }
+    ensures cost { IfOk result (λ walked. steps.new ≤ steps.old + steps_of walked) }
 {
     let mut walked = Walked {
         offered: 0,

@@ -20,13 +20,13 @@ loop-place-init g c = record {
 pub loop-place-smaller-in_default-look : goal.loop-place-smaller-in_default-look
 loop-place-smaller-in_default-look g c =
     let left = next_row g.met.W.Place.Ord.total c.args.forward (option_copied c.loop-place.cursor) (g.W.Walk.listed c.args.rows.now)
-      (c.in-Some.place.now, c.in-Some.row.now) c.in-Some.ensures.ordered c.in-Some.ensures.first in
+    (c.in-Some.place.now, c.in-Some.row.now) c.in-Some.ensures.ordered c.in-Some.ensures.first in
     omega (arith, ap length left)
 
 pub loop-place-preserved-in_default-look : goal.loop-place-preserved-in_default-look
 loop-place-preserved-in_default-look g c =
     let left = next_row g.met.W.Place.Ord.total c.args.forward (option_copied c.loop-place.cursor) (g.W.Walk.listed c.args.rows.now)
-      (c.in-Some.place.now, c.in-Some.row.now) c.in-Some.ensures.ordered c.in-Some.ensures.first in
+    (c.in-Some.place.now, c.in-Some.row.now) c.in-Some.ensures.ordered c.in-Some.ensures.first in
     record {
       along = pass_over (g.J.Judge.judged c.args.judge.now) c.loop-place.invariant.along (c.in-Some.place.now, c.in-Some.row.now) _ left (sym c.in_default-look.ensures);
       going = c.loop-place.invariant.going;
@@ -39,7 +39,7 @@ loop-place-preserved-in_default-look g c =
 pub returns-then-walked-clause-page : goal.returns-then-walked-clause-page
 returns-then-walked-clause-page g c =
     let left = next_row g.met.W.Place.Ord.total c.args.forward (option_copied c.loop-place.cursor) (g.W.Walk.listed c.args.rows.now)
-      (c.in-Some.place.now, c.in-Some.row.now) c.in-Some.ensures.ordered c.in-Some.ensures.first in
+    (c.in-Some.place.now, c.in-Some.row.now) c.in-Some.ensures.ordered c.in-Some.ensures.first in
     subst (IsWalk (g.J.Judge.judged c.args.judge.now) _ c.args.state.now c.offer.new.self) (sym c.in_ok-add.ensures)
     (at_stop (g.J.Judge.judged c.args.judge.now) c.loop-place.invariant.along c.loop-place.invariant.going (c.in-Some.place.now, c.in-Some.row.now) _ left
     c.in-Some-look.row (sym c.in-Some-look.ensures) c.offer.new.self c.offer.ensures.row c.offer.result c.offer.ensures.kept
@@ -48,19 +48,19 @@ returns-then-walked-clause-page g c =
 pub loop-place-smaller : goal.loop-place-smaller
 loop-place-smaller g c =
     let left = next_row g.met.W.Place.Ord.total c.args.forward (option_copied c.loop-place.cursor) (g.W.Walk.listed c.args.rows.now)
-      (c.in-Some.place.now, c.in-Some.row.now) c.in-Some.ensures.ordered c.in-Some.ensures.first in
+    (c.in-Some.place.now, c.in-Some.row.now) c.in-Some.ensures.ordered c.in-Some.ensures.first in
     omega (arith, ap length left)
 
 pub loop-place-preserved : goal.loop-place-preserved
 loop-place-preserved g c =
     let left = next_row g.met.W.Place.Ord.total c.args.forward (option_copied c.loop-place.cursor) (g.W.Walk.listed c.args.rows.now)
-      (c.in-Some.place.now, c.in-Some.row.now) c.in-Some.ensures.ordered c.in-Some.ensures.first in
+    (c.in-Some.place.now, c.in-Some.row.now) c.in-Some.ensures.ordered c.in-Some.ensures.first in
     record {
       along = subst (Along (g.J.Judge.judged c.args.judge.now) _ _ c.args.state.now c.offer.new.self) (sym c.in_ok-add.ensures)
-        (take_in (g.J.Judge.judged c.args.judge.now) c.loop-place.invariant.along (c.in-Some.place.now, c.in-Some.row.now) _ left
-        c.in-Some-look.row (sym c.in-Some-look.ensures) c.offer.new.self c.offer.ensures.row c.offer.result c.offer.ensures.kept);
+          (take_in (g.J.Judge.judged c.args.judge.now) c.loop-place.invariant.along (c.in-Some.place.now, c.in-Some.row.now) _ left
+          c.in-Some-look.row (sym c.in-Some-look.ensures) c.offer.new.self c.offer.ensures.row c.offer.result c.offer.ensures.kept);
       going =
-        sym c.offer.ensures.stopped ∙ ap (λ walked. walked.stopped) (sym c.in_ok-add.ensures) ∙ c.if-walked.false;
+          sym c.offer.ensures.stopped ∙ ap (λ walked. walked.stopped) (sym c.in_ok-add.ensures) ∙ c.if-walked.false;
       unfinished = c.if-walked.false;
       cost = omega (arith, ap (λ walked. walked.offered) c.in_ok-add.ensures, ap (λ walked. walked.passed_over) c.in_ok-add.ensures);
       counted = omega (arith, ap length left, ap (λ walked. walked.offered) c.in_ok-add.ensures, ap (λ walked. walked.passed_over) c.in_ok-add.ensures);
