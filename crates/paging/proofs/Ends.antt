@@ -4,7 +4,6 @@ use Rattle.std.proofs.lemmas.Bool.{cond-true, cond-false, not-true, not-false, n
 use Rattle.std.proofs.lemmas.List.{append-nil, reverse-append}
 use Rattle.std.proofs.lemmas.List.Elements.{filter-append}
 use Rattle.std.proofs.lemmas.List.Sums.{length-filter, count_by-le-length}
-use Rattle.std.proofs.lemmas.Cmp.{back_total}
 use Rattle.std.specs.Prelude.{reverse, slice_get, not, ◌&&◌}
 use Rattle.std.specs.List.{filter, AllByRecursion}
 use Rattle.std.specs.List.Sorted.{IsStrictlySortedBy}
@@ -16,7 +15,7 @@ use Rattle.std.specs.declared.cmp.Ordering.{Ordering}
 use Rattle.std.specs.declared.cmp.Ordering.TheVariants.{Less, Equal, Greater}
 use Rattle.std.specs.declared.ops.Bound.{Bound}
 use Rattle.std.specs.declared.ops.Bound.TheVariants.{Included, Excluded, Unbounded}
-use Rattle.paging.specs.Rows.{in_direction, rows_after}
+use Rattle.paging.specs.Rows.{rows_after}
 use Rattle.paging.specs.MapRange.{start_of, end_of}
 use Rattle.paging.proofs.Ordered.{Ascends, ascends, sorted, ascends_back, all_weaker, reverse_cons}
 

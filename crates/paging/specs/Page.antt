@@ -29,7 +29,8 @@ pub record IsPage (limit : Option ℕ) (rows : List Judged) (count : ℕ) : Type
 -- no list has two pages
 abbrev pub HasOnePage : Type 0
 HasOnePage =
-    (limit : Option ℕ) (rows : List Judged) (count other : ℕ) → IsPage limit rows count → IsPage limit rows other → count ≡ other
+    (limit : Option ℕ) (rows : List Judged) (count other : ℕ)
+    → IsPage limit rows count → IsPage limit rows other → count ≡ other
 
 -- the numbers, from 0, of the rows that pass the filter
 abbrev pub kept_of : List Judged → List ℕ

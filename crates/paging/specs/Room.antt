@@ -24,7 +24,8 @@ has_stopped room = has_limit room.rows 0 || (room.bytes == 0)
 
 -- the answer tells of each page that has this room whether its rows fill it
 abbrev pub TellsFull : Room → Bool → Type 0
-TellsFull room answer = (limit : Option ℕ) (rows : List Judged) → room ≡ room_after limit rows → answer ≡ is_full limit rows
+TellsFull room answer =
+    (limit : Option ℕ) (rows : List Judged) → room ≡ room_after limit rows → answer ≡ is_full limit rows
 
 -- each page that had the old room has the new one with this row
 abbrev pub Takes : Room → Room → Judged → Type 0

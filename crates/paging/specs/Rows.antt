@@ -19,7 +19,8 @@ module _ {K X : Type 0} (cmp : K → K → Ordering) where
   -- the rows strictly after a place, or all of them, as a walk in this direction meets them
   abbrev pub rows_after : Bool → Option K → List (K × X) → List (K × X)
   rows_after forward None rows = in_direction forward rows
-  rows_after forward (Some place) rows = filter (λ row. is_lt (walk_order cmp forward place row.0)) (in_direction forward rows)
+  rows_after forward (Some place) rows =
+      filter (λ row. is_lt (walk_order cmp forward place row.0)) (in_direction forward rows)
 
 module _ {K X : Type 0} (look : X → Option Judged) where
   -- the rows that are not passed over, as they are judged

@@ -37,7 +37,8 @@ module _ {K X : Type 0} (look : X → Option Judged) (rows : List (K × X)) wher
 
   -- a walk over these rows, for a page that had the old room and has the new one
   pub record IsWalk (old new : Room) (walked : Walked) : Type 0 where
-    pub fills : (limit : Option ℕ) (before : List Judged) → old ≡ room_after limit before → FillsPage limit before new walked
+    pub fills : (limit : Option ℕ) (before : List Judged) → old ≡ room_after limit before
+        → FillsPage limit before new walked
     pub stopped : walked.stopped ≡ has_stopped new
     pub kept : walked.kept ≡ kept_of (offered_rows walked)
     pub offered : judged_rows look (rows_seen walked) ≡ offered_rows walked

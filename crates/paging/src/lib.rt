@@ -1,15 +1,16 @@
 //! Pages: which rows of a list Query and Scan answer at a time.
 //!
-//! A page takes rows in order and ends with the row that makes it full: with as many rows as its limit, or with more
-//! than 1,048,576 bytes. It counts rows whether they pass the filter or not, and shows those that do. Its last row's key
-//! is told exactly where it ended so, and not where the rows ended. [`PageState`] is told the rows one by one.
+//! A page takes rows in order and ends with the row that makes it full: with as many rows as its limit, or with
+//! more than 1,048,576 bytes. It counts rows whether they pass the filter or not, and shows those that do. The key
+//! of its last row is told exactly where it ended so, and not where the rows ended. [`PageState`] is offered the
+//! rows one by one.
 //!
 //! [`walk_page`] fills a page from a [`Walk`], a list of rows in order that gives one row a step, such as a
-//! [`MapRange`] of an ordered map, and looks at no more rows than the page needs. A [`Judge`] says how large a row is and
-//! whether it passes the filter, or passes it over. [`Steps`] counts the steps for contracts.
+//! [`MapRange`] of an ordered map, and looks at no more rows than the page needs. A [`Judge`] says how large a row
+//! is and whether it passes the filter, or passes it over. [`Steps`] counts the steps for contracts.
 //!
 //! `specs/Page.antt` says what the page of a list is, and `specs/Walks.antt` what a walk makes of its rows. API
-//! Reference: Query, Scan; Developer Guide: Paginating table query results, Filter expressions for Query.
+//! Reference: Query, Scan. Developer Guide: Paginating table query results.
 #![tactic(auto)]
 
 mod page;

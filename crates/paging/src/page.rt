@@ -64,8 +64,8 @@ impl Model for PageState {
 }
 
 impl PageState {
-    /// A page without rows, which ends with its `limit`-th row where there is a limit. A limit is at least 1. It takes no
-    /// memory. API Reference: Query, Limit.
+    /// A page without rows, which ends with its `limit`-th row where there is a limit. A limit is at least 1. Takes
+    /// no memory. API Reference: Query, Limit.
     pub fn start(limit: Option<u64>) -> PageState
         requires { ForSome limit (λ most. 1 ≤ most) }
         ensures room { result ≡ room_after limit [] }
@@ -77,8 +77,9 @@ impl PageState {
         }
     }
 
-    /// Gives the page its next row, of this size in bytes, and answers whether the row is kept and whether the page ends
-    /// with it. A page that has ended takes no row. It takes no memory. API Reference: Query, LastEvaluatedKey.
+    /// Gives the page its next row, of this size in bytes, and answers whether the row is kept and whether the page
+    /// ends with it. A page that has ended is offered no row. Takes no memory. API Reference: Query,
+    /// LastEvaluatedKey.
     pub fn offer(&mut self, size: u64, passes_filter: bool) -> Offer
         requires { has_stopped self.old ≡ false }
         ensures row { Takes self.old self.new (row_of size passes_filter) }
@@ -98,7 +99,7 @@ impl PageState {
         }
     }
 
-    /// Whether the page has ended by its limit or its size.
+    /// Whether the page has ended by its limit or its size. Takes no memory.
     pub fn stopped(&self) -> bool
         ensures stopped { result ≡ has_stopped self.now }
         ensures full { TellsFull self.now result }

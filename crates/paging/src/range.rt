@@ -72,7 +72,8 @@ fn is_past<K: Ord>(high: Bound<&K>, key: &K) -> bool
 
 /// The low end of what comes after a place in a range from `low` on.
 fn start_after<'a, K: Ord>(low: Bound<&'a K>, after: Option<&'a K>) -> Bound<&'a K>
-    ensures { bound_map (λ end. end.now) result ≡ start_of K.cmp (bound_map (λ end. end.now) low.entry) (option_copied after.entry) }
+    ensures { bound_map (λ end. end.now) result
+        ≡ start_of K.cmp (bound_map (λ end. end.now) low.entry) (option_copied after.entry) }
 {
     match after {
         Some(place) if is_from(low, place) => Bound::Excluded(place),
@@ -82,7 +83,8 @@ fn start_after<'a, K: Ord>(low: Bound<&'a K>, after: Option<&'a K>) -> Bound<&'a
 
 /// The high end of what comes before a place in a range up to `high`.
 fn end_before<'a, K: Ord>(high: Bound<&'a K>, before: Option<&'a K>) -> Bound<&'a K>
-    ensures { bound_map (λ end. end.now) result ≡ end_of K.cmp (bound_map (λ end. end.now) high.entry) (option_copied before.entry) }
+    ensures { bound_map (λ end. end.now) result
+        ≡ end_of K.cmp (bound_map (λ end. end.now) high.entry) (option_copied before.entry) }
 {
     match before {
         Some(place) if !is_past(high, place) => Bound::Excluded(place),

@@ -25,7 +25,7 @@ pub trait Walk {
     ghost listed: { Self → List (Self.Place × Self.Row) };
 
     /// The first row strictly after a place, or of all rows, in the direction asked; or `None` where there is no such
-    /// row. The place need not be that of a row. One step, which takes no memory.
+    /// row. The place need not be that of a row. It is one step, and takes no memory.
     fn next<'a, L: Ledger>(
         &'a self,
         after: Option<&'a Self::Place>,
@@ -80,9 +80,9 @@ impl Walked {
     }
 }
 
-/// Offers the rows strictly after a place, or all, to a page in the direction asked, until the page ends or the rows do.
-/// Rows that `judge` passes over are not offered. It looks at no row behind the one that ends the page: each row that it
-/// looks at is a step, and so is finding the end of the rows.
+/// Offers the rows strictly after a place, or all, to a page in the direction asked, until the page ends or the rows
+/// do. Rows that `judge` passes over are not offered. It looks at no row behind the one that ends the page: each row
+/// that it looks at is a step, and so is finding the end of the rows.
 ///
 /// `NoMemory` is for want of memory for the numbers of the rows that are kept. The page may then have taken some rows.
 /// API Reference: Query, ExclusiveStartKey, ScanIndexForward.

@@ -1,6 +1,5 @@
-use Rattle.std.proofs.Common.{◌≡◌, ◌+◌, ◌<◌, ◌≤◌, ◌∷◌, length, true, false, refl, ap, sym, ◌∙◌, subst, arith}
+use Rattle.std.proofs.Common.{length, refl, ap, sym, ◌∙◌, subst, arith}
 use Rattle.std.specs.Option.{option_copied}
-use Rattle.paging.specs.Room.{has_stopped, is_stop}
 use Rattle.paging.specs.Rows.{rows_after}
 use Rattle.paging.specs.Walks.{IsWalk}
 use Rattle.paging.proofs.Ordered.{next_row, none_there, fewer_after}
