@@ -4,3 +4,4 @@ pub mod Unique
 pub mod Fits
 pub mod Spans
 pub mod Spelling
+pub mod Longest

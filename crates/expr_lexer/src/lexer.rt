@@ -7,6 +7,7 @@ ghost use Rattle.expr_lexer.specs.Lexeme.{word_kind, word_lexeme, placeholder, s
 ghost use Rattle.expr_lexer.specs.Lexes.{IsLexed, HasOneReading};
 ghost use Rattle.expr_lexer.specs.Spans.{Follow, IsPart};
 ghost use Rattle.expr_lexer.specs.Spelling.{IsSpelled};
+ghost use Rattle.expr_lexer.specs.Longest.{IsLongest};
 ghost use Rattle.expr_lexer.specs.Steps.{Steps, GoesOn, BeginsToken};
 
 use crate::token::{LexEnd, Token, TokenKind};
@@ -233,6 +234,7 @@ pub fn tokens(alloc: Global, text: &str) -> Result<Seq<Token>, LexEnd>
     ensures follow { IfOk result (Follow 0 text.now) }
     ensures parts { IfOk result (All (IsPart text.now)) }
     ensures spelled { IfOk result (All (IsSpelled text.now)) }
+    ensures longest { IfOk result (All (IsLongest text.now)) }
 {
     let mut found = Seq::new(alloc);
     let mut rest = text.as_bytes();
