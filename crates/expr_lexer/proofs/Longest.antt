@@ -1,5 +1,5 @@
 -- Each token is the longest one at its place.
-use Rattle.std.proofs.Common.{◌≡◌, ℕ, zero, suc, ◌+◌, ◌-◌, ◌<◌, ◌≤◌, Bool, true, false, List, [], ◌∷◌, ◌++◌, append-nil, length, get_or, take, drop, Some, Result, Ok, Err, refl, sym, ◌∙◌, ap, subst, arith}
+use Rattle.std.proofs.Common.{◌≡◌, ℕ, zero, suc, ◌+◌, ◌-◌, ◌<◌, ◌≤◌, Bool, true, false, List, [], ◌∷◌, ◌++◌, append-nil, length, take, drop, Some, Result, Ok, Err, refl, sym, ◌∙◌, ap, subst, arith}
 use Rattle.std.specs.Prelude.{codes, IfSome, IfOk, All}
 use Rattle.std.specs.List.{AllPass, prefix_len}
 use Rattle.std.specs.Char.{is_ascii_digit}
@@ -51,7 +51,7 @@ index_covers (b ∷ word) is = λ behind found e.
     let digit : is_ascii_digit b ≡ true = is.digits 0 b (omega arith) in
     let run : length word ≤ prefix_len is_ascii_digit (word ++ behind) = run_covers is_ascii_digit word behind (λ k d h. is.digits (suc k) d (omega arith)) in
     let size = same_size found (lexeme Index (1 + prefix_len is_ascii_digit (word ++ behind)))
-      (sym e ∙ cond-false (is_letter b) _ _ (digit_no_letter b digit) ∙ cond-true (is_ascii_digit b) _ _ digit) in
+    (sym e ∙ cond-false (is_letter b) _ _ (digit_no_letter b digit) ∙ cond-true (is_ascii_digit b) _ _ digit) in
     omega arith
 
 placeholder_size : (kind : TokenKind) (n : ℕ) (found : Lexeme) → placeholder kind n ≡ Some found → found.size ≡ 1 + n
