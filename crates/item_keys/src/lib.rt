@@ -1,0 +1,23 @@
+//! Keys of items: their values, their places and their order.
+//!
+//! A [`Key`] is what tells an item from the others of its table: the value of the partition key and, where the table
+//! has one, of the sort key. What the layer above can rely on:
+//!
+//! - [`place`] spreads items by their partition key over the numbers of 64 bits, and [`cell_of`] and [`segment_places`]
+//!   cut these into cells and into the segments of a parallel Scan.
+//! - A [`PlacedKey`] carries the place of its key, which was computed once: it is compared by its fields, and its order
+//!   is that of a Scan.
+//!
+//! Contracts see a text as the list of its bytes and a number as one whole number, as in the crates below.
+#![tactic(auto)]
+
+mod key;
+mod places;
+mod value;
+
+pub use key::{Key, PlacedKey};
+pub use places::{PlaceRange, cell_of, place, segment_places};
+pub use value::KeyValue;
+
+#[cfg(test)]
+mod tests;
