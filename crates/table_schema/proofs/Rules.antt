@@ -1,13 +1,13 @@
 use Rattle.std.proofs.Common.{◌≡◌, inl, inr, refl, subst}
 use Rattle.std.specs.Prelude.{All}
-use Rattle.table_schema.specs.declared.schema.Schema.{Schema}
+use Rattle.table_schema.specs.declared.stated.StatedSchema.{StatedSchema}
 use Rattle.table_schema.specs.Key.{Names}
 use Rattle.table_schema.specs.Index.{indexes_of}
 use Rattle.table_schema.specs.Rule.{Defines, IsKeyAttribute, DefinesParts, DefinesEveryKey, DefinesItsKeys}
 use Rattle.table_schema.proofs.Names.{at_any, from_any}
 
 -- the keys of a table are its own and those of its indexes
-module _ (s : Schema) where
+module _ (s : StatedSchema) where
   pub all_keys : DefinesParts s s.keys → All (λ i. DefinesParts s i.keys) (indexes_of s) → DefinesEveryKey s
   unfolding IsKeyAttribute DefinesParts DefinesEveryKey
   all_keys table index name (inl names) = table name names
@@ -22,7 +22,7 @@ module _ (s : Schema) where
   index_keys every = from_any (λ i n. Names i.keys n) (Defines s) (indexes_of s) (λ n any. every n (inr any))
 
 -- what is defined is what the keys name, each way by itself
-module _ (s : Schema) where
+module _ (s : StatedSchema) where
   pub both_ways : All (λ d. IsKeyAttribute s d.name) s.definitions → DefinesEveryKey s → DefinesItsKeys s
   unfolding Defines DefinesEveryKey DefinesItsKeys
   both_ways used every name =

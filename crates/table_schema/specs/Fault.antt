@@ -1,5 +1,5 @@
 use Rattle.std.specs.Prelude.{ℕ, ◌<◌}
-use Rattle.table_schema.specs.declared.schema.Schema.{Schema}
+use Rattle.table_schema.specs.declared.stated.StatedSchema.{StatedSchema}
 use Rattle.table_schema.specs.declared.fault.SchemaFault.{SchemaFault}
 use Rattle.table_schema.specs.declared.fault.SchemaFault.TheVariants.{BadName, BadKeySchema, BadDefinition, DefinitionMismatch, BadIndexName, BadIndexKey, BadProjection, TooManyIndexes}
 use Rattle.table_schema.specs.Rule.{IsFreeOf}
@@ -16,6 +16,6 @@ number_of BadProjection = 7
 number_of TooManyIndexes = 8
 
 -- this fault is there, and none of a lesser number
-abbrev pub IsFirstFault : Schema → SchemaFault → Type 0
-IsFirstFault schema fault =
-    (¬ (IsFreeOf fault schema)) × ((lesser : SchemaFault) → number_of lesser < number_of fault → IsFreeOf lesser schema)
+abbrev pub IsFirstFault : StatedSchema → SchemaFault → Type 0
+IsFirstFault stated fault =
+    (¬ (IsFreeOf fault stated)) × ((lesser : SchemaFault) → number_of lesser < number_of fault → IsFreeOf lesser stated)

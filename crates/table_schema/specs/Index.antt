@@ -1,30 +1,41 @@
+-- Schemas and indexes as they are stated.
 use Rattle.std.specs.Prelude.{ℕ, ◌≤◌, List, length, map, ◌++◌}
-use Rattle.table_schema.specs.declared.keys.KeyNames.{KeyNames}
 use Rattle.table_schema.specs.declared.index.Projection.{Projection}
 use Rattle.table_schema.specs.declared.index.Projection.TheVariants.{KeysOnly, Include, All}
 use Rattle.table_schema.specs.declared.index.LocalIndex.{LocalIndex}
 use Rattle.table_schema.specs.declared.index.GlobalIndex.{GlobalIndex}
 use Rattle.table_schema.specs.declared.schema.Schema.{Schema}
+use Rattle.table_schema.specs.declared.stated.StatedIndex.{StatedIndex}
+use Rattle.table_schema.specs.declared.stated.StatedSchema.{StatedSchema}
+use Rattle.table_schema.specs.Key.{elements_of}
 
--- an index of either kind
-pub record Index : Type 0 where
-  pub name : List ℕ
-  pub keys : KeyNames
-  pub projection : Projection
+abbrev pub of_local : LocalIndex → StatedIndex
+of_local index = record { name = index.name; keys = elements_of index.keys; projection = index.projection }
 
-abbrev pub of_local : LocalIndex → Index
-of_local index = record { name = index.name; keys = index.keys; projection = index.projection }
-
-abbrev pub of_global : GlobalIndex → Index
-of_global index = record { name = index.name; keys = index.keys; projection = index.projection }
+abbrev pub of_global : GlobalIndex → StatedIndex
+of_global index = record { name = index.name; keys = elements_of index.keys; projection = index.projection }
 
 -- the local and then the global ones
-abbrev pub joined : List LocalIndex → List GlobalIndex → List Index
+abbrev pub joined : List LocalIndex → List GlobalIndex → List StatedIndex
 joined locals globals = map of_local locals ++ map of_global globals
 
 -- all indexes of a table
-abbrev pub indexes_of : Schema → List Index
-indexes_of schema = joined schema.locals schema.globals
+abbrev pub indexes_of : StatedSchema → List StatedIndex
+indexes_of stated = stated.locals ++ stated.globals
+
+-- the statement of a schema: each key as its list of elements, and all else as it is
+abbrev pub stated_of : Schema → StatedSchema
+stated_of schema = record {
+  name = schema.name;
+  definitions = schema.definitions;
+  keys = elements_of schema.keys;
+  locals = map of_local schema.locals;
+  globals = map of_global schema.globals;
+  on_demand = schema.on_demand;
+  read_units = schema.read_units;
+  write_units = schema.write_units;
+  created = schema.created;
+}
 
 -- where attributes are named, there are 1 to 20 of them
 abbrev pub IsProjection : Projection → Type 0

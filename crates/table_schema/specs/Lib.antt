@@ -1,4 +1,5 @@
 pub mod Name
+pub mod NameSet
 pub mod Key
 pub mod Index
 pub mod Rule

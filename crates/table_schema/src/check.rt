@@ -1,6 +1,6 @@
 ghost use Rattle.std.specs.Prelude.{IsTrue, ◌↔◌, IsOk, IfErr, All};
-ghost use Rattle.table_schema.specs.Key.{IsLocalTo};
-ghost use Rattle.table_schema.specs.Index.{indexes_of};
+ghost use Rattle.table_schema.specs.Key.{IsLocalTo, elements_of};
+ghost use Rattle.table_schema.specs.Index.{indexes_of, stated_of};
 ghost use Rattle.table_schema.specs.Rule.{HasValidDefinitions, Defines, IsKeyAttribute, DefinesParts, DefinesEveryKey, DefinesItsKeys, HasValidIndexNames, HasValidIndexKeys, HasFewIndexes, IsValid};
 ghost use Rattle.table_schema.specs.Fault.{IsFirstFault};
 
@@ -26,7 +26,7 @@ const MAX_GLOBALS: usize = 20;
 /// longer schema comes first is still looked for among all its names.
 pub fn check_schema(schema: &Schema) -> Result<(), SchemaFault>
     ensures valid { IsOk result ↔ IsValid schema.now }
-    ensures first { IfErr result (IsFirstFault schema.now) }
+    ensures first { IfErr result (IsFirstFault (stated_of schema.now)) }
 {
     if !is_table_name(&schema.name) {
         return Err(SchemaFault::BadName);
@@ -57,23 +57,22 @@ pub fn check_schema(schema: &Schema) -> Result<(), SchemaFault>
 
 /// Whether the definitions have names that they may have, each once.
 fn has_valid_definitions(schema: &Schema) -> bool
-    ensures { IsTrue result ↔ HasValidDefinitions schema.now }
+    ensures { IsTrue result ↔ HasValidDefinitions (stated_of schema.now) }
 {
     let definitions = schema.definitions.as_slice();
     have_valid_names(definitions) && have_distinct_names(definitions)
 }
 
 /// Whether exactly the attributes of the keys are defined.
-#[tactic(auto, using(crate::proofs::Rules::both_ways, crate::proofs::Rules::used_from, crate::proofs::Rules::every_from))]
 fn defines_its_keys(schema: &Schema) -> bool
-    ensures { IsTrue result ↔ DefinesItsKeys schema.now }
+    ensures { IsTrue result ↔ DefinesItsKeys (stated_of schema.now) }
 {
     uses_its_definitions(schema) && defines_every_key(schema)
 }
 
 /// Whether every definition is of an attribute that serves in a key.
 fn uses_its_definitions(schema: &Schema) -> bool
-    ensures { IsTrue result ↔ All (λ d. IsKeyAttribute schema.now d.name) schema.now.definitions }
+    ensures { IsTrue result ↔ All (λ d. IsKeyAttribute (stated_of schema.now) d.name) schema.now.definitions }
 {
     schema
         .definitions
@@ -84,22 +83,21 @@ fn uses_its_definitions(schema: &Schema) -> bool
 /// Whether the table or an index has the attribute in its key.
 #[tactic(auto, unfolding(crate::specs::Rule::IsKeyAttribute))]
 fn has_key_attribute(schema: &Schema, name: &Text) -> bool
-    ensures { IsTrue result ↔ IsKeyAttribute schema.now name.now }
+    ensures { IsTrue result ↔ IsKeyAttribute (stated_of schema.now) name.now }
 {
     schema.keys.names(name) || Indexes::of(schema).any(|index| index.keys.names(name))
 }
 
 /// Whether every attribute that serves in a key is defined.
-#[tactic(auto, using(crate::proofs::Rules::all_keys, crate::proofs::Rules::table_keys, crate::proofs::Rules::index_keys))]
 fn defines_every_key(schema: &Schema) -> bool
-    ensures { IsTrue result ↔ DefinesEveryKey schema.now }
+    ensures { IsTrue result ↔ DefinesEveryKey (stated_of schema.now) }
 {
     defines_parts(schema, &schema.keys) && defines_index_keys(schema)
 }
 
 /// Whether the parts of every index's key are defined.
 fn defines_index_keys(schema: &Schema) -> bool
-    ensures { IsTrue result ↔ All (λ i. DefinesParts schema.now i.keys) (indexes_of schema.now) }
+    ensures { IsTrue result ↔ All (λ i. DefinesParts (stated_of schema.now) i.keys) (indexes_of (stated_of schema.now)) }
 {
     Indexes::of(schema).all(|index| defines_parts(schema, index.keys))
 }
@@ -107,7 +105,7 @@ fn defines_index_keys(schema: &Schema) -> bool
 /// Whether the parts of a key are all defined.
 #[tactic(auto, unfolding(crate::specs::Rule::DefinesParts))]
 fn defines_parts(schema: &Schema, keys: &KeyNames) -> bool
-    ensures { IsTrue result ↔ DefinesParts schema.now keys.now }
+    ensures { IsTrue result ↔ DefinesParts (stated_of schema.now) (elements_of keys.now) }
 {
     if !defines(schema, &keys.partition) {
         return false;
@@ -121,28 +119,28 @@ fn defines_parts(schema: &Schema, keys: &KeyNames) -> bool
 /// Whether the table defines the attribute.
 #[tactic(auto, unfolding(crate::specs::Rule::Defines))]
 fn defines(schema: &Schema, name: &Text) -> bool
-    ensures { IsTrue result ↔ Defines schema.now name.now }
+    ensures { IsTrue result ↔ Defines (stated_of schema.now) name.now }
 {
     contain_name(schema.definitions.as_slice(), name)
 }
 
 /// Whether the indexes have names that they may have, each once.
 fn has_valid_index_names(schema: &Schema) -> bool
-    ensures { IsTrue result ↔ HasValidIndexNames schema.now }
+    ensures { IsTrue result ↔ HasValidIndexNames (stated_of schema.now) }
 {
     Indexes::of(schema).have_valid_names() && Indexes::of(schema).have_distinct_names()
 }
 
 /// Whether the indexes have keys that they may have on this table.
 fn has_valid_index_keys(schema: &Schema) -> bool
-    ensures { IsTrue result ↔ HasValidIndexKeys schema.now }
+    ensures { IsTrue result ↔ HasValidIndexKeys (stated_of schema.now) }
 {
     Indexes::of(schema).have_keys_apart() && has_local_keys(schema)
 }
 
 /// Whether the key of every local index goes with that of the table.
 fn has_local_keys(schema: &Schema) -> bool
-    ensures { IsTrue result ↔ All (λ i. IsLocalTo schema.now.keys i.keys) schema.now.locals }
+    ensures { IsTrue result ↔ All (λ i. IsLocalTo (elements_of schema.now.keys) (elements_of i.keys)) schema.now.locals }
 {
     schema
         .locals
@@ -152,7 +150,7 @@ fn has_local_keys(schema: &Schema) -> bool
 
 /// Whether there are no more indexes of each kind than a table may have.
 fn has_few_indexes(schema: &Schema) -> bool
-    ensures { IsTrue result ↔ HasFewIndexes schema.now }
+    ensures { IsTrue result ↔ HasFewIndexes (stated_of schema.now) }
 {
     schema.locals.len() <= MAX_LOCALS && schema.globals.len() <= MAX_GLOBALS
 }

@@ -1,8 +1,8 @@
 ghost use Rattle.std.specs.Prelude.{◌≡◌, ◌≢◌, IsTrue, ◌↔◌, All, Any, AllPairs};
 ghost use Rattle.std.specs.Iterator.{YieldsFirstBy, item_count};
 ghost use Rattle.table_schema.specs.Name.{IsTableName};
-ghost use Rattle.table_schema.specs.Key.{AreApart};
-ghost use Rattle.table_schema.specs.Index.{indexes_of, IsProjection};
+ghost use Rattle.table_schema.specs.Key.{IsKeySchema};
+ghost use Rattle.table_schema.specs.Index.{indexes_of, stated_of, IsProjection};
 ghost use Rattle.table_schema.specs.Indexes.{shown, rest_of};
 
 use crate::index::{GlobalIndex, LocalIndex, Projection};
@@ -29,7 +29,7 @@ pub struct Indexes<'a> {
 impl<'a> Indexes<'a> {
     /// All indexes of the table.
     pub fn of(schema: &'a Schema) -> Indexes<'a>
-        ensures { rest_of result ≡ indexes_of schema.now }
+        ensures { rest_of result ≡ indexes_of (stated_of schema.now) }
     {
         Indexes {
             locals: schema.locals.as_slice(),
@@ -65,7 +65,7 @@ impl<'a> Indexes<'a> {
 
     /// Whether every index has a key of distinct parts.
     pub fn have_keys_apart(mut self) -> bool
-        ensures { IsTrue result ↔ All (λ i. AreApart i.keys) (rest_of self.entry) }
+        ensures { IsTrue result ↔ All (λ i. IsKeySchema i.keys) (rest_of self.entry) }
     {
         self.all(|index| index.keys.are_apart())
     }

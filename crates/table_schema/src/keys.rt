@@ -1,5 +1,5 @@
 ghost use Rattle.std.specs.Prelude.{◌≡◌, IfOk, IsTrue, ◌↔◌};
-ghost use Rattle.table_schema.specs.Key.{Names, AreApart, IsLocalTo};
+ghost use Rattle.table_schema.specs.Key.{Names, IsKeySchema, IsLocalTo, elements_of};
 
 use base_types::Text;
 use std::alloc::AllocError as NoMemory;
@@ -27,7 +27,7 @@ impl KeyNames {
 
     /// Whether the attribute is a part of the key.
     pub(crate) fn names(&self, name: &Text) -> bool
-        ensures { IsTrue result ↔ Names self.now name.now }
+        ensures { IsTrue result ↔ Names (elements_of self.now) name.now }
     {
         if self.partition == *name {
             return true;
@@ -40,7 +40,7 @@ impl KeyNames {
 
     /// Whether the sort key, if there is one, is another attribute than the partition key.
     pub(crate) fn are_apart(&self) -> bool
-        ensures { IsTrue result ↔ AreApart self.now }
+        ensures { IsTrue result ↔ IsKeySchema (elements_of self.now) }
     {
         match &self.sort {
             Some(sort) => self.partition != *sort,
@@ -50,7 +50,7 @@ impl KeyNames {
 
     /// Whether these may be the keys of a local index of a table with the keys `table`.
     pub(crate) fn are_local_to(&self, table: &KeyNames) -> bool
-        ensures { IsTrue result ↔ IsLocalTo table.now self.now }
+        ensures { IsTrue result ↔ IsLocalTo (elements_of table.now) (elements_of self.now) }
     {
         self.partition == table.partition && self.sort.is_some() && table.sort.is_some()
     }

@@ -20,7 +20,9 @@ mod index;
 mod indexes;
 mod keys;
 mod name;
+mod name_set;
 mod schema;
+mod stated;
 
 pub use check::check_schema;
 pub use definition::{Definition, KeyKind};
@@ -28,6 +30,7 @@ pub use fault::SchemaFault;
 pub use index::{GlobalIndex, LocalIndex, Projection};
 pub use keys::KeyNames;
 pub use schema::Schema;
+pub use stated::{KeyElement, KeyRole, StatedIndex, StatedSchema};
 
 #[cfg(test)]
 mod tests;
