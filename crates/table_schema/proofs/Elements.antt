@@ -6,34 +6,18 @@ use Rattle.table_schema.specs.declared.stated.KeyElement.{KeyElement}
 use Rattle.table_schema.specs.declared.stated.KeyRole.TheVariants.{Hash, Range}
 use Rattle.table_schema.specs.declared.stated.StatedSchema.{StatedSchema}
 use Rattle.table_schema.specs.Rule.{Defines, DefinesParts}
+use Rattle.table_schema.proofs.Anys.{any_here, any_behind, any_from, none}
 use Rattle.table_schema.specs.Key.{Names, elements_of, range_of}
-
--- a list of elements has a name at its front or behind
-pub named_here : (e : KeyElement) (es : List KeyElement) (name : List ℕ) → e.name ≡ name → Names (e ∷ es) name
-unfolding Names
-named_here e es name is = (0, e, omega arith, refl, is)
-
-pub named_behind : (e : KeyElement) (es : List KeyElement) (name : List ℕ) → Names es name → Names (e ∷ es) name
-unfolding Names
-named_behind e es name (k, x, within, is, same) = (suc k, x, omega arith, is, same)
-
-pub named_from : (e : KeyElement) (es : List KeyElement) (name : List ℕ) → Names (e ∷ es) name → (e.name ≡ name) ⊎ Names es name
-unfolding Names
-named_from e es name (zero, x, within, is, same) = inl (cc)
-named_from e es name (suc k, x, within, is, same) = inr (k, x, omega arith, is, same)
-
-pub none_named : (name : List ℕ) → ¬ (Names [] name)
-unfolding Names
-none_named name (k, x, within, is, same) = absurd (omega arith)
 
 -- the list that states key names has their names
 pub names_both_ways : (keys : KeyNames) (name : List ℕ) → Names (elements_of keys) name ↔ ((keys.partition ≡ name) ⊎ (keys.sort ≡ Some name))
+unfolding Names
 names_both_ways keys name = (
-  λ names. parts name keys.sort (named_from _ (range_of keys.sort) name names),
+  λ names. parts name keys.sort (any_from (λ e. e.name ≡ name) (hash keys) (range_of keys.sort) names),
   λ part.
       elim part [
-        inl is ↦ named_here (hash keys) (range_of keys.sort) name is
-      | inr is ↦ named_behind (hash keys) (range_of keys.sort) name (sort_named name keys.sort is)
+        inl is ↦ any_here (λ e. e.name ≡ name) (hash keys) (range_of keys.sort) is
+      | inr is ↦ any_behind (λ e. e.name ≡ name) (hash keys) (range_of keys.sort) (sort_named name keys.sort is)
       ],
 )
   where
@@ -42,14 +26,14 @@ names_both_ways keys name = (
 
     sort_named : (name : List ℕ) (sort : Option (List ℕ)) → sort ≡ Some name → Names (range_of sort) name
     sort_named name None is = absurd (cc)
-    sort_named name (Some sort) is = named_here (record { name = sort; role = Range }) [] name (cc)
+    sort_named name (Some sort) is = any_here (λ e. e.name ≡ name) (record { name = sort; role = Range }) [] (cc)
 
     parts : {P : Type 0} (name : List ℕ) (sort : Option (List ℕ)) → P ⊎ Names (range_of sort) name → P ⊎ (sort ≡ Some name)
     parts name sort (inl is) = inl is
-    parts name None (inr names) = absurd (none_named name names)
+    parts name None (inr names) = absurd (none (λ e. e.name ≡ name) names)
     parts name (Some sort) (inr names) =
-        elim (named_from (record { name = sort; role = Range }) [] name names)
-        [ inl is ↦ inr (ap Some is) | inr none ↦ absurd (none_named name none) ]
+        elim (any_from (λ e. e.name ≡ name) (record { name = sort; role = Range }) [] names)
+        [ inl is ↦ inr (ap Some is) | inr nothing ↦ absurd (none (λ e. e.name ≡ name) nothing) ]
 
 pub named_iff : (r : Bool) (keys : KeyNames) (name : List ℕ) → IsTrue r ↔ ((keys.partition ≡ name) ⊎ (keys.sort ≡ Some name)) → IsTrue r ↔ Names (elements_of keys) name
 named_iff r keys name both =

@@ -1,7 +1,10 @@
+pub mod Anys
 pub mod Pairs
 pub mod Names
 pub mod Chains
 pub mod Rules
 pub mod Faults
 pub mod NameSets
+pub mod NewNames
+pub mod Attributes
 pub mod Elements

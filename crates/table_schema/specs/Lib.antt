@@ -6,3 +6,4 @@ pub mod Rule
 pub mod Fault
 pub mod FaultName
 pub mod Indexes
+pub mod Stated

@@ -13,10 +13,10 @@ use crate::schema::Schema;
 use base_types::Text;
 
 /// The most local indexes of a table.
-const MAX_LOCALS: usize = 5;
+pub const MAX_LOCALS: usize = 5;
 
 /// The most global indexes of a table.
-const MAX_GLOBALS: usize = 20;
+pub const MAX_GLOBALS: usize = 20;
 
 /// Whether the schema keeps every rule: `Ok` exactly where it does, else the [`SchemaFault`] of the least
 /// number among those that are there.

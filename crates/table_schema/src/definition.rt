@@ -2,6 +2,7 @@ ghost use Rattle.std.specs.Prelude.{◌≡◌, ◌≢◌, IfOk, IsTrue, ◌↔�
 ghost use Rattle.table_schema.specs.Name.{IsAttributeName};
 
 use crate::name::is_attribute_name;
+use crate::name_set::Named;
 use base_types::Text;
 use std::alloc::AllocError as NoMemory;
 
@@ -29,6 +30,14 @@ impl Definition {
             name: self.name.try_clone()?,
             kind: self.kind,
         })
+    }
+}
+
+impl Named for Definition {
+    ghost name_of = { λ definition. definition.name };
+
+    fn name(&self) -> &Text {
+        &self.name
     }
 }
 

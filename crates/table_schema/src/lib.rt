@@ -22,11 +22,12 @@ mod keys;
 mod name;
 mod name_set;
 mod schema;
+mod sound;
 mod stated;
 
 pub use check::check_schema;
 pub use definition::{Definition, KeyKind};
-pub use fault::SchemaFault;
+pub use fault::{SchemaEnd, SchemaFault};
 pub use index::{GlobalIndex, LocalIndex, Projection};
 pub use keys::KeyNames;
 pub use schema::Schema;

@@ -1,11 +1,20 @@
 //! Sets of names, lent, which find a name in few steps.
 
-ghost use Rattle.std.specs.Prelude.{◌≡◌, ℕ, List, [], ◌||◌, not, IfOk, OnOk};
-ghost use Rattle.table_schema.specs.NameSet.{is_same, has};
+ghost use Rattle.std.specs.Prelude.{◌≡◌, ℕ, List, [], ◌||◌, ◌↔◌, not, map, IfOk, OnOk, IsTrue};
+ghost use Rattle.table_schema.specs.NameSet.{is_same, has, are_new, IsWithin};
 
+use base_types::Text;
 use std::alloc::{AllocError as NoMemory, Global};
 use std::collections::BTreeSet;
 use std::marker::Model;
+
+/// What has a name.
+pub trait Named {
+    ghost name_of: { Self → List ℕ };
+
+    fn name(&self) -> &Text
+        ensures { result.now ≡ name_of self.now };
+}
 
 /// Names, each once.
 #[derive(Drop)]
@@ -46,5 +55,27 @@ impl<'a> NameSet<'a> {
         ensures { result ≡ has self.now name.now }
     {
         self.names.contains(&name)
+    }
+
+    /// Puts in the names of all items, and answers whether each was new: neither there before nor twice among them.
+    pub fn insert_all<T: Named>(&mut self, items: &'a [T]) -> Result<bool, NoMemory>
+        ensures new { IfOk result (λ new. new ≡ are_new T.name_of self.old items.now) }
+        ensures names { OnOk result ((n : List ℕ) → has self.new n ≡ (has (map T.name_of items.now) n || has self.old n)) }
+    {
+        let mut all_new = true;
+        let mut rest = items;
+        while let Some((first, others)) = rest.split_first() {
+            let new = self.insert(first.name().as_str())?;
+            all_new &= new;
+            rest = others;
+        }
+        Ok(all_new)
+    }
+
+    /// Whether each name is in the other set too.
+    pub fn is_subset(&self, other: &NameSet<'a>) -> bool
+        ensures { IsTrue result ↔ IsWithin self.now other.now }
+    {
+        self.names.is_subset(&other.names)
     }
 }

@@ -2,6 +2,7 @@
 
 use crate::definition::Definition;
 use crate::index::Projection;
+use crate::name_set::Named;
 use base_types::{Seq, Text};
 
 /// The part that an attribute has in a key: HASH is the partition key, RANGE the sort key (API Reference:
@@ -43,4 +44,20 @@ pub struct StatedSchema {
     pub write_units: u64,
     /// The moment at which the table is made, in microseconds.
     pub created: u64,
+}
+
+impl Named for KeyElement {
+    ghost name_of = { λ element. element.name };
+
+    fn name(&self) -> &Text {
+        &self.name
+    }
+}
+
+impl Named for StatedIndex {
+    ghost name_of = { λ index. index.name };
+
+    fn name(&self) -> &Text {
+        &self.name
+    }
 }
