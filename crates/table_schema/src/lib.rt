@@ -14,6 +14,7 @@
 #![tactic(auto)]
 
 mod check;
+mod conversion;
 mod definition;
 mod fault;
 mod index;
