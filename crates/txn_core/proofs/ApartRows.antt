@@ -9,8 +9,8 @@ use Rattle.txn_core.specs.declared.answer.Answer.{Answer}
 use Rattle.txn_core.specs.declared.entry.Entry.{Entry}
 use Rattle.txn_core.specs.declared.course.Move.{Move}
 use Rattle.txn_core.specs.Course.{Told, next_move}
-use Rattle.txn_core.specs.Legal.{IsAnswer}
-use Rattle.txn_core.specs.Cells.{of_cell, state, IsAlike}
+use Rattle.txn_core.specs.Legal.{state, IsAnswer}
+use Rattle.txn_core.specs.Cells.{of_cell, IsAlike}
 use Rattle.txn_core.specs.Driver.{entry, Knows}
 use Rattle.txn_core.specs.Simple.{service}
 use Rattle.txn_core.proofs.Basics.{none_some}

@@ -4,7 +4,7 @@ use Rattle.std.proofs.lemmas.Bool.{cond_both, eqb-true, eqb-false}
 use Rattle.txn_core.specs.declared.outcome.Outcome.{Outcome}
 use Rattle.txn_core.specs.declared.outcome.Outcome.TheVariants.{New, Unmet, Fails}
 use Rattle.txn_core.specs.Protocol.{after, IsNew}
-use Rattle.txn_core.specs.World.{Pending, at, holder}
+use Rattle.txn_core.specs.State.{Pending, at, holder}
 
 pub none_some : {X Q : Type 0} (o : Option X) (x : X) → o ≡ None → o ≡ Some x → Q
 none_some o x a b = absurd (cc)

@@ -1,13 +1,13 @@
 -- The rules asked one after the other.
-use Rattle.std.proofs.Common.{◌≡◌, inl, inr, ◌+◌, ◌<◌, ◌≤◌, ℕ, Bool, true, false, List, ◌∷◌, length, take, get_or, reverse, Option, None, Some, refl, sym, ap, ◌∙◌, subst}
+use Rattle.std.proofs.Common.{◌≡◌, inl, inr, ◌+◌, ◌<◌, ◌≤◌, ℕ, Bool, true, false, List, [], ◌∷◌, length, take, get_or, reverse, Option, None, Some, refl, sym, ap, ◌∙◌, subst}
 use Rattle.std.specs.Prelude.{◌↔◌, IsTrue}
 use Rattle.std.proofs.lemmas.List.{get_or_default}
 use Rattle.txn_core.specs.declared.entry.Entry.{Entry}
 use Rattle.txn_core.specs.declared.message.Message.{Message}
 use Rattle.txn_core.specs.declared.kind.BreakKind.{BreakKind}
 use Rattle.txn_core.specs.Service.{Service}
-use Rattle.txn_core.specs.Legal.{Allowed, sent_to, Follows}
-use Rattle.txn_core.specs.Breaks.{IsAt, AreAlike, NamesBegun, HasGroundFor, AppliesLate, ReleasesLate, FinishesLate, ForgetsLate, FeedsInOrder, Keeps, KeepsAll, IsFirstBroken, AllKeep, IsFirstBreak, in_order}
+use Rattle.txn_core.specs.Legal.{Allowed, sent_to, Follows, IsLegal}
+use Rattle.txn_core.specs.Breaks.{IsAt, HaveOneReach, NamesBegun, HasGroundFor, AppliesLate, ReleasesLate, FinishesLate, ForgetsLate, FeedsInOrder, Keeps, KeepsAll, IsFirstBroken, AllKeep, IsFirstBreak, in_order}
 use Rattle.txn_core.proofs.Basics.{true_false}
 use Rattle.txn_core.proofs.Reversed.{newest, whole}
 
@@ -82,14 +82,14 @@ module _ {K V A F C D Q B : Type 0} (S : Service K V A F C D Q B) where
     allowed_of (Message.Ack source sequence) b t f a r d g x = x
     allowed_of _ b t f a r d g x = tt
 
-  cell_at : (x y : Option ℕ) → x ≡ y → IsAt x y × AreAlike x y
-  cell_at x y e = subst (λ z. IsAt x z × AreAlike x z) e (itself x)
+  cell_at : (x y : Option ℕ) → x ≡ y → IsAt x y × HaveOneReach x y
+  cell_at x y e = subst (λ z. IsAt x z × HaveOneReach x z) e (itself x)
     where
-      itself : (x : Option ℕ) → IsAt x x × AreAlike x x
+      itself : (x : Option ℕ) → IsAt x x × HaveOneReach x x
       itself None = (tt, tt)
       itself (Some i) = (refl, tt)
 
-  cell_is : (x y : Option ℕ) → IsAt x y → AreAlike x y → x ≡ y
+  cell_is : (x y : Option ℕ) → IsAt x y → HaveOneReach x y → x ≡ y
   cell_is None None at alike = refl
   cell_is (Some i) (Some j) at alike = ap Some at
   cell_is None (Some j) at alike = absurd alike
@@ -115,3 +115,8 @@ module _ {K V A F C D Q B : Type 0} (S : Service K V A F C D Q B) where
             cell = cell_is e.cell (sent_to S e.message) right.cell alike;
             timely = right.timely;
           }
+
+  -- a history whose entries keep every rule is legal
+  pub keeps_are_legal : (es : List (Entry K V A F D Q B)) → AllKeep S in_order es → IsLegal S es
+  keeps_are_legal [] h = tt
+  keeps_are_legal (e ∷ es) h = (keeps_are_legal es h.0, (rules_follow es e).1 h.1)

@@ -15,7 +15,7 @@ use Rattle.txn_core.specs.declared.ruling.Ruling.{Ruling}
 use Rattle.txn_core.specs.declared.ruling.Ruling.TheVariants.{Carries, Refuses}
 use Rattle.txn_core.specs.Service.{Service, IsServiceLawful}
 use Rattle.txn_core.specs.Effects.{Effect, Wrote, Prepared, Applied, Released, Finished, Forgot, Changed}
-use Rattle.txn_core.specs.World.{Pending, World, holder, last, action_on, touches, here}
+use Rattle.txn_core.specs.State.{Pending, State, holder, last, action_on, touches, here}
 use Rattle.txn_core.specs.Runs.{May, IsReady, MayFinish, MayChange}
 use Rattle.txn_core.specs.Answers.{KeptToken, write_answer, outcome_answer, prepare_answer, is_holder, apply_answer, release_answer, begin_answer, decide_answer, done_answer, forget_answer}
 use Rattle.txn_core.specs.History.{is_written, is_accepted, is_applied, is_released, is_finished, is_forgotten, is_changed, where_so, begin_effect, decide_effect}
@@ -43,7 +43,7 @@ pub where_true : {K A D : Type 0} (b : Bool) (e : Effect K A D) → b ≡ true �
 where_true b e h = ap (λ x. where_so x e) h
 
 module _ {K V A F C D Q B : Type 0} (S : Service K V A F C D Q B) (law : IsServiceLawful S) where
-  module _ (w : World K V A C) where
+  module _ (w : State K V A C) where
     pub may_write : (a : A) (moment : ℕ) (b : Bool) (h : Option ℕ) (o : Outcome V F) → S.core.there w.catalog (S.core.key_of a) ≡ b → holder (w.spot (S.core.key_of a)).pend ≡ h → S.core.act w.catalog a (w.spot (S.core.key_of a)).row ≡ o → May S.core w (where_so (is_written {K = K} {V = V} {A = A} {F = F} {B = B} (write_answer b h (w.spot (S.core.key_of a)).row o)) (Wrote a moment))
     may_write a moment false h o is_there is_held is_out = tt
     may_write a moment true (Some n) o is_there is_held is_out = tt

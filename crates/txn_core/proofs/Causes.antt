@@ -14,14 +14,14 @@ use Rattle.txn_core.specs.declared.outcome.Outcome.TheVariants.{New, Unmet, Fail
 use Rattle.txn_core.specs.declared.ruling.Ruling.{Ruling}
 use Rattle.txn_core.specs.declared.ruling.Ruling.TheVariants.{Carries, Refuses}
 use Rattle.txn_core.specs.Service.{Service, IsServiceLawful}
-use Rattle.txn_core.specs.World.{holder, last, here, world}
+use Rattle.txn_core.specs.State.{holder, last, here, state_after}
 use Rattle.txn_core.specs.Serial.{serial, tables, shown}
 use Rattle.txn_core.specs.Answers.{KeptToken, get_answer, write_answer, outcome_answer, prepare_answer, is_holder, version_answer, begin_answer, has_record, decide_answer, recall_answer}
 use Rattle.txn_core.specs.Effects.{Effect}
 use Rattle.txn_core.specs.Runs.{IsRun}
 use Rattle.txn_core.specs.History.{effect, effects, found_kept, reasons_of}
 use Rattle.txn_core.specs.Legal.{ruling_answer, IsRuled, IsInTheWay, IsPage, IsAnswer, IsLegal}
-use Rattle.txn_core.specs.Laws.{version_of, IsRealHolder, IsRealStamp}
+use Rattle.txn_core.specs.Laws.{version_of, IsRealHolder, last_by}
 use Rattle.txn_core.proofs.LegalRuns.{legal_run}
 use Rattle.txn_core.proofs.SerialLaws.{rows_are_shown}
 use Rattle.txn_core.proofs.Versions.{one_point}
@@ -99,54 +99,54 @@ module _ {K V A F C D Q B : Type 0} (S : Service K V A F C D Q B) (law : IsServi
 
   pub real_holder : (es : List (Entry K V A F D Q B)) (moment : ℕ) (m : Message K V A F D Q) (n : ℕ) → IsAnswer S es moment m (Answer.Held n) → IsRealHolder S es m n
   real_holder es moment (Message.Write action) n is =
-      let w = world S.core (effects es) in
+      let w = state_after S.core (effects es) in
       write_held (S.core.there w.catalog (S.core.key_of action)) (holder (w.spot (S.core.key_of action)).pend) (w.spot (S.core.key_of action)).row (S.core.act w.catalog action (w.spot (S.core.key_of action)).row) n (sym is)
   real_holder es moment (Message.Prepare m stamp action) n is =
-      let w = world S.core (effects es) in
+      let w = state_after S.core (effects es) in
       prepare_held (S.core.there w.catalog (S.core.key_of action)) (holder (w.spot (S.core.key_of action)).pend) m (last (here S.core w (S.core.key_of action)) (w.spot (S.core.key_of action))) stamp (w.spot (S.core.key_of action)).row (S.core.act w.catalog action (w.spot (S.core.key_of action)).row) n (sym is)
-  real_holder es moment (Message.Command d) n is = ruled (S.refuses d (world S.core (effects es)).catalog) is
+  real_holder es moment (Message.Command d) n is = ruled (S.refuses d (state_after S.core (effects es)).catalog) is
     where
-      ruled : (o : Option B) → IsRuled S (world S.core (effects es)) d moment o (Answer.Held n) → IsInTheWay S (world S.core (effects es)) d n
+      ruled : (o : Option B) → IsRuled S (state_after S.core (effects es)) d moment o (Answer.Held n) → IsInTheWay S (state_after S.core (effects es)) d n
       ruled (Some told) e = absurd (cc)
-      ruled None (inl (m, e, way)) = let same : m ≡ n = cc in subst (λ x. IsInTheWay S (world S.core (effects es)) d x) same way
-      ruled None (inr (e, clear)) = by_ruling (S.rules d moment (world S.core (effects es)).catalog) e
+      ruled None (inl (m, e, way)) = let same : m ≡ n = cc in subst (λ x. IsInTheWay S (state_after S.core (effects es)) d x) same way
+      ruled None (inr (e, clear)) = by_ruling (S.rules d moment (state_after S.core (effects es)).catalog) e
         where
-          by_ruling : (r : Ruling B) → Answer.Held n ≡ ruling_answer S r → IsInTheWay S (world S.core (effects es)) d n
+          by_ruling : (r : Ruling B) → Answer.Held n ≡ ruling_answer S r → IsInTheWay S (state_after S.core (effects es)) d n
           by_ruling (Carries told) e = absurd (cc)
           by_ruling (Refuses told) e = absurd (cc)
-  real_holder es moment (Message.Get key) n is = get_other (S.core.there (world S.core (effects es)).catalog key) (sym is)
+  real_holder es moment (Message.Get key) n is = get_other (S.core.there (state_after S.core (effects es)).catalog key) (sym is)
     where
-      get_other : (b : Bool) → HeldIn {K = K} {V = V} {A = A} {F = F} {B = B} (get_answer b ((world S.core (effects es)).spot key).row) n → ⊥
+      get_other : (b : Bool) → HeldIn {K = K} {V = V} {A = A} {F = F} {B = B} (get_answer b ((state_after S.core (effects es)).spot key).row) n → ⊥
       get_other true e = cc
       get_other false e = cc
-  real_holder es moment (Message.ReadVersion key) n is = version_other (S.core.there (world S.core (effects es)).catalog key) (sym is)
+  real_holder es moment (Message.ReadVersion key) n is = version_other (S.core.there (state_after S.core (effects es)).catalog key) (sym is)
     where
-      version_other : (b : Bool) → HeldIn {K = K} {V = V} {A = A} {F = F} {B = B} (version_answer b ((world S.core (effects es)).spot key).row ((world S.core (effects es)).spot key).version (here S.core (world S.core (effects es)) key).gone (holder ((world S.core (effects es)).spot key).pend)) n → ⊥
+      version_other : (b : Bool) → HeldIn {K = K} {V = V} {A = A} {F = F} {B = B} (version_answer b ((state_after S.core (effects es)).spot key).row ((state_after S.core (effects es)).spot key).version (here S.core (state_after S.core (effects es)) key).gone (holder ((state_after S.core (effects es)).spot key).pend)) n → ⊥
       version_other true e = cc
       version_other false e = cc
   real_holder es moment (Message.Apply m key) n is =
-      cond_both (is_holder (holder ((world S.core (effects es)).spot key).pend) m) Answer.Applied Answer.Nothing (λ x. Answer.Held n ≡ x → ⊥) (λ _ e. cc) (λ _ e. cc) is
+      cond_both (is_holder (holder ((state_after S.core (effects es)).spot key).pend) m) Answer.Applied Answer.Nothing (λ x. Answer.Held n ≡ x → ⊥) (λ _ e. cc) (λ _ e. cc) is
   real_holder es moment (Message.Release m key) n is =
-      cond_both (is_holder (holder ((world S.core (effects es)).spot key).pend) m) Answer.Released Answer.Nothing (λ x. Answer.Held n ≡ x → ⊥) (λ _ e. cc) (λ _ e. cc) is
+      cond_both (is_holder (holder ((state_after S.core (effects es)).spot key).pend) m) Answer.Released Answer.Nothing (λ x. Answer.Held n ≡ x → ⊥) (λ _ e. cc) (λ _ e. cc) is
   real_holder es moment (Message.Begin token actions) n is =
-      begin_other (λ x. Answer.Held n ≡ x → ⊥) S.same_actions (list_all (λ x. S.core.there (world S.core (effects es)).catalog (S.core.key_of x)) actions) (found_kept es moment token) actions (record { moment = moment; number = (world S.core (effects es)).ledger.next })
+      begin_other (λ x. Answer.Held n ≡ x → ⊥) S.same_actions (list_all (λ x. S.core.there (state_after S.core (effects es)).catalog (S.core.key_of x)) actions) (found_kept es moment token) actions (record { moment = moment; number = (state_after S.core (effects es)).ledger.next })
       (λ e. cc) (λ m s e. cc) (λ m e. cc) (λ m e. cc) (λ m e. cc) is
   real_holder es moment (Message.Decide m commit reasons) n is =
-      decide_other (λ x. Answer.Held n ≡ x → ⊥) (has_record (world S.core (effects es)).ledger m) ((world S.core (effects es)).ledger.fate m) commit (λ g first e. cc) is
+      decide_other (λ x. Answer.Held n ≡ x → ⊥) (has_record (state_after S.core (effects es)).ledger m) ((state_after S.core (effects es)).ledger.fate m) commit (λ g first e. cc) is
   real_holder es moment (Message.Done m) n is =
-      cond_both (has_record (world S.core (effects es)).ledger m) Answer.Finished Answer.Nothing (λ x. Answer.Held n ≡ x → ⊥) (λ _ e. cc) (λ _ e. cc) is
+      cond_both (has_record (state_after S.core (effects es)).ledger m) Answer.Finished Answer.Nothing (λ x. Answer.Held n ≡ x → ⊥) (λ _ e. cc) (λ _ e. cc) is
   real_holder es moment (Message.Forget m) n is =
-      cond_both (has_record (world S.core (effects es)).ledger m) Answer.Forgotten Answer.Nothing (λ x. Answer.Held n ≡ x → ⊥) (λ _ e. cc) (λ _ e. cc) is
+      cond_both (has_record (state_after S.core (effects es)).ledger m) Answer.Forgotten Answer.Nothing (λ x. Answer.Held n ≡ x → ⊥) (λ _ e. cc) (λ _ e. cc) is
   real_holder es moment (Message.FateOf m) n is = cc
-  real_holder es moment (Message.Recall m) n is = recall_other (has_record (world S.core (effects es)).ledger m) (sym is)
+  real_holder es moment (Message.Recall m) n is = recall_other (has_record (state_after S.core (effects es)).ledger m) (sym is)
     where
-      recall_other : (b : Bool) → HeldIn {K = K} {V = V} {A = A} {F = F} {B = B} (recall_answer b ((world S.core (effects es)).ledger.fate m) ((world S.core (effects es)).ledger.stamp m) ((world S.core (effects es)).ledger.actions m) (reasons_of es m)) n → ⊥
+      recall_other : (b : Bool) → HeldIn {K = K} {V = V} {A = A} {F = F} {B = B} (recall_answer b ((state_after S.core (effects es)).ledger.fate m) ((state_after S.core (effects es)).ledger.stamp m) ((state_after S.core (effects es)).ledger.actions m) (reasons_of es m)) n → ⊥
       recall_other true e = cc
       recall_other false e = cc
   real_holder es moment Message.Unfinished n is = cc
   real_holder es moment (Message.Ask question) n is = cc
-  real_holder es moment (Message.QueryPage page) n is = page_other (S.serves (world S.core (effects es)).catalog page) n is
-  real_holder es moment (Message.ScanPage page) n is = page_other (S.serves (world S.core (effects es)).catalog page) n is
+  real_holder es moment (Message.QueryPage page) n is = page_other (S.serves (state_after S.core (effects es)).catalog page) n is
+  real_holder es moment (Message.ScanPage page) n is = page_other (S.serves (state_after S.core (effects es)).catalog page) n is
   real_holder es moment (Message.Pendings cell) n is = is.1
   real_holder es moment (Message.PeekOut source) n is = is.1
   real_holder es moment (Message.ApplyIndex source sequence index row_key after) n (inl is) = cc
@@ -155,15 +155,15 @@ module _ {K V A F C D Q B : Type 0} (S : Service K V A F C D Q B) (law : IsServi
   real_holder es moment (Message.Ack source sequence) n (far, inr is) = cc
 
   -- a Late, of a Prepare
-  pub late_stamp : (es : List (Entry K V A F D Q B)) (moment : ℕ) (n : ℕ) (stamp : Stamp) (action : A) (t : Stamp) → IsAnswer S es moment (Message.Prepare n stamp action) (Answer.Late t) → IsRealStamp S es (Message.Prepare n stamp action) t
+  pub late_stamp : (es : List (Entry K V A F D Q B)) (moment : ℕ) (n : ℕ) (stamp : Stamp) (action : A) (t : Stamp) → IsAnswer S es moment (Message.Prepare n stamp action) (Answer.Late t) → (t ≡ last_by S es (S.core.key_of action)) × IsBy stamp t
   late_stamp es moment n stamp action t is =
-      let w = world S.core (effects es) in
+      let w = state_after S.core (effects es) in
       let h = prepare_late (S.core.there w.catalog (S.core.key_of action)) (holder (w.spot (S.core.key_of action)).pend) n (last (here S.core w (S.core.key_of action)) (w.spot (S.core.key_of action))) stamp (w.spot (S.core.key_of action)).row (S.core.act w.catalog action (w.spot (S.core.key_of action)).row) t (sym is) in
       (h.0, subst (λ x. IsBy stamp x) (sym h.0) h.1)
 
   pub get_is_shown : (es : List (Entry K V A F D Q B)) → IsLegal S es → (moment : ℕ) (key : K) (v : Option V) → IsAnswer S es moment (Message.Get key) (Answer.Row v) → v ≡ shown S.core (effects es) key
   get_is_shown es legal moment key v is =
-      let w = world S.core (effects es) in
+      let w = state_after S.core (effects es) in
       get_row (S.core.there w.catalog key) (w.spot key).row v (sym is) ∙ rows_are_shown S.core law.core (effects es) (legal_run S law es legal) key
 
 -- a ReadVersion of an item whose table is there
@@ -176,16 +176,16 @@ effects-append [] es = refl
 effects-append (e ∷ newer) es = ap (λ l. effect e ∷ l) (effects-append newer es)
 
 module _ {K V A F C D Q B : Type 0} (S : Service K V A F C D Q B) (law : IsServiceLawful S) where
-  one_point_run : (newer middle es : List (Effect K A D)) (all mid : List (Effect K A D)) (q : K) → all ≡ newer ++ mid → mid ≡ middle ++ es → IsRun S.core all → S.core.there (world S.core es).catalog q ≡ true → S.core.there (world S.core all).catalog q ≡ true → version_of S.core (world S.core es) q ≡ version_of S.core (world S.core all) q → holder ((world S.core all).spot q).pend ≡ None → (((world S.core es).spot q).row ≡ tables S.core (serial mid) q) × (((world S.core all).spot q).row ≡ tables S.core (serial mid) q)
+  one_point_run : (newer middle es : List (Effect K A D)) (all mid : List (Effect K A D)) (q : K) → all ≡ newer ++ mid → mid ≡ middle ++ es → IsRun S.core all → S.core.there (state_after S.core es).catalog q ≡ true → S.core.there (state_after S.core all).catalog q ≡ true → version_of S.core (state_after S.core es) q ≡ version_of S.core (state_after S.core all) q → holder ((state_after S.core all).spot q).pend ≡ None → (((state_after S.core es).spot q).row ≡ tables S.core (serial mid) q) × (((state_after S.core all).spot q).row ≡ tables S.core (serial mid) q)
   one_point_run newer middle es all mid q all_is mid_is run a b v free =
-      subst (λ m. (((world S.core es).spot q).row ≡ tables S.core (serial m) q) × (((world S.core all).spot q).row ≡ tables S.core (serial m) q)) (sym mid_is)
-      (subst (λ l. IsRun S.core l → S.core.there (world S.core l).catalog q ≡ true → version_of S.core (world S.core es) q ≡ version_of S.core (world S.core l) q → holder ((world S.core l).spot q).pend ≡ None → (((world S.core es).spot q).row ≡ tables S.core (serial (middle ++ es)) q) × (((world S.core l).spot q).row ≡ tables S.core (serial (middle ++ es)) q)) (sym (all_is ∙ ap (λ m. newer ++ m) mid_is))
+      subst (λ m. (((state_after S.core es).spot q).row ≡ tables S.core (serial m) q) × (((state_after S.core all).spot q).row ≡ tables S.core (serial m) q)) (sym mid_is)
+      (subst (λ l. IsRun S.core l → S.core.there (state_after S.core l).catalog q ≡ true → version_of S.core (state_after S.core es) q ≡ version_of S.core (state_after S.core l) q → holder ((state_after S.core l).spot q).pend ≡ None → (((state_after S.core es).spot q).row ≡ tables S.core (serial (middle ++ es)) q) × (((state_after S.core l).spot q).row ≡ tables S.core (serial (middle ++ es)) q)) (sym (all_is ∙ ap (λ m. newer ++ m) mid_is))
       (λ r t w f. one_point S.core law.core newer middle es q r a t w f) run b v free)
 
   pub read_at_one_point : (newer middle es : List (Entry K V A F D Q B)) → IsLegal S (newer ++ (middle ++ es)) → (t u : ℕ) (q : K) (first second : Option V) (version : ℕ) (h : Option ℕ) → IsAnswer S es t (Message.ReadVersion q) (Answer.Version first version h) → IsAnswer S (newer ++ (middle ++ es)) u (Message.ReadVersion q) (Answer.Version second version None) → (first ≡ tables S.core (serial (effects (middle ++ es))) q) × (second ≡ tables S.core (serial (effects (middle ++ es))) q)
   read_at_one_point newer middle es legal t u q first second version h one two =
-      let w = world S.core (effects es) in
-      let x = world S.core (effects (newer ++ (middle ++ es))) in
+      let w = state_after S.core (effects es) in
+      let x = state_after S.core (effects (newer ++ (middle ++ es))) in
       let a = version_is (S.core.there w.catalog q) (w.spot q).row (w.spot q).version (here S.core w q).gone (holder (w.spot q).pend) first version h (sym one) in
       let b = version_is (S.core.there x.catalog q) (x.spot q).row (x.spot q).version (here S.core x q).gone (holder (x.spot q).pend) second version None (sym two) in
       let r =

@@ -8,11 +8,11 @@ use Rattle.txn_core.specs.declared.answer.Answer.{Answer}
 use Rattle.txn_core.specs.declared.answer.HeldItem.{HeldItem}
 use Rattle.txn_core.specs.declared.entry.Entry.{Entry}
 use Rattle.txn_core.specs.Service.{Service, IsServiceLawful}
-use Rattle.txn_core.specs.World.{Pending, World, holder}
+use Rattle.txn_core.specs.State.{Pending, State, holder}
 use Rattle.txn_core.specs.Answers.{get_answer, write_answer, prepare_answer, apply_answer, release_answer, version_answer, begin_answer, has_record, decide_answer, done_answer, forget_answer, fate_answer, recall_answer, unfinished}
-use Rattle.txn_core.specs.History.{purged, found_kept, IsTimely}
-use Rattle.txn_core.specs.Legal.{IsInTheWay, ruling_answer, IsRuled, ArePendings, IsPendingList, IsPage, IsAnswer, Allowed, sent_to, IsLegal}
-use Rattle.txn_core.specs.Cells.{of_cell, of_pass, state, IsAlike, AreAlike, HaveSameEntries, IsFirstHolder, IsClearThere, IsRuledByCells}
+use Rattle.txn_core.specs.History.{unless_over, found_kept, IsTimely}
+use Rattle.txn_core.specs.Legal.{state, IsInTheWay, ruling_answer, IsRuled, ArePendings, IsPendingList, IsPage, IsAnswer, Allowed, sent_to, IsLegal}
+use Rattle.txn_core.specs.Cells.{of_cell, of_pass, IsAlike, AreAlike, HaveSameEntries, IsFirstHolder, IsClearThere, IsRuledByCells}
 use Rattle.txn_core.proofs.Basics.{holder_is}
 use Rattle.txn_core.proofs.Prefix.{legal_before}
 use Rattle.txn_core.proofs.Locality.{own_entries_tell, alike_turned, same_entries_alike}
@@ -33,10 +33,10 @@ module _ {K V A F D Q B : Type 0} where
 
 module _ {K V A F C D Q B : Type 0} (S : Service K V A F C D Q B) where
   -- who holds an item, by what its cell holds
-  abbrev SameHolds : World K V A C → World K V A C → Type 0
+  abbrev SameHolds : State K V A C → State K V A C → Type 0
   SameHolds w u = (q : K) → (w.spot q).pend ≡ (u.spot q).pend
 
-  way_alike : (w u : World K V A C) → SameHolds w u → w.catalog ≡ u.catalog → (d : D) (n : ℕ) → IsInTheWay S w d n → IsInTheWay S u d n
+  way_alike : (w u : State K V A C) → SameHolds w u → w.catalog ≡ u.catalog → (d : D) (n : ℕ) → IsInTheWay S w d n → IsInTheWay S u d n
   way_alike w u holds cat d n way =
       record {
         item = way.item;
@@ -45,7 +45,7 @@ module _ {K V A F C D Q B : Type 0} (S : Service K V A F C D Q B) where
         least = λ q m at held. way.least q m (ap (λ c. S.concerns d c q) cat ∙ at) (ap (λ o. holder o) (holds q) ∙ held);
       }
 
-  ruled_alike : (w u : World K V A C) → SameHolds w u → w.catalog ≡ u.catalog → (d : D) (moment : ℕ) (o : Option B) (a : Answer K V A F B) → IsRuled S w d moment o a → IsRuled S u d moment o a
+  ruled_alike : (w u : State K V A C) → SameHolds w u → w.catalog ≡ u.catalog → (d : D) (moment : ℕ) (o : Option B) (a : Answer K V A F B) → IsRuled S w d moment o a → IsRuled S u d moment o a
   ruled_alike w u holds cat d moment (Some told) a is = is
   ruled_alike w u holds cat d moment None a (inl (n, is, way)) = inl (n, is, way_alike w u holds cat d n way)
   ruled_alike w u holds cat d moment None a (inr (is, clear)) =
@@ -53,7 +53,7 @@ module _ {K V A F C D Q B : Type 0} (S : Service K V A F C D Q B) where
 
   found_alike : (es fs : List (Entry K V A F D Q B)) (moment : ℕ) (token : Option (List ℕ)) → IsAlike S S.control es fs → found_kept es moment token ≡ found_kept fs moment token
   found_alike es fs moment None s = refl
-  found_alike es fs moment (Some token) s = λ j. purged moment (s.tokens refl token j)
+  found_alike es fs moment (Some token) s = λ j. unless_over moment (s.tokens refl token j)
 
   are_pendings_alike : (es fs : List (Entry K V A F D Q B)) (cell : ℕ) → IsAlike S cell es fs → (pendings : List (HeldItem K)) → ArePendings S (state S es) cell pendings → ArePendings S (state S fs) cell pendings
   are_pendings_alike es fs cell s pendings h =
@@ -103,7 +103,7 @@ module _ {K V A F C D Q B : Type 0} (S : Service K V A F C D Q B) where
       (ruled_alike (state S es) (state S fs) (λ q j. ((s (S.core.cell_of q) (inr (q, refl))).items q refl j).pend) cat d moment (S.refuses d (state S es).catalog) a is)
 
   -- who is in a command's way, by what each cell knows of its own items, and back
-  module _ (w : World K V A C) (own : ℕ → World K V A C) (holds : (q : K) → ((own (S.core.cell_of q)).spot q).pend ≡ (w.spot q).pend) (cat : (i : ℕ) → (own i).catalog ≡ w.catalog) (d : D) where
+  module _ (w : State K V A C) (own : ℕ → State K V A C) (holds : (q : K) → ((own (S.core.cell_of q)).spot q).pend ≡ (w.spot q).pend) (cat : (i : ℕ) → (own i).catalog ≡ w.catalog) (d : D) where
     -- an item of a cell, as its cell knows it
     there : (q : K) (i : ℕ) → S.core.cell_of q ≡ i → ((own i).spot q).pend ≡ (w.spot q).pend
     there q i at = subst (λ k. ((own k).spot q).pend ≡ (w.spot q).pend) at (holds q)
@@ -193,7 +193,7 @@ module _ {K V A F C D Q B : Type 0} (S : Service K V A F C D Q B) where
 
     pub cells_answer : (es : List (Entry K V A F D Q B)) → IsLegal S es → (moment : ℕ) (d : D) (a : Answer K V A F B) → IsAnswer S es moment (Message.Command d) a ↔ IsRuledByCells S (λ i. state S (of_cell i es)) d moment (S.refuses d (state S (of_cell S.control es)).catalog) a
     cells_answer es legal moment d a =
-        let own : ℕ → World K V A C = λ i. state S (of_cell i es) in
+        let own : ℕ → State K V A C = λ i. state S (of_cell i es) in
         let tell = own_entries_tell S law es legal in
         let holds : (q : K) → ((own (S.core.cell_of q)).spot q).pend ≡ ((state S es).spot q).pend = λ q j. ((tell (S.core.cell_of q)).items q refl j).pend in
         let cat : (i : ℕ) → (own i).catalog ≡ (state S es).catalog = λ i. (tell i).catalog in (

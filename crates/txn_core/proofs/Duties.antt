@@ -5,8 +5,8 @@ use Rattle.std.specs.List.{list_any}
 use mathlib.Core.Bool.{beq}
 use Rattle.std.proofs.lemmas.Bool.{and_parts}
 use Rattle.txn_core.specs.declared.stamp.Stamp.{Stamp}
-use Rattle.txn_core.specs.declared.deed.Deed.{Deed}
-use Rattle.txn_core.specs.declared.deed.ItemDeed.{ItemDeed}
+use Rattle.txn_core.specs.declared.fact.Fact.{Fact}
+use Rattle.txn_core.specs.declared.fact.ItemFact.{ItemFact}
 use Rattle.txn_core.specs.declared.reason.Reason.{Reason}
 use Rattle.txn_core.specs.declared.message.Message.{Message}
 use Rattle.txn_core.specs.declared.entry.Entry.{Entry}
@@ -15,9 +15,9 @@ use Rattle.txn_core.specs.Service.{Service}
 use Rattle.txn_core.specs.Serial.{begun_actions}
 use Rattle.txn_core.specs.History.{effects, Had}
 use Rattle.txn_core.specs.Legal.{accepts, HasCause, HasGround, sent_to}
-use Rattle.txn_core.specs.World.{on_item}
-use Rattle.txn_core.specs.Replay.{tells, tells_on, are_apart, is_finishable, is_command}
-use Rattle.txn_core.specs.Breaks.{AreAlike, NamesBegun, HasGroundFor, AppliesLate, ReleasesLate, FinishesLate, ForgetsLate, FeedsInOrder}
+use Rattle.txn_core.specs.State.{on_item}
+use Rattle.txn_core.specs.Replay.{tells, tells_on, are_apart, IsFinishable, is_command}
+use Rattle.txn_core.specs.Breaks.{HaveOneReach, NamesBegun, HasGroundFor, AppliesLate, ReleasesLate, FinishesLate, ForgetsLate, FeedsInOrder}
 use Rattle.txn_core.proofs.Basics.{true_false}
 
 -- `AllPairs` one element at a time, by the test
@@ -67,9 +67,6 @@ module _ {X Y Z : Type 0} where
 pub second : {X Y : Type 0} → X → (b : Bool) → IsTrue b ↔ Y → IsTrue b ↔ (X × Y)
 second x b y = (λ t. (x, y.0 t), λ h. y.1 h.1)
 
-pub no_first : {X Y : Type 0} → (X → ⊥) → IsTrue false ↔ (X × Y)
-no_first no' = (λ t. absurd (cc), λ h. absurd (no' h.0))
-
 pub no_first_of_three : {X Y Z : Type 0} → (X → ⊥) → IsTrue false ↔ (X × Y × Z)
 no_first_of_three no' = (λ t. absurd (cc), λ h. absurd (no' h.0))
 
@@ -104,31 +101,31 @@ module _ {K V A F C D Q B : Type 0} (S : Service K V A F C D Q B) (es : List (En
   ground_cancel n reasons xs is false e b h = subst (λ l. IsTrue b ↔ HasCause S es n l reasons) is h
   ground_cancel n reasons xs is true e b h = absurd (cc)
 
-  module _ (decided : Deed) (ended : ItemDeed) (n : ℕ) (w : Bool) (told : w ≡ list_any (λ e. tells decided n e.message e.answer) es) where
-    pub over_then : (xs : List A) → xs ≡ begun_actions (effects es) n → w ≡ true → (b : Bool) → IsTrue b ↔ All (λ x. Had (tells_on S ended n (S.core.key_of x)) es) xs → IsTrue b ↔ is_finishable S decided ended n es
+  module _ (decided : Fact) (ended : ItemFact) (n : ℕ) (w : Bool) (told : w ≡ list_any (λ e. tells decided n e.message e.answer) es) where
+    pub over_then : (xs : List A) → xs ≡ begun_actions (effects es) n → w ≡ true → (b : Bool) → IsTrue b ↔ All (λ x. Had (tells_on S ended n (S.core.key_of x)) es) xs → IsTrue b ↔ IsFinishable S decided ended n es
     over_then xs is yes' b h = second (sym told ∙ yes') b (subst (λ l. IsTrue b ↔ All (λ x. Had (tells_on S ended n (S.core.key_of x)) es) l) is h)
 
-    pub over_else : w ≡ false → IsTrue w ↔ is_finishable S decided ended n es
+    pub over_else : w ≡ false → IsTrue w ↔ IsFinishable S decided ended n es
     over_else no' = (λ t. absurd (true_false w t no'), λ h. absurd (fails w _ told no' h.0))
 
   pub on_begun : (n : ℕ) (k : K) (a : A) (xs : List A) → xs ≡ begun_actions (effects es) n → (b : Bool) → IsTrue b ↔ (on_item S.core xs k ≡ Some a) → IsTrue b ↔ (on_item S.core (begun_actions (effects es) n) k ≡ Some a)
   on_begun n k a xs is b h = subst (λ l. IsTrue b ↔ (on_item S.core l k ≡ Some a)) is h
 
-  command_everywhere : (m : Message K V A F D Q) → IsTrue (is_command m) ↔ AreAlike None (sent_to S m)
+  command_everywhere : (m : Message K V A F D Q) → IsTrue (is_command m) ↔ HaveOneReach None (sent_to S m)
   command_everywhere (Message.Command d) = (λ _. tt, λ _. refl)
   command_everywhere _ = (λ t. absurd (cc), λ h. absurd h)
 
-  other_somewhere : (i : ℕ) (m : Message K V A F D Q) → IsTrue (not (is_command m)) ↔ AreAlike (Some i) (sent_to S m)
+  other_somewhere : (i : ℕ) (m : Message K V A F D Q) → IsTrue (not (is_command m)) ↔ HaveOneReach (Some i) (sent_to S m)
   other_somewhere i (Message.Command d) = (λ t. absurd (cc), λ h. absurd h)
   other_somewhere i _ = (λ _. tt, λ _. refl)
 
-  pub alike_none : (cell : Option ℕ) → cell ≡ None → (m : Message K V A F D Q) (b : Bool) → b ≡ is_command m → IsTrue b ↔ AreAlike cell (sent_to S m)
+  pub alike_none : (cell : Option ℕ) → cell ≡ None → (m : Message K V A F D Q) (b : Bool) → b ≡ is_command m → IsTrue b ↔ HaveOneReach cell (sent_to S m)
   alike_none cell none m b is =
-      subst (λ x. IsTrue x ↔ AreAlike cell (sent_to S m)) (sym is) (subst (λ x. IsTrue (is_command m) ↔ AreAlike x (sent_to S m)) (sym none) (command_everywhere m))
+      subst (λ x. IsTrue x ↔ HaveOneReach cell (sent_to S m)) (sym is) (subst (λ x. IsTrue (is_command m) ↔ HaveOneReach x (sent_to S m)) (sym none) (command_everywhere m))
 
-  pub alike_some : (cell : Option ℕ) (i : ℕ) → cell ≡ Some i → (m : Message K V A F D Q) (b : Bool) → b ≡ is_command m → IsTrue (not b) ↔ AreAlike cell (sent_to S m)
+  pub alike_some : (cell : Option ℕ) (i : ℕ) → cell ≡ Some i → (m : Message K V A F D Q) (b : Bool) → b ≡ is_command m → IsTrue (not b) ↔ HaveOneReach cell (sent_to S m)
   alike_some cell i some m b is =
-      subst (λ x. IsTrue (not x) ↔ AreAlike cell (sent_to S m)) (sym is) (subst (λ x. IsTrue (not (is_command m)) ↔ AreAlike x (sent_to S m)) (sym some) (other_somewhere i m))
+      subst (λ x. IsTrue (not x) ↔ HaveOneReach cell (sent_to S m)) (sym is) (subst (λ x. IsTrue (not (is_command m)) ↔ HaveOneReach x (sent_to S m)) (sym some) (other_somewhere i m))
 
   pub begun_other : (pass : ℕ) (m : Message K V A F D Q) → ((token : Option (List ℕ)) (actions : List A) → m ≡ Message.Begin token actions → ⊥) → ((n : ℕ) (stamp : Stamp) (action : A) → m ≡ Message.Prepare n stamp action → ⊥) → ((n : ℕ) (commit : Bool) (reasons : List (Reason V F)) → m ≡ Message.Decide n commit reasons → ⊥) → IsTrue true ↔ NamesBegun S es pass m
   begun_other pass (Message.Begin token actions) a b c = absurd (a token actions refl)

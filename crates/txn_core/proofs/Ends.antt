@@ -7,7 +7,7 @@ use Rattle.txn_core.specs.declared.fate.Fate.TheVariants.{Undecided, Committed, 
 use Rattle.txn_core.specs.Stamps.{earlier, IsBy}
 use Rattle.txn_core.specs.declared.outcome.Outcome.TheVariants.{New}
 use Rattle.txn_core.specs.Protocol.{after, Protocol, IsLawful}
-use Rattle.txn_core.specs.World.{Pending, Spot, Cell, Ledger, holder, last, on_item, action_on, after_action, touches, at, kept_or, ledger_begun, ledger_decided, ledger_finished, ledger_forgot, spot_commits, spot_changed}
+use Rattle.txn_core.specs.State.{Pending, Spot, Tally, Ledger, holder, last, on_item, action_on, after_action, touches, at, kept_or, ledger_begun, ledger_decided, ledger_finished, ledger_forgot, spot_commits, spot_changed}
 use Rattle.txn_core.proofs.Basics.{none_some, some_is, true_false, at_split, holder_is, none_of}
 use Rattle.txn_core.proofs.Invariant.{GoodSpot}
 
@@ -19,7 +19,7 @@ find_passes test (y ∷ ys) x e =
     (λ is h. subst (λ z. test z ≡ true) (some_is y x h) is)
     (λ is h. find_passes test ys x h) e
 
-module _ {K V A F C D : Type 0} (P : Protocol K V A F C D) (l : Ledger A) (cat : C) (c : Cell) (q : K) (s : Spot V) where
+module _ {K V A F C D : Type 0} (P : Protocol K V A F C D) (l : Ledger A) (cat : C) (c : Tally) (q : K) (s : Spot V) where
   -- a transaction is begun: whatever the facts name was begun before it
   pub kept_begun : (stamp : Stamp) (actions : List A) → ((n : ℕ) → l.next ≤ n → l.fate n ≡ Undecided) → GoodSpot P l cat c q s → GoodSpot P (ledger_begun l stamp actions) cat c q s
   kept_begun stamp actions fresh g =

@@ -4,6 +4,8 @@
 -- come after those before it
 pub use Rattle.txn_core.proofs.LegalRuns.{Facts, legal_facts, legal_run}
 pub use Rattle.txn_core.proofs.Prefix.{legal_before, follows_at}
+-- legal by its rules one by one
+pub use Rattle.txn_core.proofs.Breaking.{keeps_are_legal}
 -- what holds of the state after every run
 pub use Rattle.txn_core.proofs.Invariant.{GoodSpot, Good}
 pub use Rattle.txn_core.proofs.Kept.{good}

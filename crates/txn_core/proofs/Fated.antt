@@ -10,7 +10,7 @@ use Rattle.txn_core.specs.declared.answer.Answer.{Answer}
 use Rattle.txn_core.specs.declared.entry.Entry.{Entry}
 use Rattle.txn_core.specs.Service.{Service, IsServiceLawful}
 use Rattle.txn_core.specs.Effects.{Effect, Wrote, Prepared, Applied, Released, Finished, Forgot, Changed}
-use Rattle.txn_core.specs.World.{World, step, world}
+use Rattle.txn_core.specs.State.{State, step, state_after}
 use Rattle.txn_core.specs.Serial.{begun_stamp, begun_actions, serial, standings, is_committed}
 use Rattle.txn_core.specs.Answers.{has_record, recall_answer}
 use Rattle.txn_core.specs.History.{is_begun, is_forgotten, where_so, begin_effect, decide_effect, effect_of, effect, effects, Had, begins, commits, cancels, forgets, is_own_begin, is_first, reasons_in, reasons_of, found_kept}
@@ -43,23 +43,23 @@ module _ {K V A F C D Q B : Type 0} (S : Service K V A F C D Q B) (law : IsServi
       stands_where es legal n false (sym (fate_read S.core (effects es) facts.0 n) ∙ ap is_commit (facts.1.cancelled n had))
 
   -- what draws a number draws the next one
-  draws_next : (es : List (Entry K V A F D Q B)) (moment : ℕ) (m : Message K V A F D Q) (a : Answer K V A F B) → IsAnswer S es moment m a → (n : ℕ) → begins n m a ≡ true → n ≡ (world S.core (effects es)).ledger.next
+  draws_next : (es : List (Entry K V A F D Q B)) (moment : ℕ) (m : Message K V A F D Q) (a : Answer K V A F B) → IsAnswer S es moment m a → (n : ℕ) → begins n m a ≡ true → n ≡ (state_after S.core (effects es)).ledger.next
   draws_next es moment (Message.Begin token actions) a is n h = by_answer a is h
     where
-      by_answer : (a : Answer K V A F B) → IsAnswer S es moment (Message.Begin token actions) a → is_begun n a ≡ true → n ≡ (world S.core (effects es)).ledger.next
+      by_answer : (a : Answer K V A F B) → IsAnswer S es moment (Message.Begin token actions) a → is_begun n a ≡ true → n ≡ (state_after S.core (effects es)).ledger.next
       by_answer (Answer.Begun m stamp) is h =
-          let w = world S.core (effects es) in
+          let w = state_after S.core (effects es) in
           sym (eqb-true m n h)
           ∙ (begun_next {K = K} {V = V} {F = F} {B = B} S.same_actions (list_all (λ x. S.core.there w.catalog (S.core.key_of x)) actions) (found_kept es moment token) actions w.ledger.next m moment stamp is).0
       by_answer _ is h = absurd (cc)
   draws_next es moment _ a is n h = absurd (cc)
 
-  next_positive : (es : List (Entry K V A F D Q B)) → IsLegal S es → 1 ≤ (world S.core (effects es)).ledger.next
+  next_positive : (es : List (Entry K V A F D Q B)) → IsLegal S es → 1 ≤ (state_after S.core (effects es)).ledger.next
   next_positive [] legal = omega arith
   next_positive (e ∷ es) legal =
       let run = legal_run S law (e ∷ es) legal in
       let before = next_positive es legal.0 in
-      let more = (grows S.core (world S.core (effects es)) (effect e) run.1).next in
+      let more = (grows S.core (state_after S.core (effects es)) (effect e) run.1).next in
       omega arith
 
   pub begun_positive : (es : List (Entry K V A F D Q B)) → IsLegal S es → (n : ℕ) → Had (begins n) es → 1 ≤ n
@@ -98,7 +98,7 @@ module _ {K V A F C D Q B : Type 0} (S : Service K V A F C D Q B) (law : IsServi
       by_turn (inr a) (inl b) older = absurd (begun_once e es legal n (parts q b).1 (own_is_begun es p n a))
       by_turn (inr a) (inr b) older = older a b
 
-  module _ (w : World K V A C) (n : ℕ) where
+  module _ (w : State K V A C) (n : ℕ) where
     gone_where : (b : Bool) (e : Effect K A D) → (step S.core w e).ledger.gone n ≡ w.ledger.gone n → (step S.core w (where_so b e)).ledger.gone n ≡ w.ledger.gone n
     gone_where true e h = h
     gone_where false e h = refl
@@ -130,11 +130,11 @@ module _ {K V A F C D Q B : Type 0} (S : Service K V A F C D Q B) (law : IsServi
     gone_by moment _ a h = inl h
 
   -- who has a record forgotten is the pass that drew its number
-  forgotten_by : (es : List (Entry K V A F D Q B)) → IsLegal S es → (n : ℕ) → (world S.core (effects es)).ledger.gone n ≡ true → (q : ℕ) × (list_any (λ e. nat_eq e.pass q && forgets n e.message e.answer) es ≡ true) × (list_any (is_own_begin q n) es ≡ true)
+  forgotten_by : (es : List (Entry K V A F D Q B)) → IsLegal S es → (n : ℕ) → (state_after S.core (effects es)).ledger.gone n ≡ true → (q : ℕ) × (list_any (λ e. nat_eq e.pass q && forgets n e.message e.answer) es ≡ true) × (list_any (is_own_begin q n) es ≡ true)
   forgotten_by [] legal n gone = absurd (cc)
-  forgotten_by (e ∷ es) legal n gone = by_turn (gone_by (world S.core (effects es)) n e.moment e.message e.answer gone) (λ h. forgotten_by es legal.0 n h)
+  forgotten_by (e ∷ es) legal n gone = by_turn (gone_by (state_after S.core (effects es)) n e.moment e.message e.answer gone) (λ h. forgotten_by es legal.0 n h)
     where
-      by_turn : ((world S.core (effects es)).ledger.gone n ≡ true) ⊎ ((e.message ≡ Message.Forget n) × (is_forgotten e.answer ≡ true)) → ((world S.core (effects es)).ledger.gone n ≡ true → (q : ℕ) × (list_any (λ x. nat_eq x.pass q && forgets n x.message x.answer) es ≡ true) × (list_any (is_own_begin q n) es ≡ true)) → (q : ℕ) × (list_any (λ x. nat_eq x.pass q && forgets n x.message x.answer) (e ∷ es) ≡ true) × (list_any (is_own_begin q n) (e ∷ es) ≡ true)
+      by_turn : ((state_after S.core (effects es)).ledger.gone n ≡ true) ⊎ ((e.message ≡ Message.Forget n) × (is_forgotten e.answer ≡ true)) → ((state_after S.core (effects es)).ledger.gone n ≡ true → (q : ℕ) × (list_any (λ x. nat_eq x.pass q && forgets n x.message x.answer) es ≡ true) × (list_any (is_own_begin q n) es ≡ true)) → (q : ℕ) × (list_any (λ x. nat_eq x.pass q && forgets n x.message x.answer) (e ∷ es) ≡ true) × (list_any (is_own_begin q n) (e ∷ es) ≡ true)
       by_turn (inl old) before =
           let h = before old in
           (h.0, or_right _ (list_any (λ x. nat_eq x.pass h.0 && forgets n x.message x.answer) es) h.1, or_right (is_own_begin h.0 n e) (list_any (is_own_begin h.0 n) es) h.2)
@@ -146,13 +146,13 @@ module _ {K V A F C D Q B : Type 0} (S : Service K V A F C D Q B) (law : IsServi
             or_right (is_own_begin e.pass n e) (list_any (is_own_begin e.pass n) es) allowed.1,
           )
 
-  pub own_number_is_kept : (es : List (Entry K V A F D Q B)) → IsLegal S es → (pass n : ℕ) → list_any (is_own_begin pass n) es ≡ true → list_any (λ e. nat_eq e.pass pass && forgets n e.message e.answer) es ≡ false → has_record (world S.core (effects es)).ledger n ≡ true
+  pub own_number_is_kept : (es : List (Entry K V A F D Q B)) → IsLegal S es → (pass n : ℕ) → list_any (is_own_begin pass n) es ≡ true → list_any (λ e. nat_eq e.pass pass && forgets n e.message e.answer) es ≡ false → has_record (state_after S.core (effects es)).ledger n ≡ true
   own_number_is_kept es legal pass n own kept =
       let begun = own_is_begun es pass n own in
       let drawn = (legal_facts S law es legal).1.begun n begun in
-      λ j. le-leb 1 n (begun_positive es legal n begun) j && (lt-ltb n (world S.core (effects es)).ledger.next drawn j && not (there ((world S.core (effects es)).ledger.gone n) refl j))
+      λ j. le-leb 1 n (begun_positive es legal n begun) j && (lt-ltb n (state_after S.core (effects es)).ledger.next drawn j && not (there ((state_after S.core (effects es)).ledger.gone n) refl j))
     where
-      there : (b : Bool) → (world S.core (effects es)).ledger.gone n ≡ b → (world S.core (effects es)).ledger.gone n ≡ false
+      there : (b : Bool) → (state_after S.core (effects es)).ledger.gone n ≡ b → (state_after S.core (effects es)).ledger.gone n ≡ false
       there false is = is
       there true is =
           let by = forgotten_by es legal n is in
@@ -169,7 +169,7 @@ module _ {K V A F C D Q B : Type 0} (S : Service K V A F C D Q B) (law : IsServi
 
   pub reasons_recalled : (es : List (Entry K V A F D Q B)) (moment n : ℕ) (fate : Fate) (actions : List A) (stamp : Stamp) (reasons : List (Reason V F)) → IsAnswer S es moment (Message.Recall n) (Answer.Known fate stamp actions reasons) → reasons_of es n ≡ reasons
   reasons_recalled es moment n fate actions stamp reasons is =
-      let l = (world S.core (effects es)).ledger in
+      let l = (state_after S.core (effects es)).ledger in
       reasons_told (has_record l n) fate (l.fate n) stamp (l.stamp n) actions (l.actions n) reasons (reasons_of es n) is
 
   -- one more entry, after the decision

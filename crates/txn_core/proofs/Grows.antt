@@ -6,11 +6,11 @@ use Rattle.txn_core.specs.declared.fate.Fate.TheVariants.{Undecided, Committed, 
 use Rattle.txn_core.specs.Protocol.{after, Protocol}
 use Rattle.txn_core.specs.Stamps.{single}
 use Rattle.txn_core.specs.Effects.{Effect, Wrote, Begun, Prepared, Commits, Cancels, Applied, Released, Finished, Forgot, Changed, Quiet}
-use Rattle.txn_core.specs.World.{Spot, Cell, World, at, on_key, here, step, spot_wrote, spot_prepared, spot_applied, spot_released, cell_after, image_or, stamp_or}
+use Rattle.txn_core.specs.State.{Spot, Tally, State, at, on_key, here, step, spot_wrote, spot_prepared, spot_applied, spot_released, tally_after, image_or, stamp_or}
 use Rattle.txn_core.specs.Runs.{May}
 use Rattle.txn_core.proofs.Basics.{at_split}
 
-pub record Grows {K V A C : Type 0} (w u : World K V A C) : Type 0 where
+pub record Grows {K V A C : Type 0} (w u : State K V A C) : Type 0 where
   pub next : w.ledger.next ≤ u.ledger.next
   pub stamp : (n : ℕ) → n < w.ledger.next → u.ledger.stamp n ≡ w.ledger.stamp n
   pub actions : (n : ℕ) → n < w.ledger.next → u.ledger.actions n ≡ w.ledger.actions n
@@ -25,8 +25,8 @@ pub record Grows {K V A C : Type 0} (w u : World K V A C) : Type 0 where
 at_true : (f : ℕ → Bool) (n m : ℕ) → f m ≡ true → at f n true m ≡ true
 at_true f n m h = at_split f n true m (λ b. b ≡ true) (λ e. refl) (λ e. h)
 
-module _ {K V A F C D : Type 0} (P : Protocol K V A F C D) (w : World K V A C) where
-  grows_on_key : (k : K) (f : Spot V → Spot V) (c : Cell) → ((s : Spot V) (n : ℕ) → s.accepted n ≡ true → (f s).accepted n ≡ true) → ((s : Spot V) (n : ℕ) → s.applied n ≡ true → (f s).applied n ≡ true) → Grows w (on_key P w k f c)
+module _ {K V A F C D : Type 0} (P : Protocol K V A F C D) (w : State K V A C) where
+  grows_on_key : (k : K) (f : Spot V → Spot V) (c : Tally) → ((s : Spot V) (n : ℕ) → s.accepted n ≡ true → (f s).accepted n ≡ true) → ((s : Spot V) (n : ℕ) → s.applied n ≡ true → (f s).applied n ≡ true) → Grows w (on_key P w k f c)
   grows_on_key k f c acc app =
       record {
         next = omega arith;
@@ -40,7 +40,7 @@ module _ {K V A F C D : Type 0} (P : Protocol K V A F C D) (w : World K V A C) w
         applied = λ q n h. cond_both (P.same k q) (f (w.spot q)) (w.spot q) (λ s. s.applied n ≡ true) (λ e. app (w.spot q) n h) (λ e. h);
       }
 
-  grows_decided : (n : ℕ) (fate : Fate) (u : World K V A C) → w.ledger.fate n ≡ Undecided → u.ledger.next ≡ w.ledger.next → u.ledger.stamp ≡ w.ledger.stamp → u.ledger.actions ≡ w.ledger.actions → u.ledger.done ≡ w.ledger.done → u.ledger.gone ≡ w.ledger.gone → u.ledger.fate ≡ at w.ledger.fate n fate → ((q : K) → (u.spot q).accepted ≡ (w.spot q).accepted) → ((q : K) → (u.spot q).applied ≡ (w.spot q).applied) → Grows w u
+  grows_decided : (n : ℕ) (fate : Fate) (u : State K V A C) → w.ledger.fate n ≡ Undecided → u.ledger.next ≡ w.ledger.next → u.ledger.stamp ≡ w.ledger.stamp → u.ledger.actions ≡ w.ledger.actions → u.ledger.done ≡ w.ledger.done → u.ledger.gone ≡ w.ledger.gone → u.ledger.fate ≡ at w.ledger.fate n fate → ((q : K) → (u.spot q).accepted ≡ (w.spot q).accepted) → ((q : K) → (u.spot q).applied ≡ (w.spot q).applied) → Grows w u
   grows_decided n fate u first next stamp actions done gone is acc app =
       record {
         next = omega arith;
@@ -56,12 +56,12 @@ module _ {K V A F C D : Type 0} (P : Protocol K V A F C D) (w : World K V A C) w
 
   pub grows : (e : Effect K A D) → May P w e → Grows w (step P w e)
   grows (Wrote a moment) may =
-      grows_on_key (P.key_of a) (spot_wrote P w.catalog (here P w (P.key_of a)) a moment) (cell_after (here P w (P.key_of a)) (w.spot (P.key_of a)) (after (P.act w.catalog a (w.spot (P.key_of a)).row) (w.spot (P.key_of a)).row) (single moment)) (λ s n h. h) (λ s n h. h)
+      grows_on_key (P.key_of a) (spot_wrote P w.catalog (here P w (P.key_of a)) a moment) (tally_after (here P w (P.key_of a)) (w.spot (P.key_of a)) (after (P.act w.catalog a (w.spot (P.key_of a)).row) (w.spot (P.key_of a)).row) (single moment)) (λ s n h. h) (λ s n h. h)
   grows (Prepared n stamp a) may =
       grows_on_key (P.key_of a) (spot_prepared P w.catalog n stamp a) (here P w (P.key_of a)) (λ s m h. at_true s.accepted n m h) (λ s m h. h)
   grows (Applied n k) may =
       grows_on_key k (spot_applied (here P w k) n)
-      (cell_after (here P w k) (w.spot k) (image_or (w.spot k).row (w.spot k).pend) (stamp_or (w.spot k).stamp (w.spot k).pend))
+      (tally_after (here P w k) (w.spot k) (image_or (w.spot k).row (w.spot k).pend) (stamp_or (w.spot k).stamp (w.spot k).pend))
       (λ s m h. h) (λ s m h. at_true s.applied n m h)
   grows (Released n k) may = grows_on_key k (λ s. spot_released s) (here P w k) (λ s m h. h) (λ s m h. h)
   grows (Begun stamp actions) may =

@@ -4,9 +4,9 @@ use Rattle.txn_core.specs.declared.fate.Fate.TheVariants.{Undecided, Committed}
 use Rattle.txn_core.specs.Stamps.{earlier, IsBy}
 use Rattle.txn_core.specs.declared.outcome.Outcome.TheVariants.{New}
 use Rattle.txn_core.specs.Protocol.{Protocol}
-use Rattle.txn_core.specs.World.{Pending, Spot, Cell, Ledger, World, holder, last, action_on, touches}
+use Rattle.txn_core.specs.State.{Pending, Spot, Tally, Ledger, State, holder, last, action_on, touches}
 
-pub record GoodSpot {K V A F C D : Type 0} (P : Protocol K V A F C D) (l : Ledger A) (cat : C) (c : Cell) (q : K) (s : Spot V) : Type 0 where
+pub record GoodSpot {K V A F C D : Type 0} (P : Protocol K V A F C D) (l : Ledger A) (cat : C) (c : Tally) (q : K) (s : Spot V) : Type 0 where
   -- a pending is of a begun transaction that has an action on the item, carries its stamp, and holds that action's outcome
   pub drawn : (p : Pending V) → s.pend ≡ Some p → p.number < l.next
   pub stamped : (p : Pending V) → s.pend ≡ Some p → p.stamp ≡ l.stamp p.number
@@ -31,7 +31,7 @@ pub record GoodSpot {K V A F C D : Type 0} (P : Protocol K V A F C D) (l : Ledge
   pub unborn : P.drawn cat < P.table q → (s.pend ≡ None) × ((n : ℕ) → s.applied n ≡ false)
   pub absent : P.there cat q ≡ false → s.row ≡ None
 
-pub record Good {K V A F C D : Type 0} (P : Protocol K V A F C D) (w : World K V A C) : Type 0 where
+pub record Good {K V A F C D : Type 0} (P : Protocol K V A F C D) (w : State K V A C) : Type 0 where
   pub spots : (q : K) → GoodSpot P w.ledger w.catalog (w.cell (P.cell_of q)) q (w.spot q)
   pub alike : (x y : K) → P.same x y ≡ true → w.spot x ≡ w.spot y
   pub decided : (n : ℕ) → w.ledger.done n ≡ true → w.ledger.fate n ≢ Undecided

@@ -7,7 +7,7 @@ use Rattle.txn_core.specs.declared.fate.Fate.TheVariants.{Undecided, Committed, 
 use Rattle.txn_core.specs.Stamps.{earlier, IsBy, single}
 use Rattle.txn_core.specs.Protocol.{after, IsNew, Protocol, IsLawful}
 use Rattle.txn_core.specs.Effects.{Effect, Wrote, Begun, Prepared, Commits, Cancels, Applied, Released, Finished, Forgot, Changed, Quiet}
-use Rattle.txn_core.specs.World.{Pending, Spot, Cell, Ledger, World, holder, last, action_on, touches, at, hold, image_or, stamp_or, cell_after, spot_wrote, spot_prepared, spot_applied, spot_released, spot_commits, spot_changed, here, on_key, step, start, world}
+use Rattle.txn_core.specs.State.{Pending, Spot, Tally, Ledger, State, holder, last, action_on, touches, at, hold, image_or, stamp_or, tally_after, spot_wrote, spot_prepared, spot_applied, spot_released, spot_commits, spot_changed, here, on_key, step, start, state_after}
 use Rattle.txn_core.specs.Runs.{May, IsRun, MayWrite, MayPrepare, MayCommit, MayFinish, MayChange, IsReady}
 use Rattle.txn_core.proofs.Basics.{none_some, true_false, at_split, held}
 use Rattle.txn_core.proofs.Invariant.{GoodSpot, Good}
@@ -23,9 +23,9 @@ module _ {K V A F C D : Type 0} (P : Protocol K V A F C D) (law : IsLawful P) wh
   pub action_alike : (l : Ledger A) (n : ℕ) (x y : K) → P.same x y ≡ true → action_on P l n x ≡ action_on P l n y
   action_alike l n x y e = find_alike (λ a. P.same (P.key_of a) x) (λ a. P.same (P.key_of a) y) (λ a. law.moved x y (P.key_of a) e) (l.actions n)
 
-  module _ (w : World K V A C) (good : Good P w) where
+  module _ (w : State K V A C) (good : Good P w) where
     -- one item changes: its own facts are shown where it changed, and the floor of its cell doesn't fall
-    kept_on_key : (k : K) (f : Spot V → Spot V) (c : Cell) → ((q : K) → P.same k q ≡ true → GoodSpot P w.ledger w.catalog (here P w k) q (w.spot q) → GoodSpot P w.ledger w.catalog c q (f (w.spot q))) → ((t : Stamp) → IsBy t (here P w k).floor → IsBy t c.floor) → Good P (on_key P w k f c)
+    kept_on_key : (k : K) (f : Spot V → Spot V) (c : Tally) → ((q : K) → P.same k q ≡ true → GoodSpot P w.ledger w.catalog (here P w k) q (w.spot q) → GoodSpot P w.ledger w.catalog c q (f (w.spot q))) → ((t : Stamp) → IsBy t (here P w k).floor → IsBy t c.floor) → Good P (on_key P w k f c)
     kept_on_key k f c touched up =
         record {
           spots = λ q. cond_both (P.same k q) (f (w.spot q)) (w.spot q) (λ s. GoodSpot P w.ledger w.catalog (at w.cell (P.cell_of k) c (P.cell_of q)) q s) (there q) (beside q);
@@ -55,9 +55,9 @@ module _ {K V A F C D : Type 0} (P : Protocol K V A F C D) (law : IsLawful P) wh
     wrote a moment may =
         let k = P.key_of a in
         kept_on_key k (spot_wrote P w.catalog (here P w k) a moment)
-        (cell_after (here P w k) (w.spot k) (after (P.act w.catalog a (w.spot k).row) (w.spot k).row) (single moment))
+        (tally_after (here P w k) (w.spot k) (after (P.act w.catalog a (w.spot k).row) (w.spot k).row) (single moment))
         (λ q e g.
-        subst (λ (s : Spot V). GoodSpot P w.ledger w.catalog (cell_after (here P w k) s (after (P.act w.catalog a s.row) s.row) (single moment)) q (spot_wrote P w.catalog (here P w k) a moment (w.spot q))) (sym (good.alike k q e))
+        subst (λ (s : Spot V). GoodSpot P w.ledger w.catalog (tally_after (here P w k) s (after (P.act w.catalog a s.row) s.row) (single moment)) q (spot_wrote P w.catalog (here P w k) a moment (w.spot q))) (sym (good.alike k q e))
         (kept_wrote P law w.ledger w.catalog (here P w k) q (w.spot q) a moment (there_too k q e may.there) (subst (λ (s : Spot V). s.pend ≡ None) (good.alike k q e) may.unheld) g))
         (λ t h. floor_rises (here P w k) (w.spot k) (after (P.act w.catalog a (w.spot k).row) (w.spot k).row) (single moment) t h)
 
@@ -86,10 +86,10 @@ module _ {K V A F C D : Type 0} (P : Protocol K V A F C D) (law : IsLawful P) wh
     applied : (n : ℕ) (k : K) → holder (w.spot k).pend ≡ Some n → w.ledger.fate n ≡ Committed → Good P (step P w (Applied n k))
     applied n k holds committed =
         kept_on_key k (spot_applied (here P w k) n)
-        (cell_after (here P w k) (w.spot k) (image_or (w.spot k).row (w.spot k).pend) (stamp_or (w.spot k).stamp (w.spot k).pend))
+        (tally_after (here P w k) (w.spot k) (image_or (w.spot k).row (w.spot k).pend) (stamp_or (w.spot k).stamp (w.spot k).pend))
         (λ q e g.
         let h = held (w.spot q).pend n (subst (λ (s : Spot V). holder s.pend ≡ Some n) (good.alike k q e) holds) in
-        subst (λ (s : Spot V). GoodSpot P w.ledger w.catalog (cell_after (here P w k) s (image_or s.row s.pend) (stamp_or s.stamp s.pend)) q (spot_applied (here P w k) n (w.spot q))) (sym (good.alike k q e))
+        subst (λ (s : Spot V). GoodSpot P w.ledger w.catalog (tally_after (here P w k) s (image_or s.row s.pend) (stamp_or s.stamp s.pend)) q (spot_applied (here P w k) n (w.spot q))) (sym (good.alike k q e))
         (kept_applied P law w.ledger w.catalog (here P w k) q (w.spot q) n h.0 h.1 h.2 committed g))
         (λ t h. floor_rises (here P w k) (w.spot k) (image_or (w.spot k).row (w.spot k).pend) (stamp_or (w.spot k).stamp (w.spot k).pend) t h)
 
@@ -230,6 +230,6 @@ module _ {K V A F C D : Type 0} (P : Protocol K V A F C D) (law : IsLawful P) wh
       gone p e = none_some None p refl e
 
   -- after every run
-  pub good : (es : List (Effect K A D)) → IsRun P es → Good P (world P es)
+  pub good : (es : List (Effect K A D)) → IsRun P es → Good P (state_after P es)
   good [] run = started
-  good (e ∷ es) run = kept (world P es) (good es run.0) e run.1
+  good (e ∷ es) run = kept (state_after P es) (good es run.0) e run.1

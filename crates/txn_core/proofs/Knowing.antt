@@ -15,7 +15,7 @@ use Rattle.txn_core.specs.declared.entry.Entry.{Entry}
 use Rattle.txn_core.specs.declared.course.Move.{Move}
 use Rattle.txn_core.specs.Course.{Told, is_accepted, is_undecided, is_known, next_move, with_verdict, with_fate, with_done}
 use Rattle.txn_core.specs.Service.{Service, IsServiceLawful}
-use Rattle.txn_core.specs.World.{world}
+use Rattle.txn_core.specs.State.{state_after}
 use Rattle.txn_core.specs.Serial.{begun_stamp, begun_actions}
 use Rattle.txn_core.specs.Answers.{has_record, fate_answer, recall_answer}
 use Rattle.txn_core.specs.History.{reason_of, effects, Had, begins, commits, cancels, finds_no_table, found_kept, reasons_of}
@@ -136,7 +136,7 @@ module _ {K V A F C D Q B : Type 0} (S : Service K V A F C D Q B) (law : IsServi
   pub found : (es : List (Entry K V A F D Q B)) (pass moment n : ℕ) (cell : Option ℕ) (told : Told) (fate : Fate) → let now = entry pass cell (Message.FateOf n) (Answer.Is fate) moment ∷ es in IsLegal S now → Knows S es n told → Knows S now n (with_fate told fate)
   found es pass moment n cell told fate legal k =
       let e = entry pass cell (Message.FateOf n) (Answer.Is fate) moment in
-      let l = (world S.core (effects es)).ledger in
+      let l = (state_after S.core (effects es)).ledger in
       fated (e ∷ es) n told (knows_more e es legal n told k) fate
       (λ f. elim (fate_told (has_record l n) fate (l.fate n) legal.1.answer) [
         | inl same ↦ had_more (commits n) e es (was_committed S es n (sym same ∙ f))
@@ -354,7 +354,7 @@ module _ {K V A F C D Q B : Type 0} (S : Service K V A F C D Q B) (law : IsServi
 
       its : nat_eq stamp.number n ≡ true
       its =
-          let w = world S.core (effects es) in
+          let w = state_after S.core (effects es) in
           let drawn = begun_next {K = K} {V = V} {F = F} {B = B} S.same_actions (list_all (λ x. S.core.there w.catalog (S.core.key_of x)) actions) (found_kept es moment token) actions w.ledger.next n moment stamp legal.1.answer in
           let same : stamp.number ≡ w.ledger.next = ap (λ (s : Stamp). s.number) drawn.1 in
           eq-eqb stamp.number n (same ∙ sym drawn.0)
@@ -382,14 +382,14 @@ module _ {K V A F C D Q B : Type 0} (S : Service K V A F C D Q B) (law : IsServi
       e : Entry K V A F D Q B
       e = entry pass cell (Message.Recall n) (Answer.Known fate stamp actions reasons) moment
 
-      told : (has_record (world S.core (effects es)).ledger n ≡ true) × (fate ≡ (world S.core (effects es)).ledger.fate n) × (stamp ≡ (world S.core (effects es)).ledger.stamp n) × (actions ≡ (world S.core (effects es)).ledger.actions n)
+      told : (has_record (state_after S.core (effects es)).ledger n ≡ true) × (fate ≡ (state_after S.core (effects es)).ledger.fate n) × (stamp ≡ (state_after S.core (effects es)).ledger.stamp n) × (actions ≡ (state_after S.core (effects es)).ledger.actions n)
       told =
-          let l = (world S.core (effects es)).ledger in
+          let l = (state_after S.core (effects es)).ledger in
           recall_told (has_record l n) fate (l.fate n) stamp (l.stamp n) actions (l.actions n) reasons (reasons_of es n) legal.1.answer
 
       knows : KnowsBegun S es n stamp actions
       knows =
-          let l = (world S.core (effects es)).ledger in
+          let l = (state_after S.core (effects es)).ledger in
           let run = legal_run S law es legal.0 in
           let parts = and_parts (nat_le 1 n) (nat_lt n l.next && not (l.gone n)) told.0 in
           record {

@@ -12,7 +12,7 @@ use Rattle.txn_core.specs.declared.answer.Answer.{Answer}
 use Rattle.txn_core.specs.declared.entry.Entry.{Entry}
 use Rattle.txn_core.specs.Service.{Service, IsServiceLawful}
 use Rattle.txn_core.specs.Effects.{Prepared, Applied, Finished, Forgot}
-use Rattle.txn_core.specs.World.{Spot, Ledger, World, holder, on_item, touches, here, step, world, spot_prepared, spot_applied}
+use Rattle.txn_core.specs.State.{Spot, Ledger, State, holder, on_item, touches, here, step, state_after, spot_prepared, spot_applied}
 use Rattle.txn_core.specs.Runs.{May, IsRun, MayFinish}
 use Rattle.txn_core.specs.Serial.{begun_actions}
 use Rattle.txn_core.specs.Answers.{KeptToken, is_holder, begin_answer, has_record, decide_answer}
@@ -29,16 +29,16 @@ use Rattle.txn_core.proofs.Bridge.{all_found, where_true, may_write, may_prepare
 module _ {K V A F C D Q B : Type 0} (S : Service K V A F C D Q B) (law : IsServiceLawful S) where
   -- what the words of a history say of the state
   pub record Facts (es : List (Entry K V A F D Q B)) : Type 0 where
-    pub begun : (n : ℕ) → Had (begins n) es → n < (world S.core (effects es)).ledger.next
-    pub accepted : (n : ℕ) (k : K) → Had (accepts S n k) es → ((world S.core (effects es)).spot k).accepted n ≡ true
-    pub committed : (n : ℕ) → Had (commits n) es → (world S.core (effects es)).ledger.fate n ≡ Committed
-    pub cancelled : (n : ℕ) → Had (cancels n) es → (world S.core (effects es)).ledger.fate n ≡ Cancelled
-    pub applied : (n : ℕ) (k : K) → Had (applies S n k) es → ((world S.core (effects es)).ledger.fate n ≡ Committed) × (touches S.core (world S.core (effects es)).ledger n k ≡ true → ((world S.core (effects es)).spot k).applied n ≡ true)
-    pub done : (n : ℕ) → Had (finishes n) es → (world S.core (effects es)).ledger.done n ≡ true
-    pub gone : (n : ℕ) → Had (forgets n) es → (world S.core (effects es)).ledger.gone n ≡ true
+    pub begun : (n : ℕ) → Had (begins n) es → n < (state_after S.core (effects es)).ledger.next
+    pub accepted : (n : ℕ) (k : K) → Had (accepts S n k) es → ((state_after S.core (effects es)).spot k).accepted n ≡ true
+    pub committed : (n : ℕ) → Had (commits n) es → (state_after S.core (effects es)).ledger.fate n ≡ Committed
+    pub cancelled : (n : ℕ) → Had (cancels n) es → (state_after S.core (effects es)).ledger.fate n ≡ Cancelled
+    pub applied : (n : ℕ) (k : K) → Had (applies S n k) es → ((state_after S.core (effects es)).ledger.fate n ≡ Committed) × (touches S.core (state_after S.core (effects es)).ledger n k ≡ true → ((state_after S.core (effects es)).spot k).applied n ≡ true)
+    pub done : (n : ℕ) → Had (finishes n) es → (state_after S.core (effects es)).ledger.done n ≡ true
+    pub gone : (n : ℕ) → Had (forgets n) es → (state_after S.core (effects es)).ledger.gone n ≡ true
 
   -- one step: what the newest entry says of the state after it
-  module _ (w : World K V A C) where
+  module _ (w : State K V A C) where
     -- a Begin that draws a number draws the next one
     begin_draws : (actions : List A) (moment : ℕ) (b : Bool) (o : Option (KeptToken A)) (n : ℕ) → is_begun n (begin_answer {K = K} {V = V} {F = F} {B = B} S.same_actions b o actions (record { moment = moment; number = w.ledger.next })) ≡ true → n < (step S.core w (begin_effect {D = D} actions (begin_answer {K = K} {V = V} {F = F} {B = B} S.same_actions b o actions (record { moment = moment; number = w.ledger.next })))).ledger.next
     begin_draws actions moment false o n h = absurd (cc)
@@ -91,19 +91,19 @@ module _ {K V A F C D Q B : Type 0} (S : Service K V A F C D Q B) (law : IsServi
 
   module _ (es : List (Entry K V A F D Q B)) (run : IsRun S.core (effects es)) (facts : Facts es) where
     -- a transaction's action on an item, in the words of the history
-    action_in : (n : ℕ) (q : K) → touches S.core (world S.core (effects es)).ledger n q ≡ true → (a : A) × (on_item S.core (begun_actions (effects es) n) q ≡ Some a) × (S.core.same (S.core.key_of a) q ≡ true)
+    action_in : (n : ℕ) (q : K) → touches S.core (state_after S.core (effects es)).ledger n q ≡ true → (a : A) × (on_item S.core (begun_actions (effects es) n) q ≡ Some a) × (S.core.same (S.core.key_of a) q ≡ true)
     action_in n q t =
         let s = some_of (on_item S.core (begun_actions (effects es) n) q) (ap (λ x. is_some (on_item S.core x q)) (sym (actions_read S.core (effects es) run n)) ∙ t) in
         (s.0, s.1, find_passes (λ x. S.core.same (S.core.key_of x) q) (begun_actions (effects es) n) s.0 s.1)
 
-    all_accepted : (n : ℕ) (commit : Bool) (reasons : List (Reason V F)) → HasGround S es n commit reasons → commit ≡ true → (q : K) → touches S.core (world S.core (effects es)).ledger n q ≡ true → ((world S.core (effects es)).spot q).accepted n ≡ true
+    all_accepted : (n : ℕ) (commit : Bool) (reasons : List (Reason V F)) → HasGround S es n commit reasons → commit ≡ true → (q : K) → touches S.core (state_after S.core (effects es)).ledger n q ≡ true → ((state_after S.core (effects es)).spot q).accepted n ≡ true
     all_accepted n true reasons ground yes' q t =
         let a = action_in n q t in
         let h = facts.accepted n (S.core.key_of a.0) (all_found (λ x. Had (accepts S n (S.core.key_of x)) es) (λ x. S.core.same (S.core.key_of x) q) (begun_actions (effects es) n) a.0 ground a.1) in
         subst (λ (s : Spot V). s.accepted n ≡ true) ((good S.core law.core (effects es) run).alike (S.core.key_of a.0) q a.2) h
     all_accepted n false reasons ground no' q t = absurd (cc)
 
-    may_finish : (n : ℕ) → ((Had (commits n) es × All (λ x. Had (applies S n (S.core.key_of x)) es) (begun_actions (effects es) n)) ⊎ (Had (cancels n) es × All (λ x. Had (releases S n (S.core.key_of x)) es) (begun_actions (effects es) n))) → MayFinish S.core (world S.core (effects es)) n
+    may_finish : (n : ℕ) → ((Had (commits n) es × All (λ x. Had (applies S n (S.core.key_of x)) es) (begun_actions (effects es) n)) ⊎ (Had (cancels n) es × All (λ x. Had (releases S n (S.core.key_of x)) es) (begun_actions (effects es) n))) → MayFinish S.core (state_after S.core (effects es)) n
     may_finish n (inl h) =
         let f = facts.committed n h.0 in
         record {
@@ -111,7 +111,7 @@ module _ {K V A F C D Q B : Type 0} (S : Service K V A F C D Q B) (law : IsServi
           all_applied = λ _ q t.
               let a = action_in n q t in
               let here' = (facts.applied n (S.core.key_of a.0) (all_found (λ x. Had (applies S n (S.core.key_of x)) es) (λ x. S.core.same (S.core.key_of x) q) (begun_actions (effects es) n) a.0 h.1 a.1)).1 in
-              let l = (world S.core (effects es)).ledger in
+              let l = (state_after S.core (effects es)).ledger in
               let t' : touches S.core l n (S.core.key_of a.0) ≡ true = ap (λ o. is_some o) (action_alike S.core law.core l n (S.core.key_of a.0) q a.2) ∙ t in
               subst (λ (s : Spot V). s.applied n ≡ true) ((good S.core law.core (effects es) run).alike (S.core.key_of a.0) q a.2) (here' t');
         }
@@ -119,44 +119,44 @@ module _ {K V A F C D Q B : Type 0} (S : Service K V A F C D Q B) (law : IsServi
         let f = facts.cancelled n h.0 in
         record { known = λ u. cc; all_applied = λ c q t. absurd (cc) }
 
-    release_cause : (n : ℕ) → Had (cancels n) es ⊎ Had (forgets n) es → ((world S.core (effects es)).ledger.fate n ≡ Cancelled) ⊎ ((world S.core (effects es)).ledger.gone n ≡ true)
+    release_cause : (n : ℕ) → Had (cancels n) es ⊎ Had (forgets n) es → ((state_after S.core (effects es)).ledger.fate n ≡ Cancelled) ⊎ ((state_after S.core (effects es)).ledger.gone n ≡ true)
     release_cause n (inl h) = inl (facts.cancelled n h)
     release_cause n (inr h) = inr (facts.gone n h)
 
     -- what the next entry changes may happen
-    may_follow : (pass moment : ℕ) (m : Message K V A F D Q) (a : Answer K V A F B) → IsAnswer S es moment m a → Allowed S es pass m → May S.core (world S.core (effects es)) (effect_of moment m a)
+    may_follow : (pass moment : ℕ) (m : Message K V A F D Q) (a : Answer K V A F B) → IsAnswer S es moment m a → Allowed S es pass m → May S.core (state_after S.core (effects es)) (effect_of moment m a)
     may_follow pass moment (Message.Write action) a is allowed =
-        let w = world S.core (effects es) in
+        let w = state_after S.core (effects es) in
         subst (λ x. May S.core w (effect_of {Q = Q} moment (Message.Write action) x)) (sym is)
         (may_write S law w action moment (S.core.there w.catalog (S.core.key_of action)) (holder (w.spot (S.core.key_of action)).pend) (S.core.act w.catalog action (w.spot (S.core.key_of action)).row) refl refl refl)
     may_follow pass moment (Message.Prepare n stamp action) a is allowed =
-        let w = world S.core (effects es) in
+        let w = state_after S.core (effects es) in
         subst (λ x. May S.core w (effect_of {Q = Q} moment (Message.Prepare n stamp action) x)) (sym is)
         (may_prepare S law w n stamp action (facts.begun n allowed.0) (allowed.1 ∙ sym (stamp_read S.core (effects es) run n))
         (ap (λ x. on_item S.core x (S.core.key_of action)) (actions_read S.core (effects es) run n) ∙ allowed.2)
         (S.core.there w.catalog (S.core.key_of action)) (holder (w.spot (S.core.key_of action)).pend) (S.core.act w.catalog action (w.spot (S.core.key_of action)).row) refl refl refl)
     may_follow pass moment (Message.Apply n key) a is allowed =
-        let w = world S.core (effects es) in
+        let w = state_after S.core (effects es) in
         subst (λ x. May S.core w (effect_of {Q = Q} moment (Message.Apply n key) x)) (sym is) (may_apply S law w n key (facts.committed n allowed))
     may_follow pass moment (Message.Release n key) a is allowed =
-        let w = world S.core (effects es) in
+        let w = state_after S.core (effects es) in
         subst (λ x. May S.core w (effect_of {Q = Q} moment (Message.Release n key) x)) (sym is) (may_release S law w n key (release_cause n allowed))
     may_follow pass moment (Message.Begin token actions) a is allowed =
-        let w = world S.core (effects es) in
+        let w = state_after S.core (effects es) in
         subst (λ x. May S.core w (effect_of {Q = Q} moment (Message.Begin token actions) x)) (sym is)
         (may_begin S law w actions moment (list_all (λ x. S.core.there w.catalog (S.core.key_of x)) actions) (found_kept es moment token))
     may_follow pass moment (Message.Decide n commit reasons) a is allowed =
-        let w = world S.core (effects es) in
+        let w = state_after S.core (effects es) in
         subst (λ x. May S.core w (effect_of {Q = Q} moment (Message.Decide n commit reasons) x)) (sym is)
         (may_decide S law w n (facts.begun n allowed.0) (has_record w.ledger n) (w.ledger.fate n) commit refl (all_accepted n commit reasons allowed.1))
     may_follow pass moment (Message.Done n) a is allowed =
-        let w = world S.core (effects es) in
+        let w = state_after S.core (effects es) in
         subst (λ x. May S.core w (effect_of {Q = Q} moment (Message.Done n) x)) (sym is) (may_done S law w n (has_record w.ledger n) (may_finish n allowed.1))
     may_follow pass moment (Message.Forget n) a is allowed =
-        let w = world S.core (effects es) in
+        let w = state_after S.core (effects es) in
         subst (λ x. May S.core w (effect_of {Q = Q} moment (Message.Forget n) x)) (sym is) (may_forget S law w n (has_record w.ledger n) (facts.done n allowed.0))
     may_follow pass moment (Message.Command d) a is allowed =
-        let w = world S.core (effects es) in
+        let w = state_after S.core (effects es) in
         may_command S law w (good S.core law.core (effects es) run) d moment a (S.refuses d w.catalog) refl is
     may_follow pass moment (Message.Get key) a is allowed = tt
     may_follow pass moment (Message.ReadVersion key) a is allowed = tt
@@ -172,57 +172,57 @@ module _ {K V A F C D Q B : Type 0} (S : Service K V A F C D Q B) (law : IsServi
     may_follow pass moment (Message.Ack source sequence) a is allowed = tt
 
     -- what the next entry says of the state after it
-    tells_begun : (moment : ℕ) (m : Message K V A F D Q) (a : Answer K V A F B) → IsAnswer S es moment m a → (n : ℕ) → begins n m a ≡ true → n < (step S.core (world S.core (effects es)) (effect_of moment m a)).ledger.next
+    tells_begun : (moment : ℕ) (m : Message K V A F D Q) (a : Answer K V A F B) → IsAnswer S es moment m a → (n : ℕ) → begins n m a ≡ true → n < (step S.core (state_after S.core (effects es)) (effect_of moment m a)).ledger.next
     tells_begun moment (Message.Begin token actions) a is n h =
-        let w = world S.core (effects es) in
+        let w = state_after S.core (effects es) in
         subst (λ x. is_begun n x ≡ true → n < (step S.core w (begin_effect {D = D} actions x)).ledger.next) (sym is)
         (begin_draws w actions moment (list_all (λ x. S.core.there w.catalog (S.core.key_of x)) actions) (found_kept es moment token) n) h
     tells_begun moment _ a is n h = absurd (cc)
 
-    tells_accepted : (moment : ℕ) (m : Message K V A F D Q) (a : Answer K V A F B) (n : ℕ) (k : K) → accepts S n k m a ≡ true → ((step S.core (world S.core (effects es)) (effect_of moment m a)).spot k).accepted n ≡ true
+    tells_accepted : (moment : ℕ) (m : Message K V A F D Q) (a : Answer K V A F B) (n : ℕ) (k : K) → accepts S n k m a ≡ true → ((step S.core (state_after S.core (effects es)) (effect_of moment m a)).spot k).accepted n ≡ true
     tells_accepted moment (Message.Prepare i stamp action) a n k h =
-        let w = world S.core (effects es) in
+        let w = state_after S.core (effects es) in
         let p = and_parts (nat_eq i n && S.core.same (S.core.key_of action) k) (is_accepted a) h in
         let r = and_parts (nat_eq i n) (S.core.same (S.core.key_of action) k) p.0 in
         subst (λ e. ((step S.core w e).spot k).accepted n ≡ true) (sym (where_true (is_accepted a) (Prepared i stamp action) p.1))
         (subst (λ j. ((step S.core w (Prepared i stamp action)).spot k).accepted j ≡ true) (eqb-true i n r.0) (prepare_accepts w i stamp action k r.1))
     tells_accepted moment _ a n k h = absurd (cc)
 
-    tells_committed : (moment : ℕ) (m : Message K V A F D Q) (a : Answer K V A F B) → IsAnswer S es moment m a → (n : ℕ) → commits n m a ≡ true → (step S.core (world S.core (effects es)) (effect_of moment m a)).ledger.fate n ≡ Committed
+    tells_committed : (moment : ℕ) (m : Message K V A F D Q) (a : Answer K V A F B) → IsAnswer S es moment m a → (n : ℕ) → commits n m a ≡ true → (step S.core (state_after S.core (effects es)) (effect_of moment m a)).ledger.fate n ≡ Committed
     tells_committed moment (Message.Decide i commit reasons) a is n h =
-        let w = world S.core (effects es) in
+        let w = state_after S.core (effects es) in
         let p = and_parts (nat_eq i n) (tells_commit a) h in
         subst (λ x. tells_commit x ≡ true → (step S.core w (decide_effect i x)).ledger.fate n ≡ Committed) (sym is)
         (decide_commits w n i (eqb-true i n p.0) (has_record w.ledger i) (w.ledger.fate i) commit refl) p.1
     tells_committed moment _ a is n h = absurd (cc)
 
-    tells_cancelled : (moment : ℕ) (m : Message K V A F D Q) (a : Answer K V A F B) → IsAnswer S es moment m a → (n : ℕ) → cancels n m a ≡ true → (step S.core (world S.core (effects es)) (effect_of moment m a)).ledger.fate n ≡ Cancelled
+    tells_cancelled : (moment : ℕ) (m : Message K V A F D Q) (a : Answer K V A F B) → IsAnswer S es moment m a → (n : ℕ) → cancels n m a ≡ true → (step S.core (state_after S.core (effects es)) (effect_of moment m a)).ledger.fate n ≡ Cancelled
     tells_cancelled moment (Message.Decide i commit reasons) a is n h =
-        let w = world S.core (effects es) in
+        let w = state_after S.core (effects es) in
         let p = and_parts (nat_eq i n) (tells_cancel a) h in
         subst (λ x. tells_cancel x ≡ true → (step S.core w (decide_effect i x)).ledger.fate n ≡ Cancelled) (sym is)
         (decide_cancels w n i (eqb-true i n p.0) (has_record w.ledger i) (w.ledger.fate i) commit refl) p.1
     tells_cancelled moment _ a is n h = absurd (cc)
 
-    tells_done : (moment : ℕ) (m : Message K V A F D Q) (a : Answer K V A F B) (n : ℕ) → finishes n m a ≡ true → (step S.core (world S.core (effects es)) (effect_of moment m a)).ledger.done n ≡ true
+    tells_done : (moment : ℕ) (m : Message K V A F D Q) (a : Answer K V A F B) (n : ℕ) → finishes n m a ≡ true → (step S.core (state_after S.core (effects es)) (effect_of moment m a)).ledger.done n ≡ true
     tells_done moment (Message.Done i) a n h =
-        let w = world S.core (effects es) in
+        let w = state_after S.core (effects es) in
         let p = and_parts (nat_eq i n) (is_finished a) h in
         subst (λ e. (step S.core w e).ledger.done n ≡ true) (sym (where_true (is_finished a) (Finished i) p.1))
         (at_split w.ledger.done i true n (λ b. b ≡ true) (λ _. refl) (λ ne. absurd (ne (eqb-true i n p.0))))
     tells_done moment _ a n h = absurd (cc)
 
-    tells_gone : (moment : ℕ) (m : Message K V A F D Q) (a : Answer K V A F B) (n : ℕ) → forgets n m a ≡ true → (step S.core (world S.core (effects es)) (effect_of moment m a)).ledger.gone n ≡ true
+    tells_gone : (moment : ℕ) (m : Message K V A F D Q) (a : Answer K V A F B) (n : ℕ) → forgets n m a ≡ true → (step S.core (state_after S.core (effects es)) (effect_of moment m a)).ledger.gone n ≡ true
     tells_gone moment (Message.Forget i) a n h =
-        let w = world S.core (effects es) in
+        let w = state_after S.core (effects es) in
         let p = and_parts (nat_eq i n) (is_forgotten a) h in
         subst (λ e. (step S.core w e).ledger.gone n ≡ true) (sym (where_true (is_forgotten a) (Forgot i) p.1))
         (at_split w.ledger.gone i true n (λ b. b ≡ true) (λ _. refl) (λ ne. absurd (ne (eqb-true i n p.0))))
     tells_gone moment _ a n h = absurd (cc)
 
-    tells_applied : (pass moment : ℕ) (m : Message K V A F D Q) (a : Answer K V A F B) → IsAnswer S es moment m a → Allowed S es pass m → (n : ℕ) (k : K) → applies S n k m a ≡ true → ((step S.core (world S.core (effects es)) (effect_of moment m a)).ledger.fate n ≡ Committed) × (touches S.core (step S.core (world S.core (effects es)) (effect_of moment m a)).ledger n k ≡ true → ((step S.core (world S.core (effects es)) (effect_of moment m a)).spot k).applied n ≡ true)
+    tells_applied : (pass moment : ℕ) (m : Message K V A F D Q) (a : Answer K V A F B) → IsAnswer S es moment m a → Allowed S es pass m → (n : ℕ) (k : K) → applies S n k m a ≡ true → ((step S.core (state_after S.core (effects es)) (effect_of moment m a)).ledger.fate n ≡ Committed) × (touches S.core (step S.core (state_after S.core (effects es)) (effect_of moment m a)).ledger n k ≡ true → ((step S.core (state_after S.core (effects es)) (effect_of moment m a)).spot k).applied n ≡ true)
     tells_applied pass moment (Message.Apply i key) a is allowed n k h =
-        let w = world S.core (effects es) in
+        let w = state_after S.core (effects es) in
         let p = and_parts (nat_eq i n) (S.core.same key k) h in
         let f = facts.committed i allowed in
         subst (λ j. ((step S.core w (where_so (is_applied a) (Applied i key))).ledger.fate j ≡ Committed) × (touches S.core (step S.core w (where_so (is_applied a) (Applied i key))).ledger j k ≡ true → ((step S.core w (where_so (is_applied a) (Applied i key))).spot k).applied j ≡ true)) (eqb-true i n p.0)
@@ -232,7 +232,7 @@ module _ {K V A F C D Q B : Type 0} (S : Service K V A F C D Q B) (law : IsServi
               (apply_applies w (good S.core law.core (effects es) run) i key k f p.1 t (is_holder (holder (w.spot key).pend) i) refl),
         ))
       where
-        same_ledger : (b : Bool) (i : ℕ) (key : K) → (step S.core (world S.core (effects es)) (where_so b (Applied i key))).ledger ≡ (world S.core (effects es)).ledger
+        same_ledger : (b : Bool) (i : ℕ) (key : K) → (step S.core (state_after S.core (effects es)) (where_so b (Applied i key))).ledger ≡ (state_after S.core (effects es)).ledger
         same_ledger true i key = refl
         same_ledger false i key = refl
     tells_applied pass moment _ a is allowed n k h = absurd (cc)
@@ -240,7 +240,7 @@ module _ {K V A F C D Q B : Type 0} (S : Service K V A F C D Q B) (law : IsServi
     -- and all of them stay true
     facts_more : (e : Entry K V A F D Q B) → Follows S es e → Facts (e ∷ es)
     facts_more e next =
-        let w = world S.core (effects es) in
+        let w = state_after S.core (effects es) in
         let may = may_follow e.pass e.moment e.message e.answer next.answer next.allowed in
         let more = grows S.core w (effect e) may in
         record {
@@ -274,14 +274,14 @@ module _ {K V A F C D Q B : Type 0} (S : Service K V A F C D Q B) (law : IsServi
           ];
         }
       where
-        drawn : (n : ℕ) → (world S.core (effects es)).ledger.fate n ≡ Committed → n < (world S.core (effects es)).ledger.next
-        drawn n f = below n f (cases_lt n (world S.core (effects es)).ledger.next)
+        drawn : (n : ℕ) → (state_after S.core (effects es)).ledger.fate n ≡ Committed → n < (state_after S.core (effects es)).ledger.next
+        drawn n f = below n f (cases_lt n (state_after S.core (effects es)).ledger.next)
           where
-            below : (n : ℕ) → (world S.core (effects es)).ledger.fate n ≡ Committed → (n < (world S.core (effects es)).ledger.next) ⊎ ((world S.core (effects es)).ledger.next ≤ n) → n < (world S.core (effects es)).ledger.next
+            below : (n : ℕ) → (state_after S.core (effects es)).ledger.fate n ≡ Committed → (n < (state_after S.core (effects es)).ledger.next) ⊎ ((state_after S.core (effects es)).ledger.next ≤ n) → n < (state_after S.core (effects es)).ledger.next
             below n f (inl lt) = lt
             below n f (inr ge) = let u = (good S.core law.core (effects es) run).fresh n ge in absurd (cc)
 
-        still_applied : {u : World K V A C} → Grows (world S.core (effects es)) u → (n : ℕ) (q : K) → ((world S.core (effects es)).ledger.fate n ≡ Committed) × (touches S.core (world S.core (effects es)).ledger n q ≡ true → ((world S.core (effects es)).spot q).applied n ≡ true) → (u.ledger.fate n ≡ Committed) × (touches S.core u.ledger n q ≡ true → (u.spot q).applied n ≡ true)
+        still_applied : {u : State K V A C} → Grows (state_after S.core (effects es)) u → (n : ℕ) (q : K) → ((state_after S.core (effects es)).ledger.fate n ≡ Committed) × (touches S.core (state_after S.core (effects es)).ledger n q ≡ true → ((state_after S.core (effects es)).spot q).applied n ≡ true) → (u.ledger.fate n ≡ Committed) × (touches S.core u.ledger n q ≡ true → (u.spot q).applied n ≡ true)
         still_applied more n q h = (
           more.committed n h.0,
           λ t. more.applied q n (h.1 (ap (λ x. is_some (on_item S.core x q)) (sym (more.actions n (drawn n h.0))) ∙ t)),

@@ -5,31 +5,31 @@ use Rattle.txn_core.specs.declared.fate.Fate.TheVariants.{Undecided, Committed}
 use Rattle.txn_core.specs.Stamps.{earlier, later, IsBy, single}
 use Rattle.txn_core.specs.declared.outcome.Outcome.TheVariants.{New}
 use Rattle.txn_core.specs.Protocol.{after, IsNew, Protocol, IsLawful}
-use Rattle.txn_core.specs.World.{Pending, Spot, Cell, Ledger, holder, last, action_on, touches, at, hold, image_or, stamp_or, cell_after, spot_wrote, spot_prepared, spot_applied, spot_released}
+use Rattle.txn_core.specs.State.{Pending, Spot, Tally, Ledger, holder, last, action_on, touches, at, hold, image_or, stamp_or, tally_after, spot_wrote, spot_prepared, spot_applied, spot_released}
 use Rattle.txn_core.proofs.Basics.{none_some, some_is, true_false, at_split, holder_is, is_some_of, new_is}
 use Rattle.txn_core.proofs.StampLaws.{by_itself, by_earlier, by_left, by_right, by_before}
 use Rattle.txn_core.proofs.Invariant.{GoodSpot}
 
 -- the last stamp after a change of the item
-last_after : {V : Type 0} (c : Cell) (s : Spot V) (v : Option V) (own stamp t : Stamp) → IsBy t stamp → IsBy t (later (later c.floor (last c s)) own) → IsBy t (if is_some v then stamp else (cell_after c s v own).floor)
+last_after : {V : Type 0} (c : Tally) (s : Spot V) (v : Option V) (own stamp t : Stamp) → IsBy t stamp → IsBy t (later (later c.floor (last c s)) own) → IsBy t (if is_some v then stamp else (tally_after c s v own).floor)
 last_after c s None own stamp t is_there gone = gone
 last_after c s (Some x) own stamp t is_there gone = is_there
 
 -- a floor never falls
-pub floor_rises : {V : Type 0} (c : Cell) (s : Spot V) (v : Option V) (own t : Stamp) → IsBy t c.floor → IsBy t (cell_after c s v own).floor
+pub floor_rises : {V : Type 0} (c : Tally) (s : Spot V) (v : Option V) (own t : Stamp) → IsBy t c.floor → IsBy t (tally_after c s v own).floor
 floor_rises c s None own t h = by_left t (later c.floor (last c s)) own (by_left t c.floor (last c s) h)
 floor_rises c s (Some x) own t h = h
 
-last_rises : {V : Type 0} (c d : Cell) (s : Spot V) (t : Stamp) → (IsBy t c.floor → IsBy t d.floor) → IsBy t (last c s) → IsBy t (last d s)
+last_rises : {V : Type 0} (c d : Tally) (s : Spot V) (t : Stamp) → (IsBy t c.floor → IsBy t d.floor) → IsBy t (last c s) → IsBy t (last d s)
 last_rises c d s t up = go (is_some s.row)
   where
     go : (b : Bool) → IsBy t (if b then s.stamp else c.floor) → IsBy t (if b then s.stamp else d.floor)
     go true h = h
     go false h = up h
 
-module _ {K V A F C D : Type 0} (P : Protocol K V A F C D) (law : IsLawful P) (l : Ledger A) (cat : C) (c : Cell) (q : K) (s : Spot V) where
+module _ {K V A F C D : Type 0} (P : Protocol K V A F C D) (law : IsLawful P) (l : Ledger A) (cat : C) (c : Tally) (q : K) (s : Spot V) where
   -- another item of the cell was changed
-  pub kept_floor : (d : Cell) → ((t : Stamp) → IsBy t c.floor → IsBy t d.floor) → GoodSpot P l cat c q s → GoodSpot P l cat d q s
+  pub kept_floor : (d : Tally) → ((t : Stamp) → IsBy t c.floor → IsBy t d.floor) → GoodSpot P l cat c q s → GoodSpot P l cat d q s
   kept_floor d up g =
       record {
         drawn = g.drawn;
@@ -51,7 +51,7 @@ module _ {K V A F C D : Type 0} (P : Protocol K V A F C D) (law : IsLawful P) (l
         absent = g.absent;
       }
 
-  pub kept_wrote : (a : A) (moment : ℕ) → P.there cat q ≡ true → s.pend ≡ None → GoodSpot P l cat c q s → GoodSpot P l cat (cell_after c s (after (P.act cat a s.row) s.row) (single moment)) q (spot_wrote P cat c a moment s)
+  pub kept_wrote : (a : A) (moment : ℕ) → P.there cat q ≡ true → s.pend ≡ None → GoodSpot P l cat c q s → GoodSpot P l cat (tally_after c s (after (P.act cat a s.row) s.row) (single moment)) q (spot_wrote P cat c a moment s)
   kept_wrote a moment is_there unheld g =
       record {
         drawn = g.drawn;
@@ -152,7 +152,7 @@ module _ {K V A F C D : Type 0} (P : Protocol K V A F C D) (law : IsLawful P) (l
       }
 
   -- the transaction that holds the item is applied on it
-  pub kept_applied : (n : ℕ) (p : Pending V) → s.pend ≡ Some p → p.number ≡ n → l.fate n ≡ Committed → GoodSpot P l cat c q s → GoodSpot P l cat (cell_after c s (image_or s.row s.pend) (stamp_or s.stamp s.pend)) q (spot_applied c n s)
+  pub kept_applied : (n : ℕ) (p : Pending V) → s.pend ≡ Some p → p.number ≡ n → l.fate n ≡ Committed → GoodSpot P l cat c q s → GoodSpot P l cat (tally_after c s (image_or s.row s.pend) (stamp_or s.stamp s.pend)) q (spot_applied c n s)
   kept_applied n p is_held its committed g =
       record {
         drawn = λ o e. gone o e;

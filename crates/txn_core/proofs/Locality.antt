@@ -12,11 +12,11 @@ use Rattle.txn_core.specs.Stamps.{later, single}
 use Rattle.txn_core.specs.Protocol.{after, Protocol, IsLawful}
 use Rattle.txn_core.specs.Service.{Service, IsServiceLawful}
 use Rattle.txn_core.specs.Effects.{Effect, Wrote, Begun, Prepared, Commits, Cancels, Applied, Released, Finished, Forgot, Changed, Quiet}
-use Rattle.txn_core.specs.World.{Spot, Cell, World, at, hold, image_or, stamp_or, cell_after, kept_or, ledger_begun, ledger_decided, ledger_finished, ledger_forgot, spot_wrote, spot_prepared, spot_applied, spot_released, here, on_key, step}
+use Rattle.txn_core.specs.State.{Spot, Tally, State, at, hold, image_or, stamp_or, tally_after, kept_or, ledger_begun, ledger_decided, ledger_finished, ledger_forgot, spot_wrote, spot_prepared, spot_applied, spot_released, here, on_key, step}
 use Rattle.txn_core.specs.Answers.{KeptToken}
 use Rattle.txn_core.specs.History.{where_so, begin_effect, decide_effect, effect_of, effect, kept_after, kept, reasons_in, reasons_of}
-use Rattle.txn_core.specs.Legal.{sent_to, IsLegal}
-use Rattle.txn_core.specs.Cells.{Item, item, reaches, of_cell, state, IsAlike}
+use Rattle.txn_core.specs.Legal.{state, sent_to, IsLegal}
+use Rattle.txn_core.specs.Cells.{Item, item, reaches, of_cell, IsAlike}
 use Rattle.txn_core.proofs.Basics.{at_split}
 
 -- a spot of the item, with nothing of what no cell holds
@@ -29,7 +29,7 @@ reach_other k i e = eqb-false k i e
 
 module _ {K V A F C D : Type 0} (P : Protocol K V A F C D) (law : IsLawful P) (i : ℕ) where
   -- both states hold the same in the cell
-  pub record AreSame (w u : World K V A C) : Type 0 where
+  pub record AreSame (w u : State K V A C) : Type 0 where
     pub items : (q : K) → P.cell_of q ≡ i → item (w.spot q) ≡ item (u.spot q)
     pub numbers : w.cell i ≡ u.cell i
     pub catalog : w.catalog ≡ u.catalog
@@ -43,11 +43,11 @@ module _ {K V A F C D : Type 0} (P : Protocol K V A F C D) (law : IsLawful P) (i
   IsAway (Changed d moment) = ⊥
   IsAway _ = Unit {0}
 
-  module _ (w u : World K V A C) (s : AreSame w u) where
+  module _ (w u : State K V A C) (s : AreSame w u) where
     here_same : (k : K) → P.cell_of k ≡ i → here P w k ≡ here P u k
     here_same k at_i = subst (λ j. w.cell j ≡ u.cell j) (sym at_i) s.numbers
 
-    same_on_key : (k : K) (f g : Spot V → Spot V) (c d : Cell) → ((q : K) → P.cell_of k ≡ i → P.cell_of q ≡ i → item (f (w.spot q)) ≡ item (g (u.spot q))) → (P.cell_of k ≡ i → c ≡ d) → AreSame (on_key P w k f c) (on_key P u k g d)
+    same_on_key : (k : K) (f g : Spot V → Spot V) (c d : Tally) → ((q : K) → P.cell_of k ≡ i → P.cell_of q ≡ i → item (f (w.spot q)) ≡ item (g (u.spot q))) → (P.cell_of k ≡ i → c ≡ d) → AreSame (on_key P w k f c) (on_key P u k g d)
     same_on_key k f g c d both cells =
         record {
           items = λ q at_i. cond_both (P.same k q) (f (w.spot q)) (w.spot q) (λ x. item x ≡ item (if P.same k q then g (u.spot q) else u.spot q))
@@ -59,7 +59,7 @@ module _ {K V A F C D : Type 0} (P : Protocol K V A F C D) (law : IsLawful P) (i
           catalog = s.catalog;
         }
 
-    same_beside : (k : K) (g : Spot V → Spot V) (d : Cell) → (P.cell_of k ≡ i → ⊥) → AreSame w (on_key P u k g d)
+    same_beside : (k : K) (g : Spot V → Spot V) (d : Tally) → (P.cell_of k ≡ i → ⊥) → AreSame w (on_key P u k g d)
     same_beside k g d away =
         record {
           items = λ q at_i. cond_both (P.same k q) (g (u.spot q)) (u.spot q) (λ x. item (w.spot q) ≡ item x) (λ e. absurd (away (law.one_cell k q e ∙ at_i))) (λ e. s.items q at_i);
@@ -67,7 +67,7 @@ module _ {K V A F C D : Type 0} (P : Protocol K V A F C D) (law : IsLawful P) (i
           catalog = s.catalog;
         }
 
-    cell_of_item : (c : Cell) (t : Spot V) (v : Option V) (own : Stamp) → cell_after c t v own ≡ cell_after c (spot_of (item t)) v own
+    cell_of_item : (c : Tally) (t : Spot V) (v : Option V) (own : Stamp) → tally_after c t v own ≡ tally_after c (spot_of (item t)) v own
     cell_of_item c t (Some v) own = refl
     cell_of_item c t None own = refl
 
@@ -76,15 +76,15 @@ module _ {K V A F C D : Type 0} (P : Protocol K V A F C D) (law : IsLawful P) (i
     same_step (Wrote a moment) =
         let k = P.key_of a in
         same_on_key k (spot_wrote P w.catalog (here P w k) a moment) (spot_wrote P u.catalog (here P u k) a moment)
-        (cell_after (here P w k) (w.spot k) (after (P.act w.catalog a (w.spot k).row) (w.spot k).row) (single moment))
-        (cell_after (here P u k) (u.spot k) (after (P.act u.catalog a (u.spot k).row) (u.spot k).row) (single moment))
+        (tally_after (here P w k) (w.spot k) (after (P.act w.catalog a (w.spot k).row) (w.spot k).row) (single moment))
+        (tally_after (here P u k) (u.spot k) (after (P.act u.catalog a (u.spot k).row) (u.spot k).row) (single moment))
         (λ q at_k at_q j.
         let x = s.items q at_q j in
         let c = here_same k at_k j in
         record { row = after (P.act (s.catalog j) a x.row) x.row; stamp = later (if is_some x.row then x.stamp else c.floor) (single moment); version = c.count + 1; pend = x.pend })
         (λ at_k.
         cell_of_item (here P w k) (w.spot k) (after (P.act w.catalog a (w.spot k).row) (w.spot k).row) (single moment)
-        ∙ (λ j. let x = s.items k at_k j in cell_after (here_same k at_k j) (spot_of x) (after (P.act (s.catalog j) a x.row) x.row) (single moment))
+        ∙ (λ j. let x = s.items k at_k j in tally_after (here_same k at_k j) (spot_of x) (after (P.act (s.catalog j) a x.row) x.row) (single moment))
         ∙ sym (cell_of_item (here P u k) (u.spot k) (after (P.act u.catalog a (u.spot k).row) (u.spot k).row) (single moment)))
     same_step (Prepared n stamp a) =
         let k = P.key_of a in
@@ -95,14 +95,14 @@ module _ {K V A F C D : Type 0} (P : Protocol K V A F C D) (law : IsLawful P) (i
         (λ at_k. here_same k at_k)
     same_step (Applied n k) =
         same_on_key k (spot_applied (here P w k) n) (spot_applied (here P u k) n)
-        (cell_after (here P w k) (w.spot k) (image_or (w.spot k).row (w.spot k).pend) (stamp_or (w.spot k).stamp (w.spot k).pend))
-        (cell_after (here P u k) (u.spot k) (image_or (u.spot k).row (u.spot k).pend) (stamp_or (u.spot k).stamp (u.spot k).pend))
+        (tally_after (here P w k) (w.spot k) (image_or (w.spot k).row (w.spot k).pend) (stamp_or (w.spot k).stamp (w.spot k).pend))
+        (tally_after (here P u k) (u.spot k) (image_or (u.spot k).row (u.spot k).pend) (stamp_or (u.spot k).stamp (u.spot k).pend))
         (λ q at_k at_q j.
         let x = s.items q at_q j in
         record { row = image_or x.row x.pend; stamp = stamp_or x.stamp x.pend; version = (here_same k at_k j).count + 1; pend = None })
         (λ at_k.
         cell_of_item (here P w k) (w.spot k) (image_or (w.spot k).row (w.spot k).pend) (stamp_or (w.spot k).stamp (w.spot k).pend)
-        ∙ (λ j. let x = s.items k at_k j in cell_after (here_same k at_k j) (spot_of x) (image_or x.row x.pend) (stamp_or x.stamp x.pend))
+        ∙ (λ j. let x = s.items k at_k j in tally_after (here_same k at_k j) (spot_of x) (image_or x.row x.pend) (stamp_or x.stamp x.pend))
         ∙ sym (cell_of_item (here P u k) (u.spot k) (image_or (u.spot k).row (u.spot k).pend) (stamp_or (u.spot k).stamp (u.spot k).pend)))
     same_step (Released n k) =
         same_on_key k (λ x. spot_released x) (λ x. spot_released x) (here P w k) (here P u k)
@@ -129,11 +129,11 @@ module _ {K V A F C D : Type 0} (P : Protocol K V A F C D) (law : IsLawful P) (i
     same_away (Wrote a moment) away =
         let k = P.key_of a in
         same_beside k (spot_wrote P u.catalog (here P u k) a moment)
-        (cell_after (here P u k) (u.spot k) (after (P.act u.catalog a (u.spot k).row) (u.spot k).row) (single moment)) away
+        (tally_after (here P u k) (u.spot k) (after (P.act u.catalog a (u.spot k).row) (u.spot k).row) (single moment)) away
     same_away (Prepared n stamp a) away = same_beside (P.key_of a) (spot_prepared P u.catalog n stamp a) (here P u (P.key_of a)) away
     same_away (Applied n k) away =
         same_beside k (spot_applied (here P u k) n)
-        (cell_after (here P u k) (u.spot k) (image_or (u.spot k).row (u.spot k).pend) (stamp_or (u.spot k).stamp (u.spot k).pend)) away
+        (tally_after (here P u k) (u.spot k) (image_or (u.spot k).row (u.spot k).pend) (stamp_or (u.spot k).stamp (u.spot k).pend)) away
     same_away (Released n k) away = same_beside k (λ x. spot_released x) (here P u k) away
     same_away (Changed d moment) away = absurd away
     same_away (Begun stamp actions) away = record { items = s.items; numbers = s.numbers; catalog = s.catalog }
@@ -184,7 +184,7 @@ module _ {K V A F C D Q B : Type 0} (S : Service K V A F C D Q B) (law : IsServi
   away_entry i moment (Message.Command d) a e = absurd (cc)
   away_entry i moment _ a e = tt
 
-  module _ (u : World K V A C) where
+  module _ (u : State K V A C) where
     ledger_where : (b : Bool) (e : Effect K A D) → (step S.core u e).ledger ≡ u.ledger → (step S.core u (where_so b e)).ledger ≡ u.ledger
     ledger_where true e h = h
     ledger_where false e h = refl

@@ -10,7 +10,7 @@ use Rattle.txn_core.specs.declared.answer.Answer.{Answer}
 use Rattle.txn_core.specs.declared.entry.Entry.{Entry}
 use Rattle.txn_core.specs.Service.{Service, IsServiceLawful}
 use Rattle.txn_core.specs.Effects.{Effect, Wrote, Prepared, Applied, Released, Finished, Forgot, Changed}
-use Rattle.txn_core.specs.World.{Spot, World, holder, at, here, step, world, spot_prepared, spot_released}
+use Rattle.txn_core.specs.State.{Spot, State, holder, at, here, step, state_after, spot_prepared, spot_released}
 use Rattle.txn_core.specs.Serial.{serial}
 use Rattle.txn_core.specs.Answers.{has_record, decide_answer}
 use Rattle.txn_core.specs.History.{is_first, tells_commit, is_written, is_applied, where_so, begin_effect, decide_effect, effect_of, effects, Had, commits, cancels}
@@ -63,16 +63,16 @@ again K V A F B true Gone commit ends = refl
 module _ {K V A F C D Q B : Type 0} (S : Service K V A F C D Q B) (law : IsServiceLawful S) where
   pub first_decision_stands : (es : List (Entry K V A F D Q B)) → IsLegal S es → (n : ℕ) → Had (commits n) es ⊎ Had (cancels n) es → (moment : ℕ) (commit : Bool) (reasons : List (Reason V F)) (a : Answer K V A F B) → IsAnswer S es moment (Message.Decide n commit reasons) a → is_first a ≡ false
   first_decision_stands es legal n before moment commit reasons a is =
-      let l = (world S.core (effects es)).ledger in
+      let l = (state_after S.core (effects es)).ledger in
       ap (λ x. is_first x) is ∙ again K V A F B (has_record l n) (l.fate n) commit (ended before)
     where
-      ended : Had (commits n) es ⊎ Had (cancels n) es → ((world S.core (effects es)).ledger.fate n ≡ Committed) ⊎ ((world S.core (effects es)).ledger.fate n ≡ Cancelled)
+      ended : Had (commits n) es ⊎ Had (cancels n) es → ((state_after S.core (effects es)).ledger.fate n ≡ Committed) ⊎ ((state_after S.core (effects es)).ledger.fate n ≡ Cancelled)
       ended (inl h) = inl ((legal_facts S law es legal).1.committed n h)
       ended (inr h) = inr ((legal_facts S law es legal).1.cancelled n h)
 
-  module _ (w : World K V A C) (q : K) where
+  module _ (w : State K V A C) (q : K) where
     -- who holds an item is nothing to its version
-    version_on_key : (k : K) (f : Spot V → Spot V) → ((s : Spot V) → (f s).row ≡ s.row) → ((s : Spot V) → (f s).version ≡ s.version) → (u : World K V A C) → u.spot q ≡ (if S.core.same k q then f (w.spot q) else w.spot q) → here S.core u q ≡ here S.core w q → version_of S.core u q ≡ version_of S.core w q
+    version_on_key : (k : K) (f : Spot V → Spot V) → ((s : Spot V) → (f s).row ≡ s.row) → ((s : Spot V) → (f s).version ≡ s.version) → (u : State K V A C) → u.spot q ≡ (if S.core.same k q then f (w.spot q) else w.spot q) → here S.core u q ≡ here S.core w q → version_of S.core u q ≡ version_of S.core w q
     version_on_key k f row version u spot cell =
         (λ j. if is_some (spot j).row then (spot j).version else (cell j).gone)
         ∙ cond_both (S.core.same k q) (f (w.spot q)) (w.spot q) (λ s. (if is_some s.row then s.version else (here S.core w q).gone) ≡ version_of S.core w q)
@@ -124,11 +124,11 @@ module _ {K V A F C D Q B : Type 0} (S : Service K V A F C D Q B) (law : IsServi
     version_entry moment (Message.Forget n) a other = version_where _ (Forgot n) refl
     version_entry moment _ a other = refl
 
-  version_stays : (newer es : List (Entry K V A F D Q B)) (q : K) → list_any (λ e. changes_cell S (S.core.cell_of q) e.message e.answer) newer ≡ false → version_of S.core (world S.core (effects (newer ++ es))) q ≡ version_of S.core (world S.core (effects es)) q
+  version_stays : (newer es : List (Entry K V A F D Q B)) (q : K) → list_any (λ e. changes_cell S (S.core.cell_of q) e.message e.answer) newer ≡ false → version_of S.core (state_after S.core (effects (newer ++ es))) q ≡ version_of S.core (state_after S.core (effects es)) q
   version_stays [] es q none = refl
   version_stays (e ∷ newer) es q none =
       let parts = or_parts (changes_cell S (S.core.cell_of q) e.message e.answer) (list_any (λ x. changes_cell S (S.core.cell_of q) x.message x.answer) newer) none in
-      version_entry (world S.core (effects (newer ++ es))) q e.moment e.message e.answer parts.0 ∙ version_stays newer es q parts.1
+      version_entry (state_after S.core (effects (newer ++ es))) q e.moment e.message e.answer parts.0 ∙ version_stays newer es q parts.1
 
   pub moved_is_real : (newer es : List (Entry K V A F D Q B)) (t u : ℕ) (key : K) (first second : Option V) (v w : ℕ) (h k : Option ℕ) → IsAnswer S es t (Message.ReadVersion key) (Answer.Version first v h) → IsAnswer S (newer ++ es) u (Message.ReadVersion key) (Answer.Version second w k) → v ≢ w → Had (changes_cell S (S.core.cell_of key)) newer
   moved_is_real newer es t u key first second v w h k one two differ = by_test (list_any (λ e. changes_cell S (S.core.cell_of key) e.message e.answer) newer) refl
@@ -136,8 +136,8 @@ module _ {K V A F C D Q B : Type 0} (S : Service K V A F C D Q B) (law : IsServi
       by_test : (b : Bool) → list_any (λ e. changes_cell S (S.core.cell_of key) e.message e.answer) newer ≡ b → list_any (λ e. changes_cell S (S.core.cell_of key) e.message e.answer) newer ≡ true
       by_test true is = is
       by_test false none =
-          let x = world S.core (effects es) in
-          let y = world S.core (effects (newer ++ es)) in
+          let x = state_after S.core (effects es) in
+          let y = state_after S.core (effects (newer ++ es)) in
           let a = version_is (S.core.there x.catalog key) (x.spot key).row (x.spot key).version (here S.core x key).gone (holder (x.spot key).pend) first v h (sym one) in
           let b = version_is (S.core.there y.catalog key) (y.spot key).row (y.spot key).version (here S.core y key).gone (holder (y.spot key).pend) second w k (sym two) in
           absurd (differ (sym a.2 ∙ sym (version_stays newer es key none) ∙ b.2))

@@ -3,7 +3,7 @@ use Rattle.std.proofs.Common.{◌≡◌, ◌⊎◌, inl, inr, ℕ, ◌≤◌, tr
 use Rattle.std.proofs.lemmas.Bool.{eqb-true, cond_both, or_parts, and_parts, not-true}
 use Rattle.txn_core.specs.Protocol.{Protocol, IsLawful}
 use Rattle.txn_core.specs.Effects.{Effect, Wrote, Begun, Prepared, Commits, Cancels, Applied, Released, Finished, Forgot, Changed, Quiet}
-use Rattle.txn_core.specs.World.{on_item, holder, world}
+use Rattle.txn_core.specs.State.{on_item, holder, state_after}
 use Rattle.txn_core.specs.Runs.{IsRun}
 use Rattle.txn_core.specs.Serial.{begun_actions, committed_numbers, is_committed, is_applied, waits_on, waiting, place, point_by, point}
 use Rattle.txn_core.specs.declared.entry.Entry.{Entry}
@@ -44,7 +44,7 @@ module _ {K V A F C D : Type 0} (P : Protocol K V A F C D) (law : IsLawful P) wh
       let parts = and_parts (is_some (on_item P (begun_actions es n) q)) (not (is_applied P es q n)) (find_passes (waits_on P es q) (committed_numbers es) n e) in
       record { committed = find_listed (waits_on P es q) (committed_numbers es) n e; acts = parts.0; unapplied = not-true (is_applied P es q n) parts.1 }
 
-  holds : (es : List (Effect K A D)) → IsRun P es → (q : K) (n : ℕ) → WaitsIn es q n → holder ((world P es).spot q).pend ≡ Some n
+  holds : (es : List (Effect K A D)) → IsRun P es → (q : K) (n : ℕ) → WaitsIn es q n → holder ((state_after P es).spot q).pend ≡ Some n
   holds es run q n w =
       ((good P law es run).spots q).waits n (committed_is P law es run n w.committed)
       (ap (λ x. is_some (on_item P x q)) (actions_read P es run n) ∙ w.acts)

@@ -8,7 +8,7 @@ use Rattle.txn_core.specs.declared.message.Message.{Message}
 use Rattle.txn_core.specs.declared.answer.Answer.{Answer}
 use Rattle.txn_core.specs.declared.entry.Entry.{Entry}
 use Rattle.txn_core.specs.Service.{Service, IsServiceLawful}
-use Rattle.txn_core.specs.World.{on_item, world}
+use Rattle.txn_core.specs.State.{on_item, state_after}
 use Rattle.txn_core.specs.Serial.{begun_stamp, begun_actions}
 use Rattle.txn_core.specs.History.{effect, effects, Had, begins, commits, cancels, finishes, forgets, finds_no_table, is_own_begin}
 use Rattle.txn_core.specs.Legal.{accepts, applies, releases, feeds, AreTold, HasCause, HasGround, Allowed, Follows, IsLegal}
@@ -45,13 +45,13 @@ module _ {K V A F C D Q B : Type 0} (S : Service K V A F C D Q B) (law : IsServi
   pub same_actions : (n : ℕ) → Had (begins n) es → begun_actions (effects es) n ≡ begun_actions (effects (e ∷ es)) n
   same_actions n h =
       let run = legal_run S law (e ∷ es) legal in
-      let more = grows S.core (world S.core (effects es)) (effect e) run.1 in
+      let more = grows S.core (state_after S.core (effects es)) (effect e) run.1 in
       sym (actions_read S.core (effects es) run.0 n) ∙ sym (more.actions n ((legal_facts S law es legal.0).1.begun n h)) ∙ actions_read S.core (effects (e ∷ es)) run n
 
   pub same_stamp : (n : ℕ) → Had (begins n) es → begun_stamp (effects es) n ≡ begun_stamp (effects (e ∷ es)) n
   same_stamp n h =
       let run = legal_run S law (e ∷ es) legal in
-      let more = grows S.core (world S.core (effects es)) (effect e) run.1 in
+      let more = grows S.core (state_after S.core (effects es)) (effect e) run.1 in
       sym (stamp_read S.core (effects es) run.0 n) ∙ sym (more.stamp n ((legal_facts S law es legal.0).1.begun n h)) ∙ stamp_read S.core (effects (e ∷ es)) run n
 
   told_more : (n : ℕ) (actions : List A) (reasons : List (Reason V F)) → AreTold S es n actions reasons → AreTold S (e ∷ es) n actions reasons

@@ -13,7 +13,7 @@ use Rattle.txn_core.specs.declared.answer.Answer.{Answer}
 use Rattle.txn_core.specs.declared.entry.Entry.{Entry}
 use Rattle.txn_core.specs.Service.{Service, IsServiceLawful}
 use Rattle.txn_core.specs.Effects.{Effect, Wrote, Prepared, Applied, Released, Finished, Forgot, Changed}
-use Rattle.txn_core.specs.World.{Ledger, World, on_item, step, world}
+use Rattle.txn_core.specs.State.{Ledger, State, on_item, step, state_after}
 use Rattle.txn_core.specs.Serial.{begun_actions}
 use Rattle.txn_core.specs.Answers.{KeptToken, begin_answer}
 use Rattle.txn_core.specs.History.{is_begun, tells_commit, tells_cancel, where_so, begin_effect, decide_effect, effect_of, effects, Had, begins, commits, cancels, found_kept}
@@ -35,7 +35,7 @@ begun_next same true (Some kept) actions next n moment stamp e =
     (λ _ h. absurd (cc)) e
 
 module _ {K V A F C D Q B : Type 0} (S : Service K V A F C D Q B) where
-  module _ (w : World K V A C) where
+  module _ (w : State K V A C) where
     -- what an effect leaves of the ledger, where it comes to pass and where it doesn't
     left_where : {X : Type 0} (f : Ledger A → X) (b : Bool) (e : Effect K A D) → f (step S.core w e).ledger ≡ f w.ledger → f (step S.core w (where_so b e)).ledger ≡ f w.ledger
     left_where f true e h = h
@@ -82,54 +82,54 @@ module _ {K V A F C D Q B : Type 0} (S : Service K V A F C D Q B) where
     fates_stay moment _ a other = refl
 
   -- a number that is drawn was begun
-  drawn_by : (es : List (Entry K V A F D Q B)) (moment : ℕ) (m : Message K V A F D Q) (a : Answer K V A F B) → IsAnswer S es moment m a → (n : ℕ) → n < (step S.core (world S.core (effects es)) (effect_of moment m a)).ledger.next → (n < (world S.core (effects es)).ledger.next) ⊎ (begins n m a ≡ true)
+  drawn_by : (es : List (Entry K V A F D Q B)) (moment : ℕ) (m : Message K V A F D Q) (a : Answer K V A F B) → IsAnswer S es moment m a → (n : ℕ) → n < (step S.core (state_after S.core (effects es)) (effect_of moment m a)).ledger.next → (n < (state_after S.core (effects es)).ledger.next) ⊎ (begins n m a ≡ true)
   drawn_by es moment (Message.Begin token actions) a is n lt = by_answer a is lt
     where
       draws : (next m : ℕ) → m ≡ next → n < suc next → (n < next) ⊎ (next ≤ n) → (n < next) ⊎ (nat_eq m n ≡ true)
       draws next m same lt (inl less) = inl less
       draws next m same lt (inr le) = inr (let e : m ≡ n = omega arith in eq-eqb m n e)
 
-      by_answer : (a : Answer K V A F B) → IsAnswer S es moment (Message.Begin token actions) a → n < (step S.core (world S.core (effects es)) (begin_effect {D = D} actions a)).ledger.next → (n < (world S.core (effects es)).ledger.next) ⊎ (is_begun n a ≡ true)
+      by_answer : (a : Answer K V A F B) → IsAnswer S es moment (Message.Begin token actions) a → n < (step S.core (state_after S.core (effects es)) (begin_effect {D = D} actions a)).ledger.next → (n < (state_after S.core (effects es)).ledger.next) ⊎ (is_begun n a ≡ true)
       by_answer (Answer.Begun m stamp) is lt =
-          let w = world S.core (effects es) in
+          let w = state_after S.core (effects es) in
           let e = begun_next {K = K} {V = V} {F = F} {B = B} S.same_actions (list_all (λ x. S.core.there w.catalog (S.core.key_of x)) actions) (found_kept es moment token) actions w.ledger.next m moment stamp is in
           draws w.ledger.next m e.0 lt (cases_lt n w.ledger.next)
       by_answer _ is lt = inl lt
-  drawn_by es moment (Message.Write action) a is n lt = inl (subst (λ x. n < x) (left_where (world S.core (effects es)) (λ l. l.next) _ (Wrote action moment) refl) lt)
-  drawn_by es moment (Message.Prepare k stamp action) a is n lt = inl (subst (λ x. n < x) (left_where (world S.core (effects es)) (λ l. l.next) _ (Prepared k stamp action) refl) lt)
-  drawn_by es moment (Message.Apply k key) a is n lt = inl (subst (λ x. n < x) (left_where (world S.core (effects es)) (λ l. l.next) _ (Applied k key) refl) lt)
-  drawn_by es moment (Message.Release k key) a is n lt = inl (subst (λ x. n < x) (left_where (world S.core (effects es)) (λ l. l.next) _ (Released k key) refl) lt)
-  drawn_by es moment (Message.Decide k commit reasons) a is n lt = inl (subst (λ x. n < x) (next_decide (world S.core (effects es)) k a) lt)
-  drawn_by es moment (Message.Done k) a is n lt = inl (subst (λ x. n < x) (left_where (world S.core (effects es)) (λ l. l.next) _ (Finished k) refl) lt)
-  drawn_by es moment (Message.Forget k) a is n lt = inl (subst (λ x. n < x) (left_where (world S.core (effects es)) (λ l. l.next) _ (Forgot k) refl) lt)
-  drawn_by es moment (Message.Command d) a is n lt = inl (subst (λ x. n < x) (left_where (world S.core (effects es)) (λ l. l.next) _ (Changed d moment) refl) lt)
+  drawn_by es moment (Message.Write action) a is n lt = inl (subst (λ x. n < x) (left_where (state_after S.core (effects es)) (λ l. l.next) _ (Wrote action moment) refl) lt)
+  drawn_by es moment (Message.Prepare k stamp action) a is n lt = inl (subst (λ x. n < x) (left_where (state_after S.core (effects es)) (λ l. l.next) _ (Prepared k stamp action) refl) lt)
+  drawn_by es moment (Message.Apply k key) a is n lt = inl (subst (λ x. n < x) (left_where (state_after S.core (effects es)) (λ l. l.next) _ (Applied k key) refl) lt)
+  drawn_by es moment (Message.Release k key) a is n lt = inl (subst (λ x. n < x) (left_where (state_after S.core (effects es)) (λ l. l.next) _ (Released k key) refl) lt)
+  drawn_by es moment (Message.Decide k commit reasons) a is n lt = inl (subst (λ x. n < x) (next_decide (state_after S.core (effects es)) k a) lt)
+  drawn_by es moment (Message.Done k) a is n lt = inl (subst (λ x. n < x) (left_where (state_after S.core (effects es)) (λ l. l.next) _ (Finished k) refl) lt)
+  drawn_by es moment (Message.Forget k) a is n lt = inl (subst (λ x. n < x) (left_where (state_after S.core (effects es)) (λ l. l.next) _ (Forgot k) refl) lt)
+  drawn_by es moment (Message.Command d) a is n lt = inl (subst (λ x. n < x) (left_where (state_after S.core (effects es)) (λ l. l.next) _ (Changed d moment) refl) lt)
   drawn_by es moment _ a is n lt = inl lt
 
-  pub was_begun : (es : List (Entry K V A F D Q B)) → IsLegal S es → (n : ℕ) → 1 ≤ n → n < (world S.core (effects es)).ledger.next → Had (begins n) es
+  pub was_begun : (es : List (Entry K V A F D Q B)) → IsLegal S es → (n : ℕ) → 1 ≤ n → n < (state_after S.core (effects es)).ledger.next → Had (begins n) es
   was_begun [] legal n ge lt = absurd (omega arith)
   was_begun (e ∷ es) legal n ge lt = elim (drawn_by es e.moment e.message e.answer legal.1.answer n lt) [
     | inl less ↦ or_right (begins n e.message e.answer) (list_any (λ x. begins n x.message x.answer) es) (was_begun es legal.0 n ge less)
     | inr now ↦ had_now (begins n) e es now
   ]
 
-  committed_now : (w : World K V A C) (moment : ℕ) (m : Message K V A F D Q) (a : Answer K V A F B) (n : ℕ) → (step S.core w (effect_of moment m a)).ledger.fate n ≡ Committed → (w.ledger.fate n ≡ Committed) ⊎ (commits n m a ≡ true)
+  committed_now : (w : State K V A C) (moment : ℕ) (m : Message K V A F D Q) (a : Answer K V A F B) (n : ℕ) → (step S.core w (effect_of moment m a)).ledger.fate n ≡ Committed → (w.ledger.fate n ≡ Committed) ⊎ (commits n m a ≡ true)
   committed_now w moment (Message.Decide m commit reasons) a n h = committed_by w m n a h
   committed_now w moment m a n h = inl (sym (λ j. fates_stay w moment m a (λ k commit reasons e. cc) j n) ∙ h)
 
-  cancelled_now : (w : World K V A C) (moment : ℕ) (m : Message K V A F D Q) (a : Answer K V A F B) (n : ℕ) → (step S.core w (effect_of moment m a)).ledger.fate n ≡ Cancelled → (w.ledger.fate n ≡ Cancelled) ⊎ (cancels n m a ≡ true)
+  cancelled_now : (w : State K V A C) (moment : ℕ) (m : Message K V A F D Q) (a : Answer K V A F B) (n : ℕ) → (step S.core w (effect_of moment m a)).ledger.fate n ≡ Cancelled → (w.ledger.fate n ≡ Cancelled) ⊎ (cancels n m a ≡ true)
   cancelled_now w moment (Message.Decide m commit reasons) a n h = cancelled_by w m n a h
   cancelled_now w moment m a n h = inl (sym (λ j. fates_stay w moment m a (λ k commit reasons e. cc) j n) ∙ h)
 
-  pub was_committed : (es : List (Entry K V A F D Q B)) (n : ℕ) → (world S.core (effects es)).ledger.fate n ≡ Committed → Had (commits n) es
+  pub was_committed : (es : List (Entry K V A F D Q B)) (n : ℕ) → (state_after S.core (effects es)).ledger.fate n ≡ Committed → Had (commits n) es
   was_committed [] n h = absurd (cc)
-  was_committed (e ∷ es) n h = elim (committed_now (world S.core (effects es)) e.moment e.message e.answer n h) [
+  was_committed (e ∷ es) n h = elim (committed_now (state_after S.core (effects es)) e.moment e.message e.answer n h) [
     | inl older ↦ or_right (commits n e.message e.answer) (list_any (λ x. commits n x.message x.answer) es) (was_committed es n older)
     | inr now ↦ had_now (commits n) e es now
   ]
 
-  pub was_cancelled : (es : List (Entry K V A F D Q B)) (n : ℕ) → (world S.core (effects es)).ledger.fate n ≡ Cancelled → Had (cancels n) es
+  pub was_cancelled : (es : List (Entry K V A F D Q B)) (n : ℕ) → (state_after S.core (effects es)).ledger.fate n ≡ Cancelled → Had (cancels n) es
   was_cancelled [] n h = absurd (cc)
-  was_cancelled (e ∷ es) n h = elim (cancelled_now (world S.core (effects es)) e.moment e.message e.answer n h) [
+  was_cancelled (e ∷ es) n h = elim (cancelled_now (state_after S.core (effects es)) e.moment e.message e.answer n h) [
     | inl older ↦ or_right (cancels n e.message e.answer) (list_any (λ x. cancels n x.message x.answer) es) (was_cancelled es n older)
     | inr now ↦ had_now (cancels n) e es now
   ]

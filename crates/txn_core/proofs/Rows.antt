@@ -10,7 +10,7 @@ use Rattle.txn_core.specs.declared.message.Message.{Message}
 use Rattle.txn_core.specs.declared.answer.Answer.{Answer}
 use Rattle.txn_core.specs.declared.answer.HeldItem.{HeldItem}
 use Rattle.txn_core.specs.declared.entry.Entry.{Entry}
-use Rattle.txn_core.specs.World.{holder, spot_prepared, world}
+use Rattle.txn_core.specs.State.{holder, spot_prepared, state_after}
 use Rattle.txn_core.specs.Serial.{Whole, serial, shown}
 use Rattle.txn_core.specs.History.{effects, IsTimely}
 use Rattle.txn_core.specs.Legal.{accepts, applies, IsLegal}
@@ -333,16 +333,16 @@ pendings_legal = (
   },
 )
   where
-    one : All {X = HeldItem ℕ} (λ p. (p.key % 16 ≡ 1) × (holder ((world (service 16).core (effects holding)).spot p.key).pend ≡ Some p.number)) (record { key = 1; number = 1 } ∷ [])
+    one : All {X = HeldItem ℕ} (λ p. (p.key % 16 ≡ 1) × (holder ((state_after (service 16).core (effects holding)).spot p.key).pend ≡ Some p.number)) (record { key = 1; number = 1 } ∷ [])
     one zero d lt = (refl, refl)
     one (suc k) d lt = absurd (omega arith)
 
-    found : (q n : ℕ) → holder ((world (service 16).core (effects holding)).spot q).pend ≡ Some n → list_any (λ (p : HeldItem ℕ). nat_eq p.key q) (record { key = 1; number = 1 } ∷ []) ≡ true
+    found : (q n : ℕ) → holder ((state_after (service 16).core (effects holding)).spot q).pend ≡ Some n → list_any (λ (p : HeldItem ℕ). nat_eq p.key q) (record { key = 1; number = 1 } ∷ []) ≡ true
     found q n held = go (nat_eq 1 q) refl
       where
         go : (b : Bool) → nat_eq 1 q ≡ b → (nat_eq 1 q || false) ≡ true
         go true e = ap (λ x. x || false) e
-        go false e = let h = subst (λ x. holder (if x then spot_prepared (service 16).core 1 1 stamp (1, 8) ((world (service 16).core (effects (begin ∷ create ∷ []))).spot q) else (world (service 16).core (effects (begin ∷ create ∷ []))).spot q).pend ≡ Some n) e held in absurd (cc)
+        go false e = let h = subst (λ x. holder (if x then spot_prepared (service 16).core 1 1 stamp (1, 8) ((state_after (service 16).core (effects (begin ∷ create ∷ []))).spot q) else (state_after (service 16).core (effects (begin ∷ create ∷ []))).spot q).pend ≡ Some n) e held in absurd (cc)
 
 abbrev get_1 : Row
 get_1 = at_cell 2 8 1 (Message.Get 1) (Answer.Row None)

@@ -8,7 +8,7 @@ use Rattle.txn_core.specs.declared.fate.Fate.TheVariants.{Undecided, Committed, 
 use Rattle.txn_core.specs.Stamps.{earlier}
 use Rattle.txn_core.specs.Protocol.{Protocol, IsLawful}
 use Rattle.txn_core.specs.Effects.{Effect, Wrote, Begun, Commits, Cancels, Finished, Forgot, Changed}
-use Rattle.txn_core.specs.World.{Pending, Ledger, World, on_item, action_on, touches, ledger_begun, ledger_decided, world}
+use Rattle.txn_core.specs.State.{Pending, Ledger, State, on_item, action_on, touches, ledger_begun, ledger_decided, state_after}
 use Rattle.txn_core.specs.Runs.{IsRun, MayCommit}
 use Rattle.txn_core.specs.Serial.{Change, Single, Whole, Altered, begun_stamp, begun_actions, committed_numbers, is_committed, decisions, serial, standings, once_whole, is_applied, waits_on, waiting, before, shown_by, shown, Share, IsAfter, IsStampOrder}
 use Rattle.txn_core.specs.Laws.{HoldsTheTables, ActsAsAccepted}
@@ -47,25 +47,25 @@ find_none test (m ∷ ns) n e h =
 
 module _ {K V A F C D : Type 0} (P : Protocol K V A F C D) (law : IsLawful P) where
   -- a transaction waits on an item exactly where it is committed, has an action there and was not applied there
-  waits_of : (es : List (Effect K A D)) → IsRun P es → (q : K) (n : ℕ) → (world P es).ledger.fate n ≡ Committed → touches P (world P es).ledger n q ≡ true → ((world P es).spot q).applied n ≡ false → waits_on P es q n ≡ true
+  waits_of : (es : List (Effect K A D)) → IsRun P es → (q : K) (n : ℕ) → (state_after P es).ledger.fate n ≡ Committed → touches P (state_after P es).ledger n q ≡ true → ((state_after P es).spot q).applied n ≡ false → waits_on P es q n ≡ true
   waits_of es run q n f t a =
       and_from (is_some (on_item P (begun_actions es n) q)) (not (is_applied P es q n))
       (sym (ap (λ x. is_some (on_item P x q)) (actions_read P es run n)) ∙ t)
       (ap not (sym (applied_read P es q n) ∙ a))
 
-  pub committed_of : (es : List (Effect K A D)) → IsRun P es → (n : ℕ) → (world P es).ledger.fate n ≡ Committed → is_committed es n ≡ true
+  pub committed_of : (es : List (Effect K A D)) → IsRun P es → (n : ℕ) → (state_after P es).ledger.fate n ≡ Committed → is_committed es n ≡ true
   committed_of es run n f = sym (fate_read P es run n) ∙ ap is_commit f
 
-  pub committed_is : (es : List (Effect K A D)) → IsRun P es → (n : ℕ) → is_committed es n ≡ true → (world P es).ledger.fate n ≡ Committed
-  committed_is es run n h = is_commit-true ((world P es).ledger.fate n) (fate_read P es run n ∙ h)
+  pub committed_is : (es : List (Effect K A D)) → IsRun P es → (n : ℕ) → is_committed es n ≡ true → (state_after P es).ledger.fate n ≡ Committed
+  committed_is es run n h = is_commit-true ((state_after P es).ledger.fate n) (fate_read P es run n ∙ h)
 
   -- what waits on an item, in the words of the state
-  pub record Waits (w : World K V A C) (q : K) (n : ℕ) : Type 0 where
+  pub record Waits (w : State K V A C) (q : K) (n : ℕ) : Type 0 where
     pub committed : w.ledger.fate n ≡ Committed
     pub touched : touches P w.ledger n q ≡ true
     pub unapplied : (w.spot q).applied n ≡ false
 
-  pub waiting_is : (es : List (Effect K A D)) → IsRun P es → (q : K) (n : ℕ) → waiting P es q ≡ Some n → Waits (world P es) q n
+  pub waiting_is : (es : List (Effect K A D)) → IsRun P es → (q : K) (n : ℕ) → waiting P es q ≡ Some n → Waits (state_after P es) q n
   waiting_is es run q n e =
       let parts = and_parts (is_some (on_item P (begun_actions es n) q)) (not (is_applied P es q n)) (find_passes (waits_on P es q) (committed_numbers es) n e) in
       record {
@@ -75,20 +75,20 @@ module _ {K V A F C D : Type 0} (P : Protocol K V A F C D) (law : IsLawful P) wh
       }
 
   -- it holds the item, and veils what it did to the tables
-  pub holds_the_tables : (es : List (Effect K A D)) → IsRun P es → (q : K) (n : ℕ) → waiting P es q ≡ Some n → HoldsTheTables P es q n × (((world P es).spot q).row ≡ before P es n q)
+  pub holds_the_tables : (es : List (Effect K A D)) → IsRun P es → (q : K) (n : ℕ) → waiting P es q ≡ Some n → HoldsTheTables P es q n × (((state_after P es).spot q).row ≡ before P es n q)
   holds_the_tables es run q n e =
       let w = waiting_is es run q n e in
       let g = (good P law es run).spots q in
-      let h = held ((world P es).spot q).pend n (g.waits n w.committed w.touched w.unapplied) in
-      let v = g.veiled h.0 h.1 (subst (λ x. (world P es).ledger.fate x ≡ Committed) (sym h.2) w.committed) in (
+      let h = held ((state_after P es).spot q).pend n (g.waits n w.committed w.touched w.unapplied) in
+      let v = g.veiled h.0 h.1 (subst (λ x. (state_after P es).ledger.fate x ≡ Committed) (sym h.2) w.committed) in (
         record { pending = h.0; is_held = h.1; its = h.2; image = sym v.0 ∙ tab_read P es run q },
-        v.1 ∙ ap (λ x. ((world P es).spot q).base x) h.2 ∙ base_read P es run q n,
+        v.1 ∙ ap (λ x. ((state_after P es).spot q).base x) h.2 ∙ base_read P es run q n,
       )
 
-  pub rows_are_shown : (es : List (Effect K A D)) → IsRun P es → (q : K) → ((world P es).spot q).row ≡ shown P es q
+  pub rows_are_shown : (es : List (Effect K A D)) → IsRun P es → (q : K) → ((state_after P es).spot q).row ≡ shown P es q
   rows_are_shown es run q = go (waiting P es q) refl
     where
-      unveiled : waiting P es q ≡ None → (o : Option (Pending V)) → ((world P es).spot q).pend ≡ o → ((world P es).spot q).row ≡ ((world P es).spot q).tab
+      unveiled : waiting P es q ≡ None → (o : Option (Pending V)) → ((state_after P es).spot q).pend ≡ o → ((state_after P es).spot q).row ≡ ((state_after P es).spot q).tab
       unveiled e None free = ((good P law es run).spots q).free free
       unveiled e (Some p) is_held =
           ((good P law es run).spots q).open_ p is_held
@@ -96,20 +96,20 @@ module _ {K V A F C D : Type 0} (P : Protocol K V A F C D) (law : IsLawful P) wh
           (waits_of es run q p.number f (((good P law es run).spots q).named p is_held) (((good P law es run).spots q).once p is_held))
           (find_none (waits_on P es q) (committed_numbers es) p.number e (committed_of es run p.number f)))
 
-      go : (o : Option ℕ) → waiting P es q ≡ o → ((world P es).spot q).row ≡ shown_by P es q o
-      go None e = unveiled e ((world P es).spot q).pend refl ∙ tab_read P es run q
+      go : (o : Option ℕ) → waiting P es q ≡ o → ((state_after P es).spot q).row ≡ shown_by P es q o
+      go None e = unveiled e ((state_after P es).spot q).pend refl ∙ tab_read P es run q
       go (Some n) e = (holds_the_tables es run q n e).1
 
   -- at most one decision
   pub decided_once : (es : List (Effect K A D)) → IsRun P es → (n : ℕ) → decisions es n ≤ 1
-  decided_once es run n = subst (λ k. k ≤ 1) (sym (decisions_read P es run n)) (few ((world P es).ledger.fate n))
+  decided_once es run n = subst (λ k. k ≤ 1) (sym (decisions_read P es run n)) (few ((state_after P es).ledger.fate n))
     where
       few : (f : Fate) → decided_count f ≤ 1
       few Undecided = omega arith
       few _ = omega arith
 
   -- a committed number was begun before
-  pub committed_before : (es : List (Effect K A D)) → IsRun P es → (n : ℕ) → is_committed es n ≡ true → (world P es).ledger.next ≡ n → ⊥
+  pub committed_before : (es : List (Effect K A D)) → IsRun P es → (n : ℕ) → is_committed es n ≡ true → (state_after P es).ledger.next ≡ n → ⊥
   committed_before es run n h e =
       let f = committed_is es run n h in
       let u = (good P law es run).fresh n (omega arith) in cc
@@ -121,7 +121,7 @@ module _ {K V A F C D : Type 0} (P : Protocol K V A F C D) (law : IsLawful P) wh
       (λ x. x ≡ (if nat_eq m n || is_committed es n then (begun_stamp es n, begun_actions es n) ∷ [] else []))
       (λ e.
       let same = eqb-true m n e in
-      let none : is_committed es n ≡ false = sym (fate_read P es run.0 n) ∙ ap (λ k. is_commit ((world P es).ledger.fate k)) (sym same) ∙ ap is_commit run.1.first in
+      let none : is_committed es n ≡ false = sym (fate_read P es run.0 n) ∙ ap (λ k. is_commit ((state_after P es).ledger.fate k)) (sym same) ∙ ap is_commit run.1.first in
       (λ i. (begun_stamp es (same i), begun_actions es (same i)) ∷ stands_once es run.0 n i)
       ∙ ap (λ b. (begun_stamp es n, begun_actions es n) ∷ (if b then (begun_stamp es n, begun_actions es n) ∷ [] else [])) none
       ∙ sym (ap (λ b. if b || is_committed es n then (begun_stamp es n, begun_actions es n) ∷ [] else []) e))
@@ -145,18 +145,18 @@ module _ {K V A F C D : Type 0} (P : Protocol K V A F C D) (law : IsLawful P) wh
   -- at a commit, each action does to the tables what its accepted Prepare found
   pub outcome_at_commit : (es : List (Effect K A D)) (n : ℕ) → IsRun P (Commits n ∷ es) → (q : K) (a : A) → on_item P (begun_actions es n) q ≡ Some a → ActsAsAccepted P es n q a
   outcome_at_commit es n run q a e =
-      let may : MayCommit P (world P es) n = run.1 in
+      let may : MayCommit P (state_after P es) n = run.1 in
       let g = (good P law es run.0).spots q in
-      let its_action : action_on P (world P es).ledger n q ≡ Some a = ap (λ x. on_item P x q) (actions_read P es run.0 n) ∙ e in
-      let h = held ((world P es).spot q).pend n (g.ready n may.first (may.all_accepted q (ap (λ o. is_some o) its_action))) in
-      let plain = g.open_ h.0 h.1 (λ f. let u = subst (λ x. (world P es).ledger.fate x ≡ Undecided) (sym h.2) may.first in cc) in
+      let its_action : action_on P (state_after P es).ledger n q ≡ Some a = ap (λ x. on_item P x q) (actions_read P es run.0 n) ∙ e in
+      let h = held ((state_after P es).spot q).pend n (g.ready n may.first (may.all_accepted q (ap (λ o. is_some o) its_action))) in
+      let plain = g.open_ h.0 h.1 (λ f. let u = subst (λ x. (state_after P es).ledger.fate x ≡ Undecided) (sym h.2) may.first in cc) in
       record {
         pending = h.0;
         is_held = h.1;
         its = h.2;
         outcome =
             (λ i. P.act (sym (catalog_read P es) i) a ((sym (tab_read P es run.0 q) ∙ sym plain) i))
-            ∙ g.image h.0 a h.1 (subst (λ x. action_on P (world P es).ledger x q ≡ Some a) (sym h.2) its_action);
+            ∙ g.image h.0 a h.1 (subst (λ x. action_on P (state_after P es).ledger x q ≡ Some a) (sym h.2) its_action);
       }
 
   -- each transaction in the list is committed, with this stamp and these actions
@@ -172,54 +172,54 @@ module _ {K V A F C D : Type 0} (P : Protocol K V A F C D) (law : IsLawful P) wh
   all_more l m keeps (Single a ∷ cs) h = all_more l m keeps cs h
   all_more l m keeps (Altered d moment ∷ cs) h = all_more l m keeps cs h
 
-  all_whole : (es : List (Effect K A D)) → IsRun P es → AllWhole (world P es).ledger (serial es)
+  all_whole : (es : List (Effect K A D)) → IsRun P es → AllWhole (state_after P es).ledger (serial es)
   all_whole [] run = tt
   all_whole (Commits n ∷ es) run =
-      let l = (world P es).ledger in (
+      let l = (state_after P es).ledger in (
         (at_split l.fate n Committed n (λ x. x ≡ Committed) (λ e. refl) (λ e. absurd (e refl)), stamp_read P es run.0 n, actions_read P es run.0 n),
         all_more l (ledger_decided l n Committed) (λ m f. (at_split l.fate n Committed m (λ x. x ≡ Committed) (λ e. refl) (λ e. f), refl, refl)) (serial es) (all_whole es run.0),
       )
   all_whole (Begun stamp actions ∷ es) run =
-      let l = (world P es).ledger in
+      let l = (state_after P es).ledger in
       let old : (m : ℕ) → l.fate m ≡ Committed → l.next ≡ m → ⊥ = λ m f e. committed_before es run.0 m (committed_of es run.0 m f) e in
       all_more l (ledger_begun l stamp actions)
       (λ m f. (f, at_split l.stamp l.next stamp m (λ x. x ≡ l.stamp m) (λ e. absurd (old m f e)) (λ e. refl), at_split l.actions l.next actions m (λ x. x ≡ l.actions m) (λ e. absurd (old m f e)) (λ e. refl)))
       (serial es) (all_whole es run.0)
   all_whole (Cancels n ∷ es) run =
-      let l = (world P es).ledger in
+      let l = (state_after P es).ledger in
       all_more l (ledger_decided l n Cancelled)
       (λ m f. (at_split l.fate n Cancelled m (λ x. x ≡ Committed) (λ e. let u = subst (λ x. l.fate x ≡ Undecided) e run.1.1 in absurd (cc)) (λ e. f), refl, refl))
       (serial es) (all_whole es run.0)
-  all_whole (Finished n ∷ es) run = all_more (world P es).ledger (world P (Finished n ∷ es)).ledger (λ m f. (f, refl, refl)) (serial es) (all_whole es run.0)
-  all_whole (Forgot n ∷ es) run = all_more (world P es).ledger (world P (Forgot n ∷ es)).ledger (λ m f. (f, refl, refl)) (serial es) (all_whole es run.0)
+  all_whole (Finished n ∷ es) run = all_more (state_after P es).ledger (state_after P (Finished n ∷ es)).ledger (λ m f. (f, refl, refl)) (serial es) (all_whole es run.0)
+  all_whole (Forgot n ∷ es) run = all_more (state_after P es).ledger (state_after P (Forgot n ∷ es)).ledger (λ m f. (f, refl, refl)) (serial es) (all_whole es run.0)
   all_whole (Wrote a moment ∷ es) run = all_whole es run.0
   all_whole (Changed d moment ∷ es) run = all_whole es run.0
   all_whole (_ ∷ es) run = all_whole es run.0
 
   -- a transaction that commits comes after each one in the order that shares an item with it
-  after_shared : (es : List (Effect K A D)) (n : ℕ) → IsRun P (Commits n ∷ es) → (m : ℕ) (other : Stamp) (others : List A) → ((world P es).ledger.fate m ≡ Committed) × ((world P es).ledger.stamp m ≡ other) × ((world P es).ledger.actions m ≡ others) → Share P (begun_actions es n) others → earlier other (begun_stamp es n) ≡ true
-  after_shared es n run m other others whole share = applied (((world P es).spot share.0).applied m) refl
+  after_shared : (es : List (Effect K A D)) (n : ℕ) → IsRun P (Commits n ∷ es) → (m : ℕ) (other : Stamp) (others : List A) → ((state_after P es).ledger.fate m ≡ Committed) × ((state_after P es).ledger.stamp m ≡ other) × ((state_after P es).ledger.actions m ≡ others) → Share P (begun_actions es n) others → earlier other (begun_stamp es n) ≡ true
+  after_shared es n run m other others whole share = applied (((state_after P es).spot share.0).applied m) refl
     where
-      applied : (b : Bool) → ((world P es).spot share.0).applied m ≡ b → earlier other (begun_stamp es n) ≡ true
+      applied : (b : Bool) → ((state_after P es).spot share.0).applied m ≡ b → earlier other (begun_stamp es n) ≡ true
       applied b e =
-          let may : MayCommit P (world P es) n = run.1 in
-          let l = (world P es).ledger in
+          let may : MayCommit P (state_after P es) n = run.1 in
+          let l = (state_after P es).ledger in
           let g = (good P law es run.0).spots share.0 in
           let mine = ap (λ x. is_some (on_item P x share.0)) (actions_read P es run.0 n) ∙ share.1 in
           let its = ap (λ x. is_some (on_item P x share.0)) whole.2 ∙ share.2 in
-          let h = held ((world P es).spot share.0).pend n (g.ready n may.first (may.all_accepted share.0 mine)) in
-          elim b as (λ x. ((world P es).spot share.0).applied m ≡ x → earlier other (begun_stamp es n) ≡ true) [
+          let h = held ((state_after P es).spot share.0).pend n (g.ready n may.first (may.all_accepted share.0 mine)) in
+          elim b as (λ x. ((state_after P es).spot share.0).applied m ≡ x → earlier other (begun_stamp es n) ≡ true) [
             | true ↦ λ a.
                 let stamps : h.0.stamp ≡ begun_stamp es n = g.stamped h.0 h.1 ∙ ap l.stamp h.2 ∙ stamp_read P es run.0 n in
                 (λ i. earlier (sym whole.1 i) (sym stamps i)) ∙ g.above h.0 m h.1 a
             | false ↦ λ a.
-                let same : n ≡ m = sym h.2 ∙ some_is h.0.number m (sym (holder_is ((world P es).spot share.0).pend h.0 h.1) ∙ g.waits m whole.0 its a) in
+                let same : n ≡ m = sym h.2 ∙ some_is h.0.number m (sym (holder_is ((state_after P es).spot share.0).pend h.0 h.1) ∙ g.waits m whole.0 its a) in
                 let u = subst (λ x. l.fate x ≡ Undecided) same may.first in
                 let f = whole.0 in
                 absurd (cc)
           ] e
 
-  after_all : (es : List (Effect K A D)) (n : ℕ) → IsRun P (Commits n ∷ es) → (cs : List (Change A D)) → AllWhole (world P es).ledger cs → IsAfter P (begun_stamp es n) (begun_actions es n) cs
+  after_all : (es : List (Effect K A D)) (n : ℕ) → IsRun P (Commits n ∷ es) → (cs : List (Change A D)) → AllWhole (state_after P es).ledger cs → IsAfter P (begun_stamp es n) (begun_actions es n) cs
   after_all es n run [] h = tt
   after_all es n run (Whole m other others ∷ cs) h = (after_shared es n run m other others h.0, after_all es n run cs h.1)
   after_all es n run (Single a ∷ cs) h = after_all es n run cs h

@@ -9,9 +9,9 @@ use Rattle.txn_core.specs.declared.message.Message.{Message}
 use Rattle.txn_core.specs.declared.answer.Answer.{Answer}
 use Rattle.txn_core.specs.declared.entry.Entry.{Entry}
 use Rattle.txn_core.specs.Service.{Service}
-use Rattle.txn_core.specs.World.{world}
+use Rattle.txn_core.specs.State.{state_after}
 use Rattle.txn_core.specs.Answers.{KeptToken, begin_answer}
-use Rattle.txn_core.specs.History.{is_begun, is_first, tells_cancel, is_finished, finishes, effects, Had, is_over, purged, completed, freed, begun_with, kept_after, kept, found_kept}
+use Rattle.txn_core.specs.History.{is_begun, is_first, tells_cancel, is_finished, finishes, effects, Had, is_over, unless_over, completed, freed, begun_with, kept_after, kept, found_kept}
 use Rattle.txn_core.specs.Legal.{IsAnswer, IsLegal}
 use Rattle.txn_core.specs.Tokens.{done_by, draws, cancels_first, is_begin, first_done, LivesOn, Names}
 use Rattle.txn_core.proofs.Basics.{true_false}
@@ -39,7 +39,7 @@ module _ {K V A F B : Type 0} where
       (λ e. true_false (nat_eq m m) (eq-eqb m m refl) (no' u refl e m)) (λ _. refl)
   begun_leaves (Some u) t actions _ old no' = refl
 
-purged_live : {A : Type 0} (k : KeptToken A) (moment : ℕ) → is_over k.completed moment ≡ false → purged moment (Some k) ≡ Some k
+purged_live : {A : Type 0} (k : KeptToken A) (moment : ℕ) → is_over k.completed moment ≡ false → unless_over moment (Some k) ≡ Some k
 purged_live k moment e = ap (λ b. if b then None else Some k) e
 
 -- what is kept of a number while its life goes on
@@ -70,9 +70,9 @@ module _ {K V A F C D Q B : Type 0} (S : Service K V A F C D Q B) (t : List ℕ)
   -- a Begin with the token, while it is kept and its life goes on
   finds : (es : List (Entry K V A F D Q B)) (d : Option ℕ) → kept es t ≡ Some (token_of n actions d) → (moment : ℕ) → is_over d moment ≡ false → (asked : List A) (a : Answer K V A F B) (u : List ℕ) → bytes_eq u t ≡ true → IsAnswer S es moment (Message.Begin (Some u) asked) a → Names n a
   finds es d is moment live asked a u same answer =
-      let w = world S.core (effects es) in
+      let w = state_after S.core (effects es) in
       let here' : found_kept es moment (Some u) ≡ Some (token_of n actions d) =
-      ap (λ x. purged moment (kept es x)) ((bytes_eq-Decides u t).0 same) ∙ ap (λ k. purged moment k) is ∙ purged_live (token_of n actions d) moment live in
+      ap (λ x. unless_over moment (kept es x)) ((bytes_eq-Decides u t).0 same) ∙ ap (λ k. unless_over moment k) is ∙ purged_live (token_of n actions d) moment live in
       subst (λ x. Names n x) (sym (answer ∙ ap (λ k. begin_answer S.same_actions (list_all (λ x. S.core.there w.catalog (S.core.key_of x)) asked) k asked (record { moment = moment; number = w.ledger.next })) here'))
       (kept_names S.same_actions (list_all (λ x. S.core.there w.catalog (S.core.key_of x)) asked) (token_of n actions d) asked (record { moment = moment; number = w.ledger.next }))
 
@@ -80,7 +80,7 @@ module _ {K V A F C D Q B : Type 0} (S : Service K V A F C D Q B) (t : List ℕ)
   kept_step : (es since : List (Entry K V A F D Q B)) (moment : ℕ) (m : Message K V A F D Q) (a : Answer K V A F B) → kept es t ≡ Some (token_of n actions (first_done since n)) → IsAnswer S es moment m a → (cancels_first n m a || (is_begin m && is_over (first_done since n) moment)) ≡ false → kept_after moment m a t (kept es t) ≡ Some (token_of n actions (done_by (finishes n m a) moment (first_done since n)))
   kept_step es since moment (Message.Begin token asked) a is answer on =
       let live = (or_parts false (is_over (first_done since n) moment) on).1 in
-      ap (λ k. begun_with token t asked a (purged moment k)) is
+      ap (λ k. begun_with token t asked a (unless_over moment k)) is
       ∙ ap (λ k. begun_with token t asked a k) (purged_live (token_of n actions (first_done since n)) moment live)
       ∙ begun_leaves token t asked a (Some (token_of n actions (first_done since n)))
       (λ u e same j. names_no_new n j a (finds es (first_done since n) is moment live asked a u same (subst (λ x. IsAnswer S es moment (Message.Begin x asked) a) e answer)))
@@ -172,7 +172,7 @@ started {K} {V} {A} {F} {D} {Q} {B} t n start older h = go start.message start.a
     go : (m : Message K V A F D Q) (a : Answer K V A F B) → draws t n m a ≡ true → (actions : List A) × (kept_after start.moment m a t (kept older t) ≡ Some (token_of n actions None))
     go (Message.Begin (Some u) asked) a k =
         let p = and_parts (bytes_eq u t) (is_begun n a) k in
-        (asked, drawn u asked a (purged start.moment (kept older t)) p.0 p.1)
+        (asked, drawn u asked a (unless_over start.moment (kept older t)) p.0 p.1)
     go (Message.Begin None asked) a k = absurd (cc)
     go (Message.Unfinished) a k = absurd (cc)
     go _ a k = absurd (cc)

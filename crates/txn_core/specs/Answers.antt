@@ -8,7 +8,7 @@ use Rattle.txn_core.specs.declared.answer.Answer.{Answer}
 use Rattle.txn_core.specs.Stamps.{earlier}
 use Rattle.txn_core.specs.declared.outcome.Outcome.{Outcome}
 use Rattle.txn_core.specs.declared.outcome.Outcome.TheVariants.{New, Unmet, Fails}
-use Rattle.txn_core.specs.World.{Ledger}
+use Rattle.txn_core.specs.State.{Ledger}
 
 -- what is kept with a token: the number and the actions of its transaction, and the moment of its first Done
 pub record KeptToken (A : Type 0) : Type 0 where
@@ -75,7 +75,9 @@ module _ {K V A F B : Type 0} where
   begin_answer same false kept actions stamp = Answer.Stale
   begin_answer same true None actions stamp = Answer.Begun stamp.number stamp
   begin_answer same true (Some kept) actions stamp =
-      if same kept.actions actions then (if is_some kept.completed then Answer.Repeat kept.number else Answer.Running kept.number) else Answer.Mismatch kept.number
+      if same kept.actions actions
+      then (if is_some kept.completed then Answer.Repeat kept.number else Answer.Running kept.number)
+      else Answer.Mismatch kept.number
 
   -- a Decide: the first one sets the fate
   abbrev pub decide_answer : Bool → Fate → Bool → Answer K V A F B

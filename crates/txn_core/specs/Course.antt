@@ -54,7 +54,9 @@ is_known _ = false
 -- one more verdict, where a Prepare comes next
 abbrev pub with_verdict : Told → Verdict → Told
 with_verdict told verdict =
-    if is_undecided told.fate && nat_lt (length told.verdicts) told.actions then record told { verdicts = told.verdicts ++ verdict ∷ [] } else told
+    if is_undecided told.fate && nat_lt (length told.verdicts) told.actions
+    then record told { verdicts = told.verdicts ++ verdict ∷ [] }
+    else told
 
 -- the fate, where none was told before
 abbrev pub with_fate : Told → Fate → Told

@@ -167,14 +167,15 @@ is_over (Some completed) moment = nat_le (completed + token_life) moment
 
 module _ {A : Type 0} where
   -- a token whose life is over is dropped by the next Begin
-  abbrev pub purged : ℕ → Option (KeptToken A) → Option (KeptToken A)
-  purged moment None = None
-  purged moment (Some kept) = if is_over kept.completed moment then None else Some kept
+  abbrev pub unless_over : ℕ → Option (KeptToken A) → Option (KeptToken A)
+  unless_over moment None = None
+  unless_over moment (Some kept) = if is_over kept.completed moment then None else Some kept
 
   -- the number's first Done completes it
   abbrev pub completed : ℕ → ℕ → Option (KeptToken A) → Option (KeptToken A)
   completed n moment None = None
-  completed n moment (Some kept) = if nat_eq kept.number n && not (is_some kept.completed) then Some (record kept { completed = Some moment }) else Some kept
+  completed n moment (Some kept) =
+      if nat_eq kept.number n && not (is_some kept.completed) then Some (record kept { completed = Some moment }) else Some kept
 
   -- a cancel of the number frees it
   abbrev pub freed : ℕ → Option (KeptToken A) → Option (KeptToken A)
@@ -183,13 +184,16 @@ module _ {A : Type 0} where
 
 module _ {K V A F B : Type 0} where
   -- the token is kept where its Begin drew a number
-  abbrev pub begun_with : Option (List ℕ) → List ℕ → List A → Answer K V A F B → Option (KeptToken A) → Option (KeptToken A)
-  begun_with (Some token) t actions (Answer.Begun n stamp) old = if bytes_eq token t then Some (record { number = n; actions = actions; completed = None }) else old
+  abbrev pub begun_with :
+      Option (List ℕ) → List ℕ → List A → Answer K V A F B → Option (KeptToken A) → Option (KeptToken A)
+  begun_with (Some token) t actions (Answer.Begun n stamp) old =
+      if bytes_eq token t then Some (record { number = n; actions = actions; completed = None }) else old
   begun_with _ t actions _ old = old
 
 module _ {K V A F D Q B : Type 0} where
-  abbrev pub kept_after : ℕ → Message K V A F D Q → Answer K V A F B → List ℕ → Option (KeptToken A) → Option (KeptToken A)
-  kept_after moment (Message.Begin token actions) a t old = begun_with token t actions a (purged moment old)
+  abbrev pub kept_after :
+      ℕ → Message K V A F D Q → Answer K V A F B → List ℕ → Option (KeptToken A) → Option (KeptToken A)
+  kept_after moment (Message.Begin token actions) a t old = begun_with token t actions a (unless_over moment old)
   kept_after moment (Message.Done n) a t old = if is_finished a then completed n moment old else old
   kept_after moment (Message.Decide n commit reasons) a t old = if is_first a && tells_cancel a then freed n old else old
   kept_after moment _ a t old = old
@@ -202,4 +206,4 @@ module _ {K V A F D Q B : Type 0} where
   -- what a Begin at this moment finds for its token
   abbrev pub found_kept : List (Entry K V A F D Q B) → ℕ → Option (List ℕ) → Option (KeptToken A)
   found_kept es moment None = None
-  found_kept es moment (Some token) = purged moment (kept es token)
+  found_kept es moment (Some token) = unless_over moment (kept es token)

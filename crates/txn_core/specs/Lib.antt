@@ -2,7 +2,7 @@ pub mod Stamps
 pub mod Protocol
 pub mod Service
 pub mod Effects
-pub mod World
+pub mod State
 pub mod Runs
 pub mod Serial
 pub mod Answers

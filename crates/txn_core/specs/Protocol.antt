@@ -46,6 +46,8 @@ pub record IsLawful {K V A F C D : Type 0} (P : Protocol K V A F C D) : Type 0 w
   pub one_place : (c : C) (x y : K) → P.same x y ≡ true → P.there c x ≡ P.there c y
   pub one_gift : (d : D) (c : C) (x y : K) → P.same x y ≡ true → P.adds d c x ≡ P.adds d c y
   -- a table that a command brings has a number that was not drawn before
-  pub comes : (d : D) (moment : ℕ) (c : C) (x : K) → P.there (P.change d moment c) x ≡ true → (P.there c x ≡ true) ⊎ (P.drawn c < P.table x)
+  pub comes :
+      (d : D) (moment : ℕ) (c : C) (x : K) → P.there (P.change d moment c) x ≡ true
+      → (P.there c x ≡ true) ⊎ (P.drawn c < P.table x)
   pub known : (c : C) (x : K) → P.there c x ≡ true → P.table x ≤ P.drawn c
   pub grows : (d : D) (moment : ℕ) (c : C) → P.drawn c ≤ P.drawn (P.change d moment c)

@@ -1,23 +1,24 @@
 -- Words for the replay of a history.
-use Rattle.std.specs.Prelude.{◌≡◌, ◌≤◌, ℕ, false, length, All, AllPairs, Bool, true, not, ◌&&◌, nat_eq, List, [], ◌∷◌, if◌then◌else◌}
+use Rattle.std.specs.Prelude.{◌≡◌, ◌⊎◌, ℕ, false, All, Any, Bool, true, not, ◌&&◌, nat_eq, List, [], ◌∷◌, Option, Some, if◌then◌else◌}
 use Rattle.std.specs.List.{list_any}
 use Rattle.txn_core.specs.declared.stamp.Stamp.{Stamp}
+use Rattle.txn_core.specs.declared.reason.Reason.{Reason}
 use Rattle.txn_core.specs.declared.message.Message.{Message}
 use Rattle.txn_core.specs.declared.answer.Answer.{Answer}
-use Rattle.txn_core.specs.declared.deed.Deed.{Deed}
-use Rattle.txn_core.specs.declared.deed.Deed.TheVariants.{Begun, Committed, Cancelled, Finished, Forgotten, NoTable}
-use Rattle.txn_core.specs.declared.deed.ItemDeed.{ItemDeed}
-use Rattle.txn_core.specs.declared.deed.ItemDeed.TheVariants.{Accepted, Applied, Released}
-use Rattle.txn_core.specs.Protocol.{Protocol}
-use Rattle.txn_core.specs.Service.{Service}
+use Rattle.txn_core.specs.declared.fact.Fact.{Fact}
+use Rattle.txn_core.specs.declared.fact.Fact.TheVariants.{Begun, Committed, Cancelled, Finished, Forgotten, NoTable}
+use Rattle.txn_core.specs.declared.fact.ItemFact.{ItemFact}
+use Rattle.txn_core.specs.declared.fact.ItemFact.TheVariants.{Accepted, Applied, Released}
 use Rattle.txn_core.specs.declared.entry.Entry.{Entry}
+use Rattle.txn_core.specs.Protocol.{Protocol}
+use Rattle.txn_core.specs.Service.{Service, Asked, Reply, Event, History}
 use Rattle.txn_core.specs.Serial.{begun_actions}
 use Rattle.txn_core.specs.Effects.{Effect}
-use Rattle.txn_core.specs.History.{effects, Had, begins, commits, cancels, finishes, forgets, finds_no_table}
-use Rattle.txn_core.specs.Legal.{accepts, applies, releases}
+use Rattle.txn_core.specs.History.{reason_of, effects, Had, begins, commits, cancels, finishes, forgets, finds_no_table}
+use Rattle.txn_core.specs.Legal.{accepts, applies, releases, prepares}
 
 -- an entry tells this of a number
-abbrev pub tells : {K V A F D Q B : Type 0} → Deed → ℕ → Message K V A F D Q → Answer K V A F B → Bool
+abbrev pub tells : {K V A F D Q B : Type 0} → Fact → ℕ → Message K V A F D Q → Answer K V A F B → Bool
 tells Begun n m a = begins n m a
 tells Committed n m a = commits n m a
 tells Cancelled n m a = cancels n m a
@@ -25,11 +26,37 @@ tells Finished n m a = finishes n m a
 tells Forgotten n m a = forgets n m a
 tells NoTable n m a = finds_no_table n m a
 
--- and of a number on an item
-abbrev pub tells_on : {K V A F C D Q B : Type 0} → Service K V A F C D Q B → ItemDeed → ℕ → K → Message K V A F D Q → Answer K V A F B → Bool
-tells_on S Accepted n k m a = accepts S n k m a
-tells_on S Applied n k m a = applies S n k m a
-tells_on S Released n k m a = releases S n k m a
+-- a PeekOut of the source, answered with exactly this change
+abbrev pub Shows : {K V A F D Q B : Type 0} → ℕ → ℕ → ℕ → ℕ → K → Option V → Entry K V A F D Q B → Type 0
+Shows source sequence index target row_key after e =
+    (e.message ≡ Message.PeekOut source) × (e.answer ≡ Answer.Out sequence index target row_key after)
+
+module _ {K V A F C D Q B : Type 0} (S : Service K V A F C D Q B) where
+  -- and of a number on an item
+  abbrev pub tells_on : ItemFact → ℕ → K → Asked S → Reply S → Bool
+  tells_on Accepted n k m a = accepts S n k m a
+  tells_on Applied n k m a = applies S n k m a
+  tells_on Released n k m a = releases S n k m a
+
+  -- it was told of the number on the item of each of these actions
+  abbrev pub HadOnEach : ItemFact → ℕ → List A → History S → Type 0
+  HadOnEach fact n actions es = All (λ x. Had (tells_on fact n (S.core.key_of x)) es) actions
+
+  -- the number was decided so, and this was told of it on each item
+  abbrev pub IsFinishable : Fact → ItemFact → ℕ → History S → Type 0
+  IsFinishable decided ended n es = Had (tells decided n) es × HadOnEach ended n (begun_actions (effects es) n) es
+
+  -- it was committed and applied on each item, or cancelled and released on each
+  abbrev pub IsSettled : ℕ → History S → Type 0
+  IsSettled n es = IsFinishable Committed Applied n es ⊎ IsFinishable Cancelled Released n es
+
+  -- a Prepare of the number on the item, answered with this reason
+  abbrev pub RefusesWith : ℕ → K → Reason V F → Event S → Type 0
+  RefusesWith n k reason e = (prepares S n k e.message ≡ true) × (reason_of e.answer ≡ Some reason)
+
+  -- one of the actions is on the item
+  abbrev pub touch : List A → K → Bool
+  touch actions k = list_any (λ x. S.core.same k (S.core.key_of x)) actions
 
 -- the stamp and the actions with which a number was begun, where the effect begins it, else the older ones
 abbrev pub stamp_by : {K A D : Type 0} → ℕ → Effect K A D → Stamp → Stamp
@@ -44,15 +71,6 @@ actions_by n _ older = older
 abbrev pub are_apart : {K V A F C D : Type 0} → Protocol K V A F C D → List A → Bool
 are_apart P [] = true
 are_apart P (x ∷ xs) = not (list_any (λ y. P.same (P.key_of x) (P.key_of y)) xs) && are_apart P xs
-
--- 1 to 100 actions, on items that differ
-abbrev pub begins_fit : {K V A F C D : Type 0} → Protocol K V A F C D → List A → Type 0
-begins_fit P actions = (1 ≤ length actions) × (length actions ≤ 100) × AllPairs (λ x y. P.same (P.key_of x) (P.key_of y) ≡ false) actions
-
--- the number was decided so, and this was told of it on each item
-abbrev pub is_finishable : {K V A F C D Q B : Type 0} → Service K V A F C D Q B → Deed → ItemDeed → ℕ → List (Entry K V A F D Q B) → Type 0
-is_finishable S decided ended n es =
-    Had (tells decided n) es × All (λ x. Had (tells_on S ended n (S.core.key_of x)) es) (begun_actions (effects es) n)
 
 abbrev pub is_command : {K V A F D Q : Type 0} → Message K V A F D Q → Bool
 is_command (Message.Command d) = true

@@ -5,7 +5,7 @@ use Rattle.txn_core.specs.declared.stamp.Stamp.{Stamp}
 use Rattle.txn_core.specs.Stamps.{earlier, single}
 use Rattle.txn_core.specs.Protocol.{after, Protocol}
 use Rattle.txn_core.specs.Effects.{Effect, Wrote, Begun, Commits, Cancels, Applied, Changed}
-use Rattle.txn_core.specs.World.{kept_or, on_item, after_action}
+use Rattle.txn_core.specs.State.{kept_or, on_item, after_action}
 
 -- what stands in the one order: a single write, a transaction whole, a change of the catalog
 pub data Change (A D : Type 0) : Type 0 where

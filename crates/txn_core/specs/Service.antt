@@ -1,5 +1,8 @@
 -- What the messages need to know beside the protocol: tokens, the catalog's own answers, and the cells' numbers.
 use Rattle.std.specs.Prelude.{◌≡◌, ℕ, Bool, true, false, List, Option, None}
+use Rattle.txn_core.specs.declared.message.Message.{Message}
+use Rattle.txn_core.specs.declared.answer.Answer.{Answer}
+use Rattle.txn_core.specs.declared.entry.Entry.{Entry}
 use Rattle.txn_core.specs.declared.ruling.Ruling.{Ruling}
 use Rattle.txn_core.specs.Protocol.{Protocol, IsLawful}
 
@@ -27,5 +30,24 @@ pub record Service (K V A F C D Q B : Type 0) : Type 0 where
 pub record IsServiceLawful {K V A F C D Q B : Type 0} (S : Service K V A F C D Q B) : Type 0 where
   pub core : IsLawful S.core
   pub one_concern : (d : D) (c : C) (x y : K) → S.core.same x y ≡ true → S.concerns d c x ≡ S.concerns d c y
-  pub spares : (d : D) (moment : ℕ) (c : C) (q : K) → S.refuses d c ≡ None → S.concerns d c q ≡ false → S.core.there c q ≡ true → S.core.there (S.core.change d moment c) q ≡ true
-  pub acts_alike : (d : D) (moment : ℕ) (c : C) (q : K) (a : A) (v : Option V) → S.refuses d c ≡ None → S.concerns d c q ≡ false → S.core.there c q ≡ true → S.core.same (S.core.key_of a) q ≡ true → S.core.act (S.core.change d moment c) a v ≡ S.core.act c a v
+  pub spares :
+      (d : D) (moment : ℕ) (c : C) (q : K) → S.refuses d c ≡ None → S.concerns d c q ≡ false
+      → S.core.there c q ≡ true → S.core.there (S.core.change d moment c) q ≡ true
+  pub acts_alike :
+      (d : D) (moment : ℕ) (c : C) (q : K) (a : A) (v : Option V) → S.refuses d c ≡ None → S.concerns d c q ≡ false
+      → S.core.there c q ≡ true → S.core.same (S.core.key_of a) q ≡ true
+      → S.core.act (S.core.change d moment c) a v ≡ S.core.act c a v
+
+-- under these rules: what is asked and answered, an entry, and a history, which is its entries, the newest first
+module _ {K V A F C D Q B : Type 0} (S : Service K V A F C D Q B) where
+  abbrev pub Asked : Type 0
+  Asked = Message K V A F D Q
+
+  abbrev pub Reply : Type 0
+  Reply = Answer K V A F B
+
+  abbrev pub Event : Type 0
+  Event = Entry K V A F D Q B
+
+  abbrev pub History : Type 0
+  History = List (Entry K V A F D Q B)

@@ -3,7 +3,7 @@ ghost use Rattle.txn_core.specs.History.{begins, commits, cancels, finishes, for
 ghost use Rattle.txn_core.specs.Replay.{tells, stamp_by, actions_by};
 
 use crate::answer::Answer;
-use crate::deed::Deed;
+use crate::fact::Fact;
 use crate::fate::Fate;
 use crate::message::Message;
 use crate::reason::Reason;
@@ -39,16 +39,16 @@ pub type Event<R> = Entry<
 
 impl<K, V, A, F, D, Q, B> Entry<K, V, A, F, D, Q, B> {
     /// Whether it tells this of the number.
-    pub fn tells(&self, deed: Deed, number: u64) -> bool
-        ensures { result ≡ tells deed number self.now.message self.now.answer }
+    pub fn tells(&self, fact: Fact, number: u64) -> bool
+        ensures { result ≡ tells fact number self.now.message self.now.answer }
     {
-        match deed {
-            Deed::Begun => self.begins(number),
-            Deed::Committed => self.commits(number),
-            Deed::Cancelled => self.cancels(number),
-            Deed::Finished => self.finishes(number),
-            Deed::Forgotten => self.forgets(number),
-            Deed::NoTable => self.finds_no_table(number),
+        match fact {
+            Fact::Begun => self.begins(number),
+            Fact::Committed => self.commits(number),
+            Fact::Cancelled => self.cancels(number),
+            Fact::Finished => self.finishes(number),
+            Fact::Forgotten => self.forgets(number),
+            Fact::NoTable => self.finds_no_table(number),
         }
     }
 

@@ -1,15 +1,14 @@
 //! What a message needs of the entries before it.
 ghost use Rattle.std.specs.Prelude.{◌≡◌, ◌≢◌, ◌↔◌, ◌≤◌, ◌⊎◌, ℕ, Bool, true, false, reverse, length, All, Any, AllPairs, IsTrue, MatchBool, Some};
-ghost use Rattle.std.specs.List.{list_any};
-ghost use Rattle.txn_core.specs.World.{on_item};
-ghost use Rattle.txn_core.specs.History.{reason_of, Had};
+ghost use Rattle.txn_core.specs.State.{IsAmong};
+ghost use Rattle.txn_core.specs.History.{reason_of};
 ghost use Rattle.txn_core.specs.Legal.{prepares, AreTold, HasCause, WasPeeked};
-ghost use Rattle.txn_core.specs.Replay.{tells_on, are_apart};
+ghost use Rattle.txn_core.specs.Replay.{are_apart, touch, HadOnEach, RefusesWith, Shows};
 ghost use Rattle.txn_core.specs.declared.reason.Reason.{Reason};
 
 use crate::answer::Answer;
-use crate::deed::{Deed, ItemDeed};
 use crate::entry::Event;
+use crate::fact::{Fact, ItemFact};
 use crate::message::Message;
 use crate::past::{was, was_on};
 use crate::reason::Reason;
@@ -17,7 +16,7 @@ use crate::rules::Rules;
 
 /// Whether one of the actions is on the item.
 fn touch<R: Rules>(actions: &[R::Action], key: &R::Key) -> bool
-    ensures { (partitions : ℕ) → result ≡ list_any (λ x. (R.protocol partitions).core.same key.now ((R.protocol partitions).core.key_of x)) actions.now }
+    ensures { (partitions : ℕ) → result ≡ touch (R.protocol partitions) actions.now key.now }
 {
     for action in actions {
         if R::is_same(key, R::key_of(action)) {
@@ -43,7 +42,7 @@ pub fn are_apart<R: Rules>(actions: &[R::Action]) -> bool
 
 /// Whether the action is the one among these on its item.
 pub fn is_action_of<R: Rules>(actions: &[R::Action], action: &R::Action) -> bool
-    ensures { (partitions : ℕ) → (IsTrue result ↔ (on_item (R.protocol partitions).core actions.now ((R.protocol partitions).core.key_of action.now) ≡ Some action.now)) }
+    ensures { (partitions : ℕ) → (IsTrue result ↔ IsAmong (R.protocol partitions).core actions.now action.now) }
 {
     for each in actions {
         if R::is_same(R::key_of(each), R::key_of(action)) {
@@ -56,14 +55,14 @@ pub fn is_action_of<R: Rules>(actions: &[R::Action], action: &R::Action) -> bool
 /// Whether this was told of the number on the item of each action.
 pub fn was_on_all<R: Rules>(
     past: &[Event<R>],
-    deed: ItemDeed,
+    fact: ItemFact,
     number: u64,
     actions: &[R::Action],
 ) -> bool
-    ensures { (partitions : ℕ) → (IsTrue result ↔ All (λ x. Had (tells_on (R.protocol partitions) deed number ((R.protocol partitions).core.key_of x)) (reverse past.now)) actions.now) }
+    ensures { (partitions : ℕ) → (IsTrue result ↔ HadOnEach (R.protocol partitions) fact number actions.now (reverse past.now)) }
 {
     for action in actions {
-        if !was_on::<R>(past, deed, number, R::key_of(action)) {
+        if !was_on::<R>(past, fact, number, R::key_of(action)) {
             return false;
         }
     }
@@ -123,7 +122,7 @@ fn was_told<R: Rules>(
     key: &R::Key,
     reason: &Reason<R::Value, R::Fault>,
 ) -> bool
-    ensures { (partitions : ℕ) → (IsTrue result ↔ Any (λ e. (prepares (R.protocol partitions) number key.now e.message ≡ true) × (reason_of e.answer ≡ Some reason.now)) (reverse past.now)) }
+    ensures { (partitions : ℕ) → (IsTrue result ↔ Any (RefusesWith (R.protocol partitions) number key.now reason.now) (reverse past.now)) }
 {
     for entry in past {
         if refuses_with::<R>(entry, number, key, reason) {
@@ -140,7 +139,7 @@ fn refuses_with<R: Rules>(
     key: &R::Key,
     reason: &Reason<R::Value, R::Fault>,
 ) -> bool
-    ensures { (partitions : ℕ) → (IsTrue result ↔ ((prepares (R.protocol partitions) number key.now entry.now.message ≡ true) × (reason_of entry.now.answer ≡ Some reason.now))) }
+    ensures { (partitions : ℕ) → (IsTrue result ↔ RefusesWith (R.protocol partitions) number key.now reason.now entry.now) }
 {
     prepares::<R>(entry, number, key) && gives::<R>(&entry.answer, reason)
 }
@@ -196,7 +195,7 @@ pub fn has_cause<R: Rules>(
     if have_refusal(reasons) {
         are_told::<R>(past, number, actions, reasons)
     } else {
-        was::<R>(past, Deed::NoTable, number) && reasons.len() == actions.len()
+        was::<R>(past, Fact::NoTable, number) && reasons.len() == actions.len()
     }
 }
 
@@ -232,7 +231,7 @@ fn shows<R: Rules>(
     row_key: &R::Key,
     after: &Option<R::Value>,
 ) -> bool
-    ensures { IsTrue result ↔ ((entry.now.message ≡ Message.PeekOut source) × (entry.now.answer ≡ Answer.Out sequence index target row_key.now after.now)) }
+    ensures { IsTrue result ↔ Shows source sequence index target row_key.now after.now entry.now }
 {
     match (&entry.message, &entry.answer) {
         (

@@ -20,7 +20,7 @@
 //! its rules and that of answers are together what makes a history legal.
 //!
 //! The definitions stand in `specs/` in reading order: `Protocol` and `Service` (what is asked of
-//! tables), `Effects`, `World` and `Runs` (what entries change, and when that may happen), `Serial`
+//! tables), `Effects`, `State` and `Runs` (what entries change, and when that may happen), `Serial`
 //! (the one order and its tables), `Answers`, `History` and `Legal` (legal histories), `Breaks`
 //! (their rules one by one), `Replay` (words of the checker), `Tokens`, `Course` and `Driver`,
 //! `Cells` (what the cells hold apart), and `Laws`. `Simple` is one table of numbers on which they
@@ -34,9 +34,9 @@
 mod answer;
 pub mod cells;
 mod course;
-mod deed;
 pub mod driver;
 mod entry;
+mod fact;
 mod fate;
 mod grounds;
 mod kind;

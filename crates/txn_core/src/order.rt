@@ -1,14 +1,14 @@
 //! The rules of legal histories one by one, but for the answers.
-ghost use Rattle.std.specs.Prelude.{◌≡◌, ◌↔◌, ◌≤◌, ◌⊎◌, ℕ, reverse, Some, IsTrue};
-ghost use Rattle.txn_core.specs.World.{on_item};
-ghost use Rattle.txn_core.specs.Serial.{begun_stamp, begun_actions};
-ghost use Rattle.txn_core.specs.History.{Had, begins, cancels, forgets, effects};
-ghost use Rattle.txn_core.specs.Legal.{HasGround, sent_to};
-ghost use Rattle.txn_core.specs.Replay.{begins_fit, is_finishable, is_command};
-ghost use Rattle.txn_core.specs.Breaks.{AreAlike, NamesBegun, HasGroundFor, AppliesLate, ReleasesLate, FinishesLate, ForgetsLate, FeedsInOrder};
+ghost use Rattle.std.specs.Prelude.{◌≡◌, ◌↔◌, ◌≤◌, ◌⊎◌, ℕ, reverse, IsTrue};
+ghost use Rattle.txn_core.specs.Serial.{begun_stamp};
+ghost use Rattle.txn_core.specs.History.{Had, cancels, forgets, effects};
+ghost use Rattle.txn_core.specs.Legal.{HasGround, BeginFits, Allowed, sent_to};
+ghost use Rattle.txn_core.specs.Replay.{IsFinishable, IsSettled, is_command};
+ghost use Rattle.txn_core.specs.declared.message.Message.{Message};
+ghost use Rattle.txn_core.specs.Breaks.{HaveOneReach, NamesBegun, HasGroundFor, AppliesLate, ReleasesLate, FinishesLate, ForgetsLate, FeedsInOrder};
 
-use crate::deed::{Deed, ItemDeed};
 use crate::entry::Event;
+use crate::fact::{Fact, ItemFact};
 use crate::grounds::{are_apart, has_cause, is_action_of, was_on_all, was_peeked};
 use crate::message::Message;
 use crate::past::{actions_of, stamp_of, was, was_begun_by, was_fed};
@@ -38,13 +38,13 @@ pub fn names_begun<R: Rules>(past: &[Event<R>], message: &Asked<R>) -> bool
             stamp,
             action,
         } => { may_prepare::<R>(past, *number, *stamp, action) }
-        Message::Decide { number, .. } => was::<R>(past, Deed::Begun, *number),
+        Message::Decide { number, .. } => was::<R>(past, Fact::Begun, *number),
         _ => true,
     }
 }
 
 fn may_begin<R: Rules>(actions: &[R::Action]) -> bool
-    ensures { (partitions : ℕ) → (IsTrue result ↔ begins_fit (R.protocol partitions).core actions.now) }
+    ensures { (partitions : ℕ) → (IsTrue result ↔ BeginFits (R.protocol partitions) actions.now) }
 {
     let many = actions.len();
     if many < 1 {
@@ -57,9 +57,10 @@ fn may_begin<R: Rules>(actions: &[R::Action]) -> bool
 }
 
 fn may_prepare<R: Rules>(past: &[Event<R>], number: u64, stamp: Stamp, action: &R::Action) -> bool
-    ensures { (partitions : ℕ) → (IsTrue result ↔ (Had (begins number) (reverse past.now) × (stamp ≡ begun_stamp (effects (reverse past.now)) number) × (on_item (R.protocol partitions).core (begun_actions (effects (reverse past.now)) number) ((R.protocol partitions).core.key_of action.now) ≡ Some action.now))) }
+    ensures { (partitions pass : ℕ) → (IsTrue result
+        ↔ Allowed (R.protocol partitions) (reverse past.now) pass (Message.Prepare number stamp action.now)) }
 {
-    if !was::<R>(past, Deed::Begun, number) {
+    if !was::<R>(past, Fact::Begun, number) {
         return false;
     }
     if !has_stamp::<R>(past, number, stamp) {
@@ -104,7 +105,7 @@ fn has_ground<R: Rules>(
 {
     let actions = actions_of::<R>(past, number);
     if commit {
-        was_on_all::<R>(past, ItemDeed::Accepted, number, actions)
+        was_on_all::<R>(past, ItemFact::Accepted, number, actions)
     } else {
         has_cause::<R>(past, number, actions, reasons)
     }
@@ -115,7 +116,7 @@ pub fn applies_late<R: Rules>(past: &[Event<R>], message: &Asked<R>) -> bool
     ensures { (partitions pass : ℕ) → (IsTrue result ↔ AppliesLate (R.protocol partitions) (reverse past.now) pass message.now) }
 {
     match message {
-        Message::Apply { number, .. } => was::<R>(past, Deed::Committed, *number),
+        Message::Apply { number, .. } => was::<R>(past, Fact::Committed, *number),
         _ => true,
     }
 }
@@ -133,7 +134,7 @@ pub fn releases_late<R: Rules>(past: &[Event<R>], message: &Asked<R>) -> bool
 fn may_release<R: Rules>(past: &[Event<R>], number: u64) -> bool
     ensures { IsTrue result ↔ (Had (cancels number) (reverse past.now) ⊎ Had (forgets number) (reverse past.now)) }
 {
-    was::<R>(past, Deed::Cancelled, number) || was::<R>(past, Deed::Forgotten, number)
+    was::<R>(past, Fact::Cancelled, number) || was::<R>(past, Fact::Forgotten, number)
 }
 
 /// Whether a Done comes after an Apply of each action and the commit, or a Release of each and the
@@ -143,7 +144,7 @@ pub fn finishes_late<R: Rules>(past: &[Event<R>], message: &Asked<R>) -> bool
 {
     match message {
         Message::Done { number } => {
-            was::<R>(past, Deed::Begun, *number) && is_settled::<R>(past, *number)
+            was::<R>(past, Fact::Begun, *number) && is_settled::<R>(past, *number)
         }
         _ => true,
     }
@@ -151,15 +152,15 @@ pub fn finishes_late<R: Rules>(past: &[Event<R>], message: &Asked<R>) -> bool
 
 /// Whether the number was committed and applied on each item, or cancelled and released on each.
 fn is_settled<R: Rules>(past: &[Event<R>], number: u64) -> bool
-    ensures { (partitions : ℕ) → (IsTrue result ↔ (is_finishable (R.protocol partitions) Deed.Committed ItemDeed.Applied number (reverse past.now) ⊎ is_finishable (R.protocol partitions) Deed.Cancelled ItemDeed.Released number (reverse past.now))) }
+    ensures { (partitions : ℕ) → (IsTrue result ↔ IsSettled (R.protocol partitions) number (reverse past.now)) }
 {
-    is_over::<R>(past, Deed::Committed, ItemDeed::Applied, number)
-        || is_over::<R>(past, Deed::Cancelled, ItemDeed::Released, number)
+    is_ended::<R>(past, Fact::Committed, ItemFact::Applied, number)
+        || is_ended::<R>(past, Fact::Cancelled, ItemFact::Released, number)
 }
 
 /// Whether the number was decided so, and this was told of it on each item.
-fn is_over<R: Rules>(past: &[Event<R>], decided: Deed, ended: ItemDeed, number: u64) -> bool
-    ensures { (partitions : ℕ) → (IsTrue result ↔ is_finishable (R.protocol partitions) decided ended number (reverse past.now)) }
+fn is_ended<R: Rules>(past: &[Event<R>], decided: Fact, ended: ItemFact, number: u64) -> bool
+    ensures { (partitions : ℕ) → (IsTrue result ↔ IsFinishable (R.protocol partitions) decided ended number (reverse past.now)) }
 {
     was::<R>(past, decided, number)
         && was_on_all::<R>(past, ended, number, actions_of::<R>(past, number))
@@ -171,7 +172,7 @@ pub fn forgets_late<R: Rules>(past: &[Event<R>], pass: u32, message: &Asked<R>) 
 {
     match message {
         Message::Forget { number } => {
-            was::<R>(past, Deed::Finished, *number) && was_begun_by::<R>(past, pass, *number)
+            was::<R>(past, Fact::Finished, *number) && was_begun_by::<R>(past, pass, *number)
         }
         _ => true,
     }
@@ -197,8 +198,8 @@ pub fn feeds_in_order<R: Rules>(partitions: u32, past: &[Event<R>], message: &As
 }
 
 /// Whether a command is over all cells, and any other message at one.
-pub fn is_over_its_cells<R: Rules>(cell: Option<u32>, message: &Asked<R>) -> bool
-    ensures { (partitions : ℕ) → (IsTrue result ↔ AreAlike cell (sent_to (R.protocol partitions) message.now)) }
+pub fn has_its_reach<R: Rules>(cell: Option<u32>, message: &Asked<R>) -> bool
+    ensures { (partitions : ℕ) → (IsTrue result ↔ HaveOneReach cell (sent_to (R.protocol partitions) message.now)) }
 {
     match cell {
         None => is_command(message),

@@ -8,19 +8,19 @@ ghost use Rattle.txn_core.specs.Legal.{accepts, applies, releases, feeds};
 ghost use Rattle.txn_core.specs.Replay.{tells, tells_on};
 
 use crate::answer::Answer;
-use crate::deed::{Deed, ItemDeed};
 use crate::entry::Event;
+use crate::fact::{Fact, ItemFact};
 use crate::message::Message;
 use crate::reason::Reason;
 use crate::rules::Rules;
 use crate::stamp::Stamp;
 
 /// Whether an entry told this of the number.
-pub fn was<R: Rules>(past: &[Event<R>], deed: Deed, number: u64) -> bool
-    ensures { result ≡ list_any (λ e. tells deed number e.message e.answer) (reverse past.now) }
+pub fn was<R: Rules>(past: &[Event<R>], fact: Fact, number: u64) -> bool
+    ensures { result ≡ list_any (λ e. tells fact number e.message e.answer) (reverse past.now) }
 {
     for entry in past {
-        if entry.tells(deed, number) {
+        if entry.tells(fact, number) {
             return true;
         }
     }
@@ -28,24 +28,24 @@ pub fn was<R: Rules>(past: &[Event<R>], deed: Deed, number: u64) -> bool
 }
 
 /// Whether an entry told this of the number on the item.
-pub fn was_on<R: Rules>(past: &[Event<R>], deed: ItemDeed, number: u64, key: &R::Key) -> bool
-    ensures { (partitions : ℕ) → result ≡ list_any (λ e. tells_on (R.protocol partitions) deed number key.now e.message e.answer) (reverse past.now) }
+pub fn was_on<R: Rules>(past: &[Event<R>], fact: ItemFact, number: u64, key: &R::Key) -> bool
+    ensures { (partitions : ℕ) → result ≡ list_any (λ e. tells_on (R.protocol partitions) fact number key.now e.message e.answer) (reverse past.now) }
 {
     for entry in past {
-        if tells_on::<R>(entry, deed, number, key) {
+        if tells_on::<R>(entry, fact, number, key) {
             return true;
         }
     }
     false
 }
 
-fn tells_on<R: Rules>(entry: &Event<R>, deed: ItemDeed, number: u64, key: &R::Key) -> bool
-    ensures { (partitions : ℕ) → result ≡ tells_on (R.protocol partitions) deed number key.now entry.now.message entry.now.answer }
+fn tells_on<R: Rules>(entry: &Event<R>, fact: ItemFact, number: u64, key: &R::Key) -> bool
+    ensures { (partitions : ℕ) → result ≡ tells_on (R.protocol partitions) fact number key.now entry.now.message entry.now.answer }
 {
-    match deed {
-        ItemDeed::Accepted => accepts::<R>(entry, number, key),
-        ItemDeed::Applied => applies::<R>(entry, number, key),
-        ItemDeed::Released => releases::<R>(entry, number, key),
+    match fact {
+        ItemFact::Accepted => accepts::<R>(entry, number, key),
+        ItemFact::Applied => applies::<R>(entry, number, key),
+        ItemFact::Released => releases::<R>(entry, number, key),
     }
 }
 

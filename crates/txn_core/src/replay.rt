@@ -1,10 +1,10 @@
-ghost use Rattle.std.specs.Prelude.{◌≡◌, ◌≤◌, reverse, None, MatchOption};
-ghost use Rattle.txn_core.specs.Breaks.{KeepsAll, IsFirstBroken, AllKeep, IsFirstBreak, of_sending};
+ghost use Rattle.std.specs.Prelude.{◌≤◌, reverse};
+ghost use Rattle.txn_core.specs.Breaks.{BreaksFirst, StopsAt, of_sending};
 
 use crate::entry::Event;
 use crate::kind::BreakKind;
 use crate::order::{
-    applies_late, feeds_in_order, finishes_late, forgets_late, has_ground_for, is_over_its_cells,
+    applies_late, feeds_in_order, finishes_late, forgets_late, has_ground_for, has_its_reach,
     names_begun, releases_late,
 };
 use crate::rules::Rules;
@@ -26,7 +26,7 @@ pub struct Break {
 /// entries in steps, where the actions of a transaction, 100 at most, count as one step.
 pub fn sending_check<R: Rules>(partitions: u32, entries: &[Event<R>]) -> Option<Break>
     requires { 1 ≤ partitions }
-    ensures { MatchOption result (AllKeep (R.protocol partitions) of_sending (reverse entries.now)) (λ found. IsFirstBreak (R.protocol partitions) of_sending entries.now found.place found.kind) }
+    ensures { StopsAt (R.protocol partitions) of_sending entries.now result }
 {
     for (place, entry) in entries.iter().enumerate() {
         if let Some(kind) = broken_rule::<R>(partitions, &entries[..place], entry) {
@@ -39,7 +39,7 @@ pub fn sending_check<R: Rules>(partitions: u32, entries: &[Event<R>]) -> Option<
 /// The first rule of what may be sent that the entry breaks.
 fn broken_rule<R: Rules>(partitions: u32, past: &[Event<R>], entry: &Event<R>) -> Option<BreakKind>
     requires { 1 ≤ partitions }
-    ensures { MatchOption result (KeepsAll (R.protocol partitions) of_sending (reverse past.now) entry.now) (IsFirstBroken (R.protocol partitions) of_sending (reverse past.now) entry.now) }
+    ensures { BreaksFirst (R.protocol partitions) of_sending (reverse past.now) entry.now result }
 {
     let message = &entry.message;
     if !names_begun::<R>(past, message) {
@@ -66,7 +66,7 @@ fn broken_rule<R: Rules>(partitions: u32, past: &[Event<R>], entry: &Event<R>) -
     if !feeds_in_order::<R>(partitions, past, message) {
         return Some(BreakKind::IndexOrder);
     }
-    if !is_over_its_cells::<R>(entry.cell, message) {
+    if !has_its_reach::<R>(entry.cell, message) {
         return Some(BreakKind::AllCells);
     }
     None

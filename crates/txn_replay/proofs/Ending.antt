@@ -1,6 +1,6 @@
 -- The first break by all rules, from the first that a rule of answers finds and the first that those of sending find.
 use Rattle.std.proofs.Common.{◌≡◌, inl, inr, ℕ, ◌+◌, ◌-◌, ◌<◌, ◌≤◌, List, [], ◌∷◌, ◌++◌, length, take, drop, get_or, reverse, Option, None, Some, refl, sym, ap, ◌∙◌, subst, arith}
-use Rattle.std.specs.Prelude.{MatchOption, IfSome}
+use Rattle.std.specs.Prelude.{IfSome}
 use Rattle.std.proofs.lemmas.List.{get_or-take, reverse-append, get_or_default, take-take}
 use Rattle.std.proofs.Math.Seq.{take-add, take-length}
 use Rattle.txn_core.specs.declared.entry.Entry.{Entry}
@@ -8,7 +8,7 @@ use Rattle.txn_core.specs.declared.kind.BreakKind.{BreakKind}
 use Rattle.txn_core.specs.declared.replay.Break.{Break}
 use Rattle.txn_core.specs.declared.kind.BreakKind.TheVariants.{WrongAnswer}
 use Rattle.txn_core.specs.Service.{Service}
-use Rattle.txn_core.specs.Breaks.{Keeps, IsFirstBroken, AllKeep, IsFirstBreak, of_sending, in_order}
+use Rattle.txn_core.specs.Breaks.{Keeps, IsFirstBroken, AllKeep, IsFirstBreak, StopsAt, of_sending, in_order}
 use Rattle.txn_core.proofs.Reversed.{newest}
 use Rattle.txn_replay.specs.Ends.{ends_at}
 
@@ -73,7 +73,7 @@ module _ {K V A F C D Q B : Type 0} (S : Service K V A F C D Q B) where
 
 module _ {K V A F C D Q B : Type 0} (S : Service K V A F C D Q B) (entries : List (Entry K V A F D Q B)) where
   -- all that is sent may be sent before the place that is looked at
-  pub sent_before : (place end : ℕ) (sent : Option Break) → MatchOption sent (AllKeep S of_sending (reverse entries)) (λ found. IsFirstBreak S of_sending entries found.place found.kind) → place < end → ends_at (length entries) sent ≡ end → AllKeep S of_sending (reverse (take place entries)) × (end ≤ length entries)
+  pub sent_before : (place end : ℕ) (sent : Option Break) → StopsAt S of_sending entries sent → place < end → ends_at (length entries) sent ≡ end → AllKeep S of_sending (reverse (take place entries)) × (end ≤ length entries)
   sent_before place end None keep lt at =
       let within : place ≤ length entries = omega arith in
       (beginning_keeps S of_sending entries place (length entries) within (subst (λ l. AllKeep S of_sending (reverse l)) (sym (take-length entries)) keep), omega arith)
@@ -82,6 +82,6 @@ module _ {K V A F C D Q B : Type 0} (S : Service K V A F C D Q B) (entries : Lis
       let inside = first.within in
       (beginning_keeps S of_sending entries place found.place within first.before, omega arith)
 
-  pub place_within : (sent : Option Break) → MatchOption sent (AllKeep S of_sending (reverse entries)) (λ found. IsFirstBreak S of_sending entries found.place found.kind) → IfSome sent (λ found. found.place < length entries) × (ends_at (length entries) sent ≤ length entries)
+  pub place_within : (sent : Option Break) → StopsAt S of_sending entries sent → IfSome sent (λ found. found.place < length entries) × (ends_at (length entries) sent ≤ length entries)
   place_within None keep = (tt, omega arith)
   place_within (Some found) first = let inside = first.within in (inside, omega arith)

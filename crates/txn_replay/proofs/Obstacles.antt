@@ -8,13 +8,13 @@ use Rattle.txn_core.specs.declared.answer.Answer.{Answer}
 use Rattle.txn_core.specs.declared.ruling.Ruling.{Ruling}
 use Rattle.txn_core.specs.Service.{Service, IsServiceLawful}
 use Rattle.txn_core.specs.Effects.{Effect}
-use Rattle.txn_core.specs.World.{Pending, holder, world}
+use Rattle.txn_core.specs.State.{Pending, holder, state_after}
 use Rattle.txn_core.specs.Legal.{IsInTheWay, IsClear, IsRuled, ruling_answer}
 use Rattle.txn_core.proofs.Basics.{none_some, some_is, held}
 use Rattle.txn_replay.specs.declared.tracked.Tracked.{Tracked}
 use Rattle.txn_replay.specs.declared.commands.Obstacle.{Obstacle}
 use Rattle.txn_replay.specs.Items.{item_in}
-use Rattle.txn_replay.specs.State.{IsShown, Fits, IsState}
+use Rattle.txn_replay.specs.Replica.{IsShown, Fits, IsReplica}
 use Rattle.txn_replay.specs.Ways.{is_before, first_of_two, obstacle_by, obstacle_in, IsFirstOf}
 use Rattle.txn_replay.proofs.Holding.{slot_of_held, shows_holder}
 
@@ -80,15 +80,15 @@ module _ (ways : ℕ → Option Obstacle) (i : ℕ) where
         ],
       ))
 
-module _ {K V A F C D Q B : Type 0} (S : Service K V A F C D Q B) (law : IsServiceLawful S) (keys : List (Option K)) (es : List (Effect K A D)) (now : C) (slots : List (Option (Tracked K V))) (state : IsState S keys (world S.core es) now slots) (d : D) where
+module _ {K V A F C D Q B : Type 0} (S : Service K V A F C D Q B) (law : IsServiceLawful S) (keys : List (Option K)) (es : List (Effect K A D)) (now : C) (slots : List (Option (Tracked K V))) (state : IsReplica S keys (state_after S.core es) now slots) (d : D) where
   -- an item of the command's table that is held stands in a slot
-  way_at : (q : K) (n : ℕ) → S.concerns d (world S.core es).catalog q ≡ true → holder ((world S.core es).spot q).pend ≡ Some n → (k : ℕ) × (k < length slots) × (obstacle_in S d now (get_or slots k None) ≡ Some (record { cell = S.core.cell_of q; number = n }))
-  way_at q n concerned holds = at_slot (held ((world S.core es).spot q).pend n holds)
+  way_at : (q : K) (n : ℕ) → S.concerns d (state_after S.core es).catalog q ≡ true → holder ((state_after S.core es).spot q).pend ≡ Some n → (k : ℕ) × (k < length slots) × (obstacle_in S d now (get_or slots k None) ≡ Some (record { cell = S.core.cell_of q; number = n }))
+  way_at q n concerned holds = at_slot (held ((state_after S.core es).spot q).pend n holds)
     where
-      at_slot : (p : Pending V) × (((world S.core es).spot q).pend ≡ Some p) × (p.number ≡ n) → (k : ℕ) × (k < length slots) × (obstacle_in S d now (get_or slots k None) ≡ Some (record { cell = S.core.cell_of q; number = n }))
+      at_slot : (p : Pending V) × (((state_after S.core es).spot q).pend ≡ Some p) × (p.number ≡ n) → (k : ℕ) × (k < length slots) × (obstacle_in S d now (get_or slots k None) ≡ Some (record { cell = S.core.cell_of q; number = n }))
       at_slot (p, is, number) = go (slot_of_held S law keys es now slots state q p is)
         where
-          go : (k : ℕ) × (t : Tracked K V) × (get_or slots k None ≡ Some t) × (S.core.same t.key q ≡ true) × IsShown S (world S.core es) t → (k : ℕ) × (k < length slots) × (obstacle_in S d now (get_or slots k None) ≡ Some (record { cell = S.core.cell_of q; number = n }))
+          go : (k : ℕ) × (t : Tracked K V) × (get_or slots k None ≡ Some t) × (S.core.same t.key q ≡ true) × IsShown S (state_after S.core es) t → (k : ℕ) × (k < length slots) × (obstacle_in S d now (get_or slots k None) ≡ Some (record { cell = S.core.cell_of q; number = n }))
           go (k, t, at, same, shown) = (
             k,
             elim (cases_lt k (length slots)) [ inl l ↦ l | inr g ↦ none_some (get_or slots k None) t (get_or_past slots k None g) at ],
@@ -116,19 +116,19 @@ module _ {K V A F C D Q B : Type 0} (S : Service K V A F C D Q B) (law : IsServi
           let same : record { cell = t.home; number = m } ≡ a = some_is (record { cell = t.home; number = m }) a (sym (ap (λ h. obstacle_by t.home h) e) ∙ o) in
           record { concerned = yes'; holds = e ∙ (λ j. Some (same j).number); home = λ j. (same j).cell }
 
-  pub clear_of : IsFirstOf (λ k. obstacle_in S d now (get_or slots k None)) (length slots) None → IsClear S (world S.core es) d
-  clear_of none q concerned = by_pend ((world S.core es).spot q).pend refl
+  pub clear_of : IsFirstOf (λ k. obstacle_in S d now (get_or slots k None)) (length slots) None → IsClear S (state_after S.core es) d
+  clear_of none q concerned = by_pend ((state_after S.core es).spot q).pend refl
     where
-      by_pend : (o : Option (Pending V)) → ((world S.core es).spot q).pend ≡ o → ((world S.core es).spot q).pend ≡ None
+      by_pend : (o : Option (Pending V)) → ((state_after S.core es).spot q).pend ≡ o → ((state_after S.core es).spot q).pend ≡ None
       by_pend None e = e
       by_pend (Some p) e =
           let way = way_at q p.number concerned (ap (λ o. holder o) e) in
           none_some (obstacle_in S d now (get_or slots way.0 None)) (record { cell = S.core.cell_of q; number = p.number }) (none way.0 way.1) way.2
 
-  pub way_of : (a : Obstacle) → IsFirstOf (λ k. obstacle_in S d now (get_or slots k None)) (length slots) (Some a) → IsInTheWay S (world S.core es) d a.number
+  pub way_of : (a : Obstacle) → IsFirstOf (λ k. obstacle_in S d now (get_or slots k None)) (length slots) (Some a) → IsInTheWay S (state_after S.core es) d a.number
   way_of a ((k, is), least) = by_slot (get_or slots k None) refl (state.fits k)
     where
-      by_slot : (s : Option (Tracked K V)) → get_or slots k None ≡ s → Fits S (world S.core es) (get_or keys k None) s → IsInTheWay S (world S.core es) d a.number
+      by_slot : (s : Option (Tracked K V)) → get_or slots k None ≡ s → Fits S (state_after S.core es) (get_or keys k None) s → IsInTheWay S (state_after S.core es) d a.number
       by_slot None e fits = none_some (obstacle_in S d now (get_or slots k None)) a (ap (λ s. obstacle_in S d now s) e) is
       by_slot (Some t) e fits =
           let told : IsWay a t = told_by a t (sym (ap (λ s. obstacle_in S d now s) e) ∙ is) in
@@ -143,35 +143,35 @@ module _ {K V A F C D Q B : Type 0} (S : Service K V A F C D Q B) (law : IsServi
                 (parts a.cell a.number (S.core.cell_of q) m (least way.0 (record { cell = S.core.cell_of q; number = m }) way.1 way.2));
           }
 
-  one_way : (n m : ℕ) → IsInTheWay S (world S.core es) d n → IsInTheWay S (world S.core es) d m → n ≤ m
+  one_way : (n m : ℕ) → IsInTheWay S (state_after S.core es) d n → IsInTheWay S (state_after S.core es) d m → n ≤ m
   one_way n m x y = elim (x.least y.item m y.concerned y.holds) [
     | inl l ↦ elim (y.least x.item n x.concerned x.holds) [ inl r ↦ absurd (omega arith) | inr r ↦ (let e = r.0 in absurd (omega arith)) ]
     | inr l ↦ l.1
   ]
 
   module _ (moment : ℕ) (a : Answer K V A F B) (b : Bool) where
-    refused_now : (o : Option B) → o ≡ S.refuses d now → o ≡ S.refuses d (world S.core es).catalog
+    refused_now : (o : Option B) → o ≡ S.refuses d now → o ≡ S.refuses d (state_after S.core es).catalog
     refused_now o e = e ∙ ap (λ c. S.refuses d c) state.catalog
 
-    pub ruled_by : (o : Option B) → o ≡ S.refuses d now → IsTrue b ↔ IsRuled S (world S.core es) d moment o a → IsTrue b ↔ IsRuled S (world S.core es) d moment (S.refuses d (world S.core es).catalog) a
-    ruled_by o e h = subst (λ z. IsTrue b ↔ IsRuled S (world S.core es) d moment z a) (refused_now o e) h
+    pub ruled_by : (o : Option B) → o ≡ S.refuses d now → IsTrue b ↔ IsRuled S (state_after S.core es) d moment o a → IsTrue b ↔ IsRuled S (state_after S.core es) d moment (S.refuses d (state_after S.core es).catalog) a
+    ruled_by o e h = subst (λ z. IsTrue b ↔ IsRuled S (state_after S.core es) d moment z a) (refused_now o e) h
 
-    pub ruled_held : (n : ℕ) → IsInTheWay S (world S.core es) d n → IsTrue b ↔ (a ≡ Answer.Held n) → IsTrue b ↔ IsRuled S (world S.core es) d moment None a
+    pub ruled_held : (n : ℕ) → IsInTheWay S (state_after S.core es) d n → IsTrue b ↔ (a ≡ Answer.Held n) → IsTrue b ↔ IsRuled S (state_after S.core es) d moment None a
     ruled_held n way h = (λ t. inl (n, h.0 t, way), back)
       where
-        back : IsRuled S (world S.core es) d moment None a → IsTrue b
+        back : IsRuled S (state_after S.core es) d moment None a → IsTrue b
         back (inl (m, is, other)) = let e : m ≡ n = equal m n (one_way m n other way) (one_way n m way other) in h.1 (is ∙ ap (λ k. Answer.Held k) e)
           where
             equal : (m n : ℕ) → m ≤ n → n ≤ m → m ≡ n
             equal m n le ge = omega arith
-        back (inr (is, clear)) = none_some (holder ((world S.core es).spot way.item).pend) n (ap (λ o. holder o) (clear way.item way.concerned)) way.holds
+        back (inr (is, clear)) = none_some (holder ((state_after S.core es).spot way.item).pend) n (ap (λ o. holder o) (clear way.item way.concerned)) way.holds
 
-    pub ruled_clear : IsClear S (world S.core es) d → (ruling : Ruling B) → ruling ≡ S.rules d moment now → IsTrue b ↔ (a ≡ ruling_answer S ruling) → IsTrue b ↔ IsRuled S (world S.core es) d moment None a
+    pub ruled_clear : IsClear S (state_after S.core es) d → (ruling : Ruling B) → ruling ≡ S.rules d moment now → IsTrue b ↔ (a ≡ ruling_answer S ruling) → IsTrue b ↔ IsRuled S (state_after S.core es) d moment None a
     ruled_clear clear ruling ruled h = (λ t. inr (h.0 t ∙ rules_are, clear), back)
       where
-        rules_are : ruling_answer S ruling ≡ ruling_answer S (S.rules d moment (world S.core es).catalog)
+        rules_are : ruling_answer S ruling ≡ ruling_answer S (S.rules d moment (state_after S.core es).catalog)
         rules_are = ap (λ r. ruling_answer S r) ruled ∙ ap (λ c. ruling_answer S (S.rules d moment c)) state.catalog
 
-        back : IsRuled S (world S.core es) d moment None a → IsTrue b
-        back (inl (m, is, way)) = none_some (holder ((world S.core es).spot way.item).pend) m (ap (λ o. holder o) (clear way.item way.concerned)) way.holds
+        back : IsRuled S (state_after S.core es) d moment None a → IsTrue b
+        back (inl (m, is, way)) = none_some (holder ((state_after S.core es).spot way.item).pend) m (ap (λ o. holder o) (clear way.item way.concerned)) way.holds
         back (inr (is, other)) = h.1 (is ∙ sym rules_are)

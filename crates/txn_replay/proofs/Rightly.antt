@@ -8,24 +8,24 @@ use Rattle.txn_core.specs.declared.message.Message.{Message}
 use Rattle.txn_core.specs.declared.answer.Answer.{Answer}
 use Rattle.txn_core.specs.declared.entry.Entry.{Entry}
 use Rattle.txn_core.specs.Service.{Service}
-use Rattle.txn_core.specs.World.{Cell, holder, here, world}
+use Rattle.txn_core.specs.State.{Tally, holder, here, state_after}
 use Rattle.txn_core.specs.Answers.{KeptToken, begin_answer, get_answer, write_answer, prepare_answer, apply_answer, release_answer, version_answer}
 use Rattle.txn_core.specs.History.{effects, found_kept}
 use Rattle.txn_core.specs.Legal.{IsAnswer}
 use Rattle.txn_core.specs.Cells.{Item, item}
 use Rattle.txn_replay.specs.declared.tracked.Tracked.{Tracked}
-use Rattle.txn_replay.specs.Items.{item_in, cell_in, last_in}
-use Rattle.txn_replay.specs.State.{IsShown, key_in}
+use Rattle.txn_replay.specs.Items.{item_in, tally_in, last_in}
+use Rattle.txn_replay.specs.Replica.{IsShown, key_in}
 use Rattle.txn_replay.proofs.Leaving.{some_key}
 
-module _ {K V A F C D Q B : Type 0} (S : Service K V A F C D Q B) (es : List (Entry K V A F D Q B)) (cat : C) (cat_is : cat ≡ (world S.core (effects es)).catalog) (t : Tracked K V) (shown : IsShown S (world S.core (effects es)) t) (m : Message K V A F D Q) (names : key_in S m ≡ Some t.key) (moment : ℕ) (a : Answer K V A F B) (b : Bool) where
+module _ {K V A F C D Q B : Type 0} (S : Service K V A F C D Q B) (es : List (Entry K V A F D Q B)) (cat : C) (cat_is : cat ≡ (state_after S.core (effects es)).catalog) (t : Tracked K V) (shown : IsShown S (state_after S.core (effects es)) t) (m : Message K V A F D Q) (names : key_in S m ≡ Some t.key) (moment : ℕ) (a : Answer K V A F B) (b : Bool) where
   -- what holds of the catalog, the item and the cell that are kept holds of those of the state
-  lift : (X : C → Item V → Cell → Type 0) (k : K) → k ≡ t.key → X cat (item_in t.item) (cell_in t.cell) → X (world S.core (effects es)).catalog (item ((world S.core (effects es)).spot k)) (here S.core (world S.core (effects es)) k)
+  lift : (X : C → Item V → Tally → Type 0) (k : K) → k ≡ t.key → X cat (item_in t.item) (tally_in t.cell) → X (state_after S.core (effects es)).catalog (item ((state_after S.core (effects es)).spot k)) (here S.core (state_after S.core (effects es)) k)
   lift X k at_key h =
-      let w = world S.core (effects es) in
+      let w = state_after S.core (effects es) in
       let x : item_in t.item ≡ item (w.spot k) = shown.item ∙ ap (λ q. item (w.spot q)) (sym at_key) in
-      let d : cell_in t.cell ≡ here S.core w k = shown.cell ∙ ap (λ q. here S.core w q) (sym at_key) in
-      subst (λ z. X w.catalog (item (w.spot k)) z) d (subst (λ z. X w.catalog z (cell_in t.cell)) x (subst (λ z. X z (item_in t.item) (cell_in t.cell)) cat_is h))
+      let d : tally_in t.cell ≡ here S.core w k = shown.cell ∙ ap (λ q. here S.core w q) (sym at_key) in
+      subst (λ z. X w.catalog (item (w.spot k)) z) d (subst (λ z. X w.catalog z (tally_in t.cell)) x (subst (λ z. X z (item_in t.item) (tally_in t.cell)) cat_is h))
 
   named : (z : Message K V A F D Q) (k : K) → m ≡ z → key_in S z ≡ Some k → k ≡ t.key
   named z k is of_key = some_key k t.key (sym of_key ∙ sym (ap (λ y. key_in S y) is) ∙ names)
@@ -41,7 +41,7 @@ module _ {K V A F C D Q B : Type 0} (S : Service K V A F C D Q B) (es : List (En
       back (Message.Write action) is
       (lift (λ c x d. IsTrue b ↔ (a ≡ write_answer (S.core.there c (S.core.key_of action)) (holder x.pend) x.row (S.core.act c action x.row))) (S.core.key_of action) (named (Message.Write action) (S.core.key_of action) is refl) h)
 
-  pub prepare_right : (n : ℕ) (stamp : Stamp) (action : A) → m ≡ Message.Prepare n stamp action → IsTrue b ↔ (a ≡ prepare_answer (S.core.there cat (S.core.key_of action)) (holder (item_in t.item).pend) n (last_in (cell_in t.cell) (item_in t.item)) stamp (item_in t.item).row (S.core.act cat action (item_in t.item).row)) → IsTrue b ↔ IsAnswer S es moment m a
+  pub prepare_right : (n : ℕ) (stamp : Stamp) (action : A) → m ≡ Message.Prepare n stamp action → IsTrue b ↔ (a ≡ prepare_answer (S.core.there cat (S.core.key_of action)) (holder (item_in t.item).pend) n (last_in (tally_in t.cell) (item_in t.item)) stamp (item_in t.item).row (S.core.act cat action (item_in t.item).row)) → IsTrue b ↔ IsAnswer S es moment m a
   prepare_right n stamp action is h =
       back (Message.Prepare n stamp action) is
       (lift (λ c x d. IsTrue b ↔ (a ≡ prepare_answer (S.core.there c (S.core.key_of action)) (holder x.pend) n (last_in d x) stamp x.row (S.core.act c action x.row))) (S.core.key_of action) (named (Message.Prepare n stamp action) (S.core.key_of action) is refl) h)
@@ -52,7 +52,7 @@ module _ {K V A F C D Q B : Type 0} (S : Service K V A F C D Q B) (es : List (En
   pub release_right : (n : ℕ) (k : K) → m ≡ Message.Release n k → IsTrue b ↔ (a ≡ release_answer (holder (item_in t.item).pend) n) → IsTrue b ↔ IsAnswer S es moment m a
   release_right n k is h = back (Message.Release n k) is (lift (λ c x d. IsTrue b ↔ (a ≡ release_answer (holder x.pend) n)) k (named (Message.Release n k) k is refl) h)
 
-  pub version_right : (k : K) → m ≡ Message.ReadVersion k → IsTrue b ↔ (a ≡ version_answer (S.core.there cat k) (item_in t.item).row (item_in t.item).version (cell_in t.cell).gone (holder (item_in t.item).pend)) → IsTrue b ↔ IsAnswer S es moment m a
+  pub version_right : (k : K) → m ≡ Message.ReadVersion k → IsTrue b ↔ (a ≡ version_answer (S.core.there cat k) (item_in t.item).row (item_in t.item).version (tally_in t.cell).gone (holder (item_in t.item).pend)) → IsTrue b ↔ IsAnswer S es moment m a
   version_right k is h =
       back (Message.ReadVersion k) is
       (lift (λ c x d. IsTrue b ↔ (a ≡ version_answer (S.core.there c k) x.row x.version d.gone (holder x.pend))) k (named (Message.ReadVersion k) k is refl) h)
@@ -68,18 +68,18 @@ other_right S (Message.ReadVersion k) key names a b c d e f = f k refl
 other_right S _ key names a b c d e f = absurd (cc)
 
 -- a Begin, by whether the tables are there
-module _ {K V A F C D Q B : Type 0} (S : Service K V A F C D Q B) (es : List (Entry K V A F D Q B)) (cat : C) (cat_is : cat ≡ (world S.core (effects es)).catalog) (moment : ℕ) (token : Option (List ℕ)) (actions : List A) (a : Answer K V A F B) (b : Bool) (there : Bool) (there_is : there ≡ list_all (λ x. S.core.there cat (S.core.key_of x)) actions) where
-  all_there : there ≡ list_all (λ x. S.core.there (world S.core (effects es)).catalog (S.core.key_of x)) actions
+module _ {K V A F C D Q B : Type 0} (S : Service K V A F C D Q B) (es : List (Entry K V A F D Q B)) (cat : C) (cat_is : cat ≡ (state_after S.core (effects es)).catalog) (moment : ℕ) (token : Option (List ℕ)) (actions : List A) (a : Answer K V A F B) (b : Bool) (there : Bool) (there_is : there ≡ list_all (λ x. S.core.there cat (S.core.key_of x)) actions) where
+  all_there : there ≡ list_all (λ x. S.core.there (state_after S.core (effects es)).catalog (S.core.key_of x)) actions
   all_there = there_is ∙ (λ j. list_all (λ x. S.core.there (cat_is j) (S.core.key_of x)) actions)
 
   pub begin_gone : there ≡ false → IsTrue b ↔ (a ≡ Answer.Stale) → IsTrue b ↔ IsAnswer S es moment (Message.Begin token actions) a
   begin_gone no' h =
-      subst (λ x. IsTrue b ↔ (a ≡ begin_answer S.same_actions x (found_kept es moment token) actions (record { moment = moment; number = (world S.core (effects es)).ledger.next }))) (sym no' ∙ all_there) h
+      subst (λ x. IsTrue b ↔ (a ≡ begin_answer S.same_actions x (found_kept es moment token) actions (record { moment = moment; number = (state_after S.core (effects es)).ledger.next }))) (sym no' ∙ all_there) h
 
-  pub begin_there : there ≡ true → (kept : Option (KeptToken A)) → kept ≡ found_kept es moment token → (number : ℕ) → number ≡ (world S.core (effects es)).ledger.next → IsTrue b ↔ (a ≡ begin_answer S.same_actions true kept actions (record { moment = moment; number = number })) → IsTrue b ↔ IsAnswer S es moment (Message.Begin token actions) a
+  pub begin_there : there ≡ true → (kept : Option (KeptToken A)) → kept ≡ found_kept es moment token → (number : ℕ) → number ≡ (state_after S.core (effects es)).ledger.next → IsTrue b ↔ (a ≡ begin_answer S.same_actions true kept actions (record { moment = moment; number = number })) → IsTrue b ↔ IsAnswer S es moment (Message.Begin token actions) a
   begin_there yes' kept kept_is number number_is h =
-      subst (λ x. IsTrue b ↔ (a ≡ begin_answer S.same_actions x (found_kept es moment token) actions (record { moment = moment; number = (world S.core (effects es)).ledger.next }))) (sym yes' ∙ all_there)
-      (subst (λ k. IsTrue b ↔ (a ≡ begin_answer S.same_actions true k actions (record { moment = moment; number = (world S.core (effects es)).ledger.next }))) kept_is
+      subst (λ x. IsTrue b ↔ (a ≡ begin_answer S.same_actions x (found_kept es moment token) actions (record { moment = moment; number = (state_after S.core (effects es)).ledger.next }))) (sym yes' ∙ all_there)
+      (subst (λ k. IsTrue b ↔ (a ≡ begin_answer S.same_actions true k actions (record { moment = moment; number = (state_after S.core (effects es)).ledger.next }))) kept_is
       (subst (λ n. IsTrue b ↔ (a ≡ begin_answer S.same_actions true kept actions (record { moment = moment; number = n }))) number_is h))
 
 -- every message that names no item is one of these

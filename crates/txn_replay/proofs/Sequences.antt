@@ -9,10 +9,10 @@ use Rattle.std.proofs.lemmas.List.{get_or-map, get_or_push, get_or_append_left, 
 use Rattle.std.proofs.lemmas.List.Edits.{map_over_more}
 use Rattle.txn_core.specs.declared.entry.Entry.{Entry}
 use Rattle.txn_core.specs.Service.{Service}
-use Rattle.txn_core.specs.World.{World}
+use Rattle.txn_core.specs.State.{State}
 use Rattle.txn_core.proofs.Reversed.{whole}
 use Rattle.txn_replay.specs.declared.tracked.Tracked.{Tracked}
-use Rattle.txn_replay.specs.State.{key_in, keys_of, Fits}
+use Rattle.txn_replay.specs.Replica.{key_in, keys_of, Fits}
 
 module _ {X : Type 0} (f : X → X) (xs ys : List X) (i : ℕ) where
   pub mapped_more : (x y : X) → i < length xs → ys ≡ map f (take i xs) ++ drop i xs → x ≡ get_or ys i x → y ≡ f (get_or ys i x) → set ys i y ≡ map f (take (i + 1) xs) ++ drop (i + 1) xs
@@ -24,7 +24,7 @@ module _ {X : Type 0} (f : X → X) (xs ys : List X) (i : ℕ) where
 pub key_at : {K V A F C D Q B : Type 0} (S : Service K V A F C D Q B) (es : List (Entry K V A F D Q B)) (i : ℕ) (e : Entry K V A F D Q B) → i < length es → e ≡ get_or es i e → get_or (keys_of S es) i None ≡ key_in S e.message
 key_at S es i e lt is = get_or-map (λ x. key_in S x.message) es i e None lt ∙ ap (λ x. key_in S x.message) (sym is)
 
-module _ {K V A F C D Q B : Type 0} (S : Service K V A F C D Q B) (w : World K V A C) (es : List (Entry K V A F D Q B)) (i : ℕ) (xs : List (Option (Tracked K V))) (as_long : length xs ≡ i) where
+module _ {K V A F C D Q B : Type 0} (S : Service K V A F C D Q B) (w : State K V A C) (es : List (Entry K V A F D Q B)) (i : ℕ) (xs : List (Option (Tracked K V))) (as_long : length xs ≡ i) where
   pub fits_more : (e : Entry K V A F D Q B) (slot : Option (Tracked K V)) → i < length es → e ≡ get_or es i e → ((k : ℕ) → k < i → Fits S w (get_or (keys_of S es) k None) (get_or xs k None)) → Fits S w (key_in S e.message) slot → (k : ℕ) → k < i + 1 → Fits S w (get_or (keys_of S es) k None) (get_or (xs ++ slot ∷ []) k None)
   fits_more e slot lt is each fits k less = go (cases_lt k i)
     where

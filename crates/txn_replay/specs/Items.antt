@@ -2,7 +2,7 @@
 use Rattle.std.specs.Prelude.{ℕ, false, Option, None, Some}
 use Rattle.txn_core.specs.declared.stamp.Stamp.{Stamp}
 use Rattle.txn_core.specs.Protocol.{Protocol}
-use Rattle.txn_core.specs.World.{Pending, Spot, Cell, last, cell_after, spot_wrote, spot_prepared, spot_applied, spot_released}
+use Rattle.txn_core.specs.State.{Pending, Spot, Tally, last, tally_after, spot_wrote, spot_prepared, spot_applied, spot_released}
 use Rattle.txn_core.specs.Cells.{Item, item}
 use Rattle.txn_replay.specs.declared.tracked.Counters.{Counters}
 use Rattle.txn_replay.specs.declared.tracked.Hold.{Hold}
@@ -16,30 +16,30 @@ pending (Some h) = Some (record { number = h.number; stamp = h.stamp; image = h.
 abbrev pub item_in : {V : Type 0} → ItemState V → Item V
 item_in s = record { row = s.row; stamp = s.stamp; version = s.version; pend = pending s.hold }
 
-abbrev pub cell_in : Counters → Cell
-cell_in c = record { floor = c.floor; count = c.count; gone = c.gone }
+abbrev pub tally_in : Counters → Tally
+tally_in c = record { floor = c.floor; count = c.count; gone = c.gone }
 
 -- a spot that holds this item, with nothing of what no cell holds
 abbrev pub spot_in : {V : Type 0} → Item V → Spot V
 spot_in x =
     record { row = x.row; stamp = x.stamp; version = x.version; pend = x.pend; tab = None; base = λ n. None; accepted = λ n. false; applied = λ n. false }
 
-abbrev pub last_in : {V : Type 0} → Cell → Item V → Stamp
+abbrev pub last_in : {V : Type 0} → Tally → Item V → Stamp
 last_in c x = last c (spot_in x)
 
 -- an item and its cell after it was changed to this row, at a stamp
-abbrev pub cell_put : {V : Type 0} → Cell → Item V → Option V → Stamp → Cell
-cell_put c x row own = cell_after c (spot_in x) row own
+abbrev pub tally_put : {V : Type 0} → Tally → Item V → Option V → Stamp → Tally
+tally_put c x row own = tally_after c (spot_in x) row own
 
 module _ {K V A F C D : Type 0} (P : Protocol K V A F C D) where
   -- after a write, a Prepare that was accepted, an Apply and a Release
-  abbrev pub wrote : C → Cell → A → ℕ → Item V → Item V
+  abbrev pub wrote : C → Tally → A → ℕ → Item V → Item V
   wrote cat c a moment x = item (spot_wrote P cat c a moment (spot_in x))
 
   abbrev pub prepared : C → ℕ → Stamp → A → Item V → Item V
   prepared cat n stamp a x = item (spot_prepared P cat n stamp a (spot_in x))
 
-abbrev pub applied : {V : Type 0} → Cell → ℕ → Item V → Item V
+abbrev pub applied : {V : Type 0} → Tally → ℕ → Item V → Item V
 applied c n x = item (spot_applied c n (spot_in x))
 
 abbrev pub released : {V : Type 0} → Item V → Item V

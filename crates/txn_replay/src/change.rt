@@ -3,8 +3,8 @@ ghost use Rattle.std.specs.Prelude.{◌≡◌, ◌<◌, ◌+◌, ◌^◌, ℕ, I
 ghost use Rattle.std.specs.Option.{option_copied};
 ghost use Rattle.txn_core.specs.Protocol.{after};
 ghost use Rattle.txn_core.specs.Stamps.{later, single};
-ghost use Rattle.txn_core.specs.World.{image_or, stamp_or};
-ghost use Rattle.txn_replay.specs.Items.{pending, item_in, cell_in, last_in, cell_put, wrote, prepared, applied, released};
+ghost use Rattle.txn_core.specs.State.{image_or, stamp_or};
+ghost use Rattle.txn_replay.specs.Items.{pending, item_in, tally_in, last_in, tally_put, wrote, prepared, applied, released};
 
 use crate::tracked::{Counters, Hold, ItemState, Tracked, copy_of_hold, copy_of_row};
 use std::alloc::{AllocError as NoMemory, Global};
@@ -35,7 +35,7 @@ fn later(one: Stamp, other: Stamp) -> Stamp
 /// The counters of a cell after an item of it was changed to this row, at a stamp.
 fn count_change<V>(cell: Counters, item: &ItemState<V>, row: &Option<V>, own: Stamp) -> Counters
     requires { cell.count + 1 < 2 ^ 64 }
-    ensures { cell_in result ≡ cell_put (cell_in cell) (item_in item.now) row.now own }
+    ensures { tally_in result ≡ tally_put (tally_in cell) (item_in item.now) row.now own }
 {
     let count = cell.count + 1;
     if row.is_some() {
@@ -76,8 +76,8 @@ pub fn write<R: Rules>(
     tracked: &Tracked<R::Key, R::Value>,
 ) -> Result<Change<R::Value>, NoMemory>
     requires { tracked.now.cell.count + 1 < 2 ^ 64 }
-    ensures item { IfOk result (λ change. (n : ℕ) → item_in change.item ≡ wrote (R.protocol n).core catalog.now (cell_in tracked.now.cell) action.now moment (item_in tracked.now.item)) }
-    ensures cell { IfOk result (λ change. (n : ℕ) → cell_in change.cell ≡ cell_put (cell_in tracked.now.cell) (item_in tracked.now.item) (after ((R.protocol n).core.act catalog.now action.now tracked.now.item.row) tracked.now.item.row) (single moment)) }
+    ensures item { IfOk result (λ change. (n : ℕ) → item_in change.item ≡ wrote (R.protocol n).core catalog.now (tally_in tracked.now.cell) action.now moment (item_in tracked.now.item)) }
+    ensures cell { IfOk result (λ change. (n : ℕ) → tally_in change.cell ≡ tally_put (tally_in tracked.now.cell) (item_in tracked.now.item) (after ((R.protocol n).core.act catalog.now action.now tracked.now.item.row) tracked.now.item.row) (single moment)) }
 {
     let item = &tracked.item;
     let own = Stamp { moment, number: 0 };
@@ -127,7 +127,7 @@ pub fn prepare<R: Rules>(
     tracked: &Tracked<R::Key, R::Value>,
 ) -> Result<Change<R::Value>, NoMemory>
     ensures item { IfOk result (λ change. (n : ℕ) → item_in change.item ≡ prepared (R.protocol n).core catalog.now number stamp action.now (item_in tracked.now.item)) }
-    ensures cell { IfOk result (λ change. cell_in change.cell ≡ cell_in tracked.now.cell) }
+    ensures cell { IfOk result (λ change. tally_in change.cell ≡ tally_in tracked.now.cell) }
 {
     let item = &tracked.item;
     let hold = hold_for::<R>(alloc, catalog, number, stamp, action, item)?;
@@ -170,8 +170,8 @@ pub fn apply<R: Rules>(
     tracked: &Tracked<R::Key, R::Value>,
 ) -> Result<Change<R::Value>, NoMemory>
     requires { tracked.now.cell.count + 1 < 2 ^ 64 }
-    ensures item { IfOk result (λ change. item_in change.item ≡ applied (cell_in tracked.now.cell) number (item_in tracked.now.item)) }
-    ensures cell { IfOk result (λ change. cell_in change.cell ≡ cell_put (cell_in tracked.now.cell) (item_in tracked.now.item) (image_or tracked.now.item.row (pending tracked.now.item.hold)) (stamp_or tracked.now.item.stamp (pending tracked.now.item.hold))) }
+    ensures item { IfOk result (λ change. item_in change.item ≡ applied (tally_in tracked.now.cell) number (item_in tracked.now.item)) }
+    ensures cell { IfOk result (λ change. tally_in change.cell ≡ tally_put (tally_in tracked.now.cell) (item_in tracked.now.item) (image_or tracked.now.item.row (pending tracked.now.item.hold)) (stamp_or tracked.now.item.stamp (pending tracked.now.item.hold))) }
 {
     let item = &tracked.item;
     let (row, stamp) = settle::<R>(alloc, item)?;
@@ -193,7 +193,7 @@ pub fn release<R: Rules>(
     tracked: &Tracked<R::Key, R::Value>,
 ) -> Result<Change<R::Value>, NoMemory>
     ensures item { IfOk result (λ change. item_in change.item ≡ released (item_in tracked.now.item)) }
-    ensures cell { IfOk result (λ change. cell_in change.cell ≡ cell_in tracked.now.cell) }
+    ensures cell { IfOk result (λ change. tally_in change.cell ≡ tally_in tracked.now.cell) }
 {
     let item = &tracked.item;
     let row = copy_of_row::<R>(alloc, &item.row)?;

@@ -1,13 +1,13 @@
 //! The answers to commands.
 ghost use Rattle.std.specs.Prelude.{◌≡◌, ◌↔◌, ℕ, IfOk, IsTrue, List, Option, None, Some, length, slice_index_or};
 ghost use Rattle.txn_core.specs.Effects.{Effect};
-ghost use Rattle.txn_core.specs.World.{world};
+ghost use Rattle.txn_core.specs.State.{state_after};
 ghost use Rattle.txn_core.specs.Legal.{ruling_answer, IsRuled};
 ghost use Rattle.txn_core.specs.declared.answer.Answer.{Answer};
-ghost use Rattle.txn_replay.specs.State.{IsState};
+ghost use Rattle.txn_replay.specs.Replica.{IsReplica};
 ghost use Rattle.txn_replay.specs.Ways.{is_before, first_of_two, obstacle_in, IsFirstOf};
 
-use crate::equal::{Reply, is_held};
+use crate::item_answers::{Reply, is_held};
 use crate::slots::Slot;
 use std::alloc::{AllocError as NoMemory, Global};
 use txn_core::{Answer, Rules, Ruling};
@@ -135,7 +135,7 @@ fn is_answer_to<R: Rules>(
     moment: u64,
     answer: &Reply<R>,
 ) -> Result<bool, NoMemory>
-    ensures { IfOk result (λ right. (n : ℕ) (keys : List (Option R.Key)) (es : List (Effect R.Key R.Action R.Command)) → IsState (R.protocol n) keys (world (R.protocol n).core es) catalog.now slots.now → (IsTrue right ↔ IsRuled (R.protocol n) (world (R.protocol n).core es) command.now moment None answer.now)) }
+    ensures { IfOk result (λ right. (n : ℕ) (keys : List (Option R.Key)) (es : List (Effect R.Key R.Action R.Command)) → IsReplica (R.protocol n) keys (state_after (R.protocol n).core es) catalog.now slots.now → (IsTrue right ↔ IsRuled (R.protocol n) (state_after (R.protocol n).core es) command.now moment None answer.now)) }
 {
     match first_obstacle::<R>(command, catalog, slots) {
         Some(obstacle) => Ok(is_held::<R>(obstacle.number, answer)),
@@ -153,7 +153,7 @@ pub fn is_command_answer<R: Rules>(
     moment: u64,
     answer: &Reply<R>,
 ) -> Result<bool, NoMemory>
-    ensures { IfOk result (λ right. (n : ℕ) (keys : List (Option R.Key)) (es : List (Effect R.Key R.Action R.Command)) → IsState (R.protocol n) keys (world (R.protocol n).core es) catalog.now slots.now → (IsTrue right ↔ IsRuled (R.protocol n) (world (R.protocol n).core es) command.now moment ((R.protocol n).refuses command.now (world (R.protocol n).core es).catalog) answer.now)) }
+    ensures { IfOk result (λ right. (n : ℕ) (keys : List (Option R.Key)) (es : List (Effect R.Key R.Action R.Command)) → IsReplica (R.protocol n) keys (state_after (R.protocol n).core es) catalog.now slots.now → (IsTrue right ↔ IsRuled (R.protocol n) (state_after (R.protocol n).core es) command.now moment ((R.protocol n).refuses command.now (state_after (R.protocol n).core es).catalog) answer.now)) }
 {
     let refusal = R::refuses(alloc, command, catalog)?;
     match refusal {

@@ -1,12 +1,12 @@
 //! What an entry changes of the item that it names.
 ghost use Rattle.std.specs.Prelude.{◌≡◌, ◌<◌, ◌+◌, ◌^◌, ℕ, IfOk, List, Some};
 ghost use Rattle.txn_core.specs.Effects.{Effect};
-ghost use Rattle.txn_core.specs.World.{world};
+ghost use Rattle.txn_core.specs.State.{state_after};
 ghost use Rattle.txn_core.specs.History.{effect, is_written, is_accepted, is_applied, is_released, is_changed};
-ghost use Rattle.txn_replay.specs.State.{key_in, IsShown, Leaves};
+ghost use Rattle.txn_replay.specs.Replica.{key_in, IsShown, Leaves};
 
 use crate::change::{Change, apply, prepare, release, write};
-use crate::equal::Reply;
+use crate::item_answers::Reply;
 use crate::tracked::Tracked;
 use std::alloc::{AllocError as NoMemory, Global};
 use txn_core::{Answer, Event, Message, Rules};
@@ -50,7 +50,7 @@ pub fn change_of<R: Rules>(
     entry: &Event<R>,
 ) -> Result<Option<Change<R::Value>>, NoMemory>
     requires { tracked.now.cell.count + 1 < 2 ^ 64 }
-    ensures { IfOk result (λ found. (n : ℕ) (es : List (Effect R.Key R.Action R.Command)) → catalog.now ≡ (world (R.protocol n).core es).catalog → IsShown (R.protocol n) (world (R.protocol n).core es) tracked.now → key_in (R.protocol n) entry.now.message ≡ Some tracked.now.key → Leaves (R.protocol n).core es (effect entry.now) tracked.now.key found) }
+    ensures { IfOk result (λ found. (n : ℕ) (es : List (Effect R.Key R.Action R.Command)) → catalog.now ≡ (state_after (R.protocol n).core es).catalog → IsShown (R.protocol n) (state_after (R.protocol n).core es) tracked.now → key_in (R.protocol n) entry.now.message ≡ Some tracked.now.key → Leaves (R.protocol n).core es (effect entry.now) tracked.now.key found) }
 {
     let answer = &entry.answer;
     match &entry.message {

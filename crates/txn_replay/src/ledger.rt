@@ -1,6 +1,6 @@
 //! What the ledger says of a number after the entries before, which are given in order of time.
 ghost use Rattle.std.specs.Prelude.{◌≡◌, ℕ, ◌≤◌, ◌<◌, ◌+◌, ◌^◌, ◌&&◌, not, nat_le, nat_lt, reverse, length};
-ghost use Rattle.txn_core.specs.World.{world};
+ghost use Rattle.txn_core.specs.State.{state_after};
 ghost use Rattle.txn_core.specs.Answers.{has_record};
 ghost use Rattle.txn_core.specs.History.{effect, effects};
 ghost use Rattle.txn_replay.specs.Folds.{fate_by, gone_by, next_by, stamp_by, actions_by};
@@ -38,7 +38,7 @@ fn fate_or<R: Rules>(entry: &Event<R>, number: u64, older: Fate) -> Fate
 
 /// The number's fate.
 pub fn fate_of<R: Rules>(past: &[Event<R>], number: u64) -> Fate
-    ensures { (n : ℕ) → result ≡ (world (R.protocol n).core (effects (reverse past.now))).ledger.fate number }
+    ensures { (n : ℕ) → result ≡ (state_after (R.protocol n).core (effects (reverse past.now))).ledger.fate number }
 {
     let mut found = Fate::Undecided;
     for entry in past {
@@ -59,7 +59,7 @@ fn gone_or<R: Rules>(entry: &Event<R>, number: u64, older: bool) -> bool
 
 /// Whether the number's record was forgotten.
 fn is_gone<R: Rules>(past: &[Event<R>], number: u64) -> bool
-    ensures { (n : ℕ) → result ≡ (world (R.protocol n).core (effects (reverse past.now))).ledger.gone number }
+    ensures { (n : ℕ) → result ≡ (state_after (R.protocol n).core (effects (reverse past.now))).ledger.gone number }
 {
     let mut found = false;
     for entry in past {
@@ -83,7 +83,7 @@ fn next_after<R: Rules>(entry: &Event<R>, next: u64) -> u64
 
 /// The number that the next transaction draws.
 pub fn next_of<R: Rules>(past: &[Event<R>]) -> u64
-    ensures exact { (n : ℕ) → result ≡ (world (R.protocol n).core (effects (reverse past.now))).ledger.next }
+    ensures exact { (n : ℕ) → result ≡ (state_after (R.protocol n).core (effects (reverse past.now))).ledger.next }
     ensures few { result ≤ length past.now + 1 }
     ensures some { 1 ≤ result }
 {
@@ -96,7 +96,7 @@ pub fn next_of<R: Rules>(past: &[Event<R>]) -> u64
 
 /// Whether the number has a record: it was drawn and is not forgotten.
 pub fn has_record<R: Rules>(past: &[Event<R>], number: u64) -> bool
-    ensures { (n : ℕ) → result ≡ has_record (world (R.protocol n).core (effects (reverse past.now))).ledger number }
+    ensures { (n : ℕ) → result ≡ has_record (state_after (R.protocol n).core (effects (reverse past.now))).ledger number }
 {
     is_recorded(number, next_of::<R>(past), is_gone::<R>(past, number))
 }
@@ -119,7 +119,7 @@ fn stamp_or<R: Rules>(entry: &Event<R>, turn: bool, older: Stamp) -> Stamp
 
 /// The stamp with which the number was drawn.
 pub fn stamp_of<R: Rules>(past: &[Event<R>], number: u64) -> Stamp
-    ensures { (n : ℕ) → result ≡ (world (R.protocol n).core (effects (reverse past.now))).ledger.stamp number }
+    ensures { (n : ℕ) → result ≡ (state_after (R.protocol n).core (effects (reverse past.now))).ledger.stamp number }
 {
     let mut next = 1;
     let mut found = Stamp {
@@ -149,7 +149,7 @@ fn actions_or<'a, R: Rules>(
 
 /// The actions with which the number was drawn.
 pub fn actions_of<R: Rules>(past: &[Event<R>], number: u64) -> &[R::Action]
-    ensures { (n : ℕ) → result.now ≡ (world (R.protocol n).core (effects (reverse past.now))).ledger.actions number }
+    ensures { (n : ℕ) → result.now ≡ (state_after (R.protocol n).core (effects (reverse past.now))).ledger.actions number }
 {
     let mut next = 1;
     let mut found: &[R::Action] = &[];

@@ -7,24 +7,24 @@
 //! legal histories asks for; what may be sent is asked of `sending_check` of [`txn_core`].
 //!
 //! The definitions stand in `specs/`: `Ends` says how a replay ends, in the words of `txn_core`,
-//! and `Ways` what is asked of commands. `Items`, `State`, `Folds` and `Kept` say what the steps
+//! and `Ways` what is asked of commands. `Items`, `Replica`, `Folds` and `Kept` say what the steps
 //! keep.
 #![tactic(auto)]
 
-mod board;
 mod change;
 mod commands;
 mod effect;
-mod equal;
-mod holds;
+mod equality;
+mod item_answers;
+mod itemless;
 mod items;
 mod ledger;
-mod lists;
-mod others;
-mod plain;
+mod ledger_answers;
+mod pendings;
 mod records;
 mod replay;
-mod reply;
+mod replica;
+mod routes;
 mod slots;
 mod timely;
 mod token;

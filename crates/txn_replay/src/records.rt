@@ -1,7 +1,7 @@
 //! The answers of the control cell about transactions.
 ghost use Rattle.std.specs.Prelude.{◌≡◌, ◌↔◌, ◌++◌, ◌∷◌, [], ℕ, IfOk, IsTrue, List, reverse, if◌then◌else◌};
 ghost use Rattle.std.specs.List.{list_all};
-ghost use Rattle.txn_core.specs.World.{world};
+ghost use Rattle.txn_core.specs.State.{state_after};
 ghost use Rattle.txn_core.specs.History.{effect, effects, reasons_of};
 ghost use Rattle.txn_core.specs.Answers.{unfinished};
 ghost use Rattle.txn_core.specs.Legal.{IsAnswer};
@@ -10,9 +10,9 @@ ghost use Rattle.txn_replay.specs.Folds.{done_by};
 ghost use Rattle.txn_core.specs.declared.message.Message.{Message};
 ghost use Rattle.txn_core.specs.declared.reason.Reason.{Reason};
 
-use crate::equal::{Reply, is_stale};
+use crate::item_answers::{Reply, is_stale};
 use crate::ledger::{actions_of, fate_of, has_record, next_of, stamp_of};
-use crate::reply::{is_begin, is_decide, is_done, is_fate, is_forget, is_recall};
+use crate::ledger_answers::{is_begin, is_decide, is_done, is_fate, is_forget, is_recall};
 use crate::token::found;
 use base_types::Text;
 use std::alloc::{AllocError as NoMemory, Global};
@@ -50,7 +50,7 @@ pub fn begin_is_right<R: Rules>(
     actions: &[R::Action],
     answer: &Reply<R>,
 ) -> bool
-    ensures { (n : ℕ) → catalog.now ≡ (world (R.protocol n).core (effects (reverse past.now))).catalog → (IsTrue result ↔ IsAnswer (R.protocol n) (reverse past.now) moment (Message.Begin token.now actions.now) answer.now) }
+    ensures { (n : ℕ) → catalog.now ≡ (state_after (R.protocol n).core (effects (reverse past.now))).catalog → (IsTrue result ↔ IsAnswer (R.protocol n) (reverse past.now) moment (Message.Begin token.now actions.now) answer.now) }
 {
     if !are_there::<R>(catalog, actions) {
         return is_stale::<R>(answer);
@@ -140,7 +140,7 @@ fn done_or<R: Rules>(entry: &Event<R>, number: u64, older: bool) -> bool
 
 /// Whether the number is done.
 fn is_finished<R: Rules>(past: &[Event<R>], number: u64) -> bool
-    ensures { (n : ℕ) → result ≡ (world (R.protocol n).core (effects (reverse past.now))).ledger.done number }
+    ensures { (n : ℕ) → result ≡ (state_after (R.protocol n).core (effects (reverse past.now))).ledger.done number }
 {
     let mut found = false;
     for entry in past {
@@ -161,7 +161,7 @@ fn note_unless(numbers: &mut Vec<u64>, number: u64, done: bool) -> Result<(), No
 
 /// The numbers that are begun and not done, ascending.
 fn unfinished<R: Rules>(alloc: Global, past: &[Event<R>]) -> Result<Vec<u64>, NoMemory>
-    ensures { IfOk result (λ numbers. (n : ℕ) → numbers.items ≡ unfinished (world (R.protocol n).core (effects (reverse past.now))).ledger) }
+    ensures { IfOk result (λ numbers. (n : ℕ) → numbers.items ≡ unfinished (state_after (R.protocol n).core (effects (reverse past.now))).ledger) }
 {
     let next = next_of::<R>(past);
     let mut numbers = Vec::new(alloc);

@@ -1,17 +1,17 @@
 //! The first entry at which a list stops being a legal history.
 ghost use Rattle.std.specs.Prelude.{◌≡◌, ◌↔◌, ◌≤◌, ◌<◌, ◌^◌, [], ◌∷◌, IfOk, IfSome, IsTrue, List, Option, None, MatchOption, length, reverse, slice_index_or};
-ghost use Rattle.txn_core.specs.World.{world};
+ghost use Rattle.txn_core.specs.State.{state_after};
 ghost use Rattle.txn_core.specs.History.{effects};
 ghost use Rattle.txn_core.specs.Legal.{IsAnswer};
 ghost use Rattle.txn_core.specs.Breaks.{IsRight, AllKeep, IsFirstBreak};
 ghost use Rattle.txn_core.specs.declared.kind.BreakKind.TheVariants.{WrongAnswer};
-ghost use Rattle.txn_replay.specs.State.{key_in, IsState};
+ghost use Rattle.txn_replay.specs.Replica.{key_in, IsReplica};
 ghost use Rattle.txn_replay.specs.Ends.{ends_at, EndsRight};
 
-use crate::board::{State, begin, step};
+use crate::itemless::other_is_right;
 use crate::items::item_is_right;
-use crate::others::other_is_right;
-use crate::plain::{is_at, sent_to};
+use crate::replica::{ReplicaOf, begin, step};
+use crate::routes::{is_at, sent_to};
 use crate::timely::is_timely;
 use std::alloc::{AllocError as NoMemory, Global};
 use txn_core::{Break, BreakKind, Event, Rules, sending_check};
@@ -29,18 +29,18 @@ pub enum ReplayEnd {
 fn answer_is_right<R: Rules>(
     alloc: Global,
     partitions: u32,
-    board: &State<R>,
+    replica: &ReplicaOf<R>,
     place: usize,
     past: &[Event<R>],
     entry: &Event<R>,
 ) -> Result<bool, NoMemory>
     requires some { 1 ≤ partitions }
-    requires within { place < length board.now.slots.items }
-    ensures { IfOk result (λ right. (keys : List (Option R.Key)) → IsState (R.protocol partitions) keys (world (R.protocol partitions).core (effects (reverse past.now))) board.now.catalog board.now.slots.items → slice_index_or keys place None ≡ key_in (R.protocol partitions) entry.now.message → (IsTrue right ↔ IsAnswer (R.protocol partitions) (reverse past.now) entry.now.moment entry.now.message entry.now.answer)) }
+    requires within { place < length replica.now.slots.items }
+    ensures { IfOk result (λ right. (keys : List (Option R.Key)) → IsReplica (R.protocol partitions) keys (state_after (R.protocol partitions).core (effects (reverse past.now))) replica.now.catalog replica.now.slots.items → slice_index_or keys place None ≡ key_in (R.protocol partitions) entry.now.message → (IsTrue right ↔ IsAnswer (R.protocol partitions) (reverse past.now) entry.now.moment entry.now.message entry.now.answer)) }
 {
-    match &board.slots[place] {
-        Some(tracked) => item_is_right::<R>(alloc, &board.catalog, tracked, entry),
-        None => other_is_right::<R>(alloc, partitions, board, past, entry),
+    match &replica.slots[place] {
+        Some(tracked) => item_is_right::<R>(alloc, &replica.catalog, tracked, entry),
+        None => other_is_right::<R>(alloc, partitions, replica, past, entry),
     }
 }
 
@@ -48,14 +48,14 @@ fn answer_is_right<R: Rules>(
 fn is_right<R: Rules>(
     alloc: Global,
     partitions: u32,
-    board: &State<R>,
+    replica: &ReplicaOf<R>,
     place: usize,
     past: &[Event<R>],
     entry: &Event<R>,
 ) -> Result<bool, NoMemory>
     requires some { 1 ≤ partitions }
-    requires within { place < length board.now.slots.items }
-    ensures { IfOk result (λ right. (keys : List (Option R.Key)) → IsState (R.protocol partitions) keys (world (R.protocol partitions).core (effects (reverse past.now))) board.now.catalog board.now.slots.items → slice_index_or keys place None ≡ key_in (R.protocol partitions) entry.now.message → (IsTrue right ↔ IsRight (R.protocol partitions) (reverse past.now) entry.now)) }
+    requires within { place < length replica.now.slots.items }
+    ensures { IfOk result (λ right. (keys : List (Option R.Key)) → IsReplica (R.protocol partitions) keys (state_after (R.protocol partitions).core (effects (reverse past.now))) replica.now.catalog replica.now.slots.items → slice_index_or keys place None ≡ key_in (R.protocol partitions) entry.now.message → (IsTrue right ↔ IsRight (R.protocol partitions) (reverse past.now) entry.now)) }
 {
     if !is_timely::<R>(past, entry.pass, entry.moment) {
         return Ok(false);
@@ -63,7 +63,7 @@ fn is_right<R: Rules>(
     if !is_at(entry.cell, sent_to::<R>(partitions, &entry.message)) {
         return Ok(false);
     }
-    answer_is_right::<R>(alloc, partitions, board, place, past, entry)
+    answer_is_right::<R>(alloc, partitions, replica, place, past, entry)
 }
 
 /// The first place at which an answer, a cell or a moment is wrong.
@@ -76,12 +76,12 @@ fn first_wrong<R: Rules>(
     requires room { length entries.now < 2 ^ 64 }
     ensures { IfOk result (λ found. MatchOption found (AllKeep (R.protocol partitions) (WrongAnswer ∷ []) (reverse entries.now)) (λ place. IsFirstBreak (R.protocol partitions) (WrongAnswer ∷ []) entries.now place WrongAnswer)) }
 {
-    let mut board = begin::<R>(alloc, partitions, entries)?;
+    let mut replica = begin::<R>(alloc, partitions, entries)?;
     for (place, entry) in entries.iter().enumerate() {
-        if !is_right::<R>(alloc, partitions, &board, place, &entries[..place], entry)? {
+        if !is_right::<R>(alloc, partitions, &replica, place, &entries[..place], entry)? {
             return Ok(Some(place));
         }
-        step::<R>(alloc, partitions, &mut board, entries, place)?;
+        step::<R>(alloc, partitions, &mut replica, entries, place)?;
     }
     Ok(None)
 }

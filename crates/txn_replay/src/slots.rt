@@ -1,8 +1,8 @@
 //! The items that the entries name, one slot an entry.
 ghost use Rattle.std.specs.Prelude.{◌≡◌, ◌≤◌, ℕ, IfOk, map, length, slice_index_or, [], None};
 ghost use Rattle.std.specs.Option.{option_copied};
-ghost use Rattle.txn_core.specs.World.{world};
-ghost use Rattle.txn_replay.specs.State.{key_in, keys_of, IsShown, Fits, put_in, moved_in};
+ghost use Rattle.txn_core.specs.State.{state_after};
+ghost use Rattle.txn_replay.specs.Replica.{key_in, keys_of, IsShown, Fits, put_in, moved_in};
 
 use crate::change::Change;
 use crate::tracked::{Counters, ItemState, Tracked, copy_of_item};
@@ -43,7 +43,7 @@ fn fresh<R: Rules>(
     key: &R::Key,
 ) -> Result<Tracked<R::Key, R::Value>, NoMemory>
     requires { 1 ≤ partitions }
-    ensures { IfOk result (λ t. (t.key ≡ key.now) × IsShown (R.protocol partitions) (world (R.protocol partitions).core []) t) }
+    ensures { IfOk result (λ t. (t.key ≡ key.now) × IsShown (R.protocol partitions) (state_after (R.protocol partitions).core []) t) }
 {
     let start = Stamp {
         moment: 0,
@@ -75,7 +75,7 @@ fn slot_of<R: Rules>(
     message: &Asked<R>,
 ) -> Result<Slot<R>, NoMemory>
     requires { 1 ≤ partitions }
-    ensures { IfOk result (λ slot. Fits (R.protocol partitions) (world (R.protocol partitions).core []) (key_in (R.protocol partitions) message.now) slot) }
+    ensures { IfOk result (λ slot. Fits (R.protocol partitions) (state_after (R.protocol partitions).core []) (key_in (R.protocol partitions) message.now) slot) }
 {
     match key_in::<R>(message) {
         Some(key) => Ok(Some(fresh::<R>(alloc, partitions, key)?)),
@@ -91,7 +91,7 @@ pub fn slots_of<R: Rules>(
 ) -> Result<Vec<Slot<R>>, NoMemory>
     requires { 1 ≤ partitions }
     ensures len { IfOk result (λ slots. length slots.items ≡ length entries.now) }
-    ensures fits { IfOk result (λ slots. (k : ℕ) → Fits (R.protocol partitions) (world (R.protocol partitions).core []) (slice_index_or (keys_of (R.protocol partitions) entries.now) k None) (slice_index_or slots.items k None)) }
+    ensures fits { IfOk result (λ slots. (k : ℕ) → Fits (R.protocol partitions) (state_after (R.protocol partitions).core []) (slice_index_or (keys_of (R.protocol partitions) entries.now) k None) (slice_index_or slots.items k None)) }
 {
     let mut slots = Vec::new(alloc);
     for entry in entries {

@@ -1,9 +1,9 @@
 //! What a token is kept with after the entries before, which are given in order of time.
 ghost use Rattle.std.specs.Prelude.{◌≡◌, ℕ, reverse};
-ghost use Rattle.txn_core.specs.History.{is_over, purged, completed, freed, begun_with, kept_after, kept, found_kept};
+ghost use Rattle.txn_core.specs.History.{is_over, unless_over, completed, freed, begun_with, kept_after, kept, found_kept};
 ghost use Rattle.txn_replay.specs.Kept.{kept_in};
 
-use crate::equal::Reply;
+use crate::item_answers::Reply;
 use base_types::Text;
 use txn_core::{Answer, Event, Fate, Message, Rules};
 
@@ -36,7 +36,7 @@ fn is_over(completed: Option<u64>, moment: u64) -> bool
 
 /// A token whose life is over is dropped.
 fn purge<'a, A>(moment: u64, kept: Option<Kept<'a, A>>) -> Option<Kept<'a, A>>
-    ensures { kept_in result ≡ purged moment (kept_in kept.entry) }
+    ensures { kept_in result ≡ unless_over moment (kept_in kept.entry) }
 {
     match kept {
         Some(token) => {

@@ -1,7 +1,7 @@
 //! What a replay keeps of each item that the entries name.
 ghost use Rattle.std.specs.Prelude.{◌≡◌, IfOk, is_some};
-ghost use Rattle.txn_core.specs.World.{holder};
-ghost use Rattle.txn_replay.specs.Items.{pending, item_in, cell_in, last_in};
+ghost use Rattle.txn_core.specs.State.{holder};
+ghost use Rattle.txn_replay.specs.Items.{pending, item_in, tally_in, last_in};
 
 use std::alloc::{AllocError as NoMemory, Global};
 use txn_core::{Rules, Stamp};
@@ -79,7 +79,7 @@ impl<V> ItemState<V> {
     /// The stamp at which the item was changed last: its own, or where it is absent, the floor of
     /// its cell.
     pub fn last(&self, cell: Counters) -> Stamp
-        ensures { result ≡ last_in (cell_in cell) (item_in self.now) }
+        ensures { result ≡ last_in (tally_in cell) (item_in self.now) }
     {
         if self.row.is_some() {
             self.stamp

@@ -1,5 +1,5 @@
 use Rattle.std.proofs.Common.{◌≡◌, ℕ, drop}
-use Rattle.txn_core.specs.World.{on_item}
+use Rattle.txn_core.specs.State.{on_item}
 use Rattle.txn_core.proofs.grounds.is_action_of.Given as goal
 
 abbrev pub invariant-loop-each : goal.invariant-loop-each

@@ -5,5 +5,5 @@ pub returns : goal.returns
 returns g c =
     let S = g.R.Rules.protocol in
     let law = g.met.R.Rules.lawful in
-    λ n newer middle es legal t u key first second version holds one two.
-    read_at_one_point (S n) (law n) newer middle es legal t u key first second version holds one two
+    λ n newer middle es legal key first second version holds one two.
+    read_at_one_point (S n) (law n) newer middle es legal 0 0 key first second version holds one two

@@ -9,5 +9,5 @@ returns g c =
     record {
       held = λ n es moment m number is. real_holder (S n) (law n) es moment m number is;
       late = λ n es moment number stamp action t is. late_stamp (S n) (law n) es moment number stamp action t is;
-      moved = λ n. moved_is_real (S n) (law n);
+      moved = λ n newer es key first second v w h k one two differ. moved_is_real (S n) (law n) newer es 0 0 key first second v w h k one two differ;
     }

@@ -5,7 +5,7 @@ pub returns : goal.returns
 returns g c =
     let S = g.R.Rules.protocol in
     record {
-      once = λ n since older start token number legal drawn on other h. drawn_once (S n) since older start token number legal drawn on other h;
-      later = λ n since older start token number legal drawn on moment actions a live answer.
-          later_begins (S n) since older start token number legal drawn on moment actions a live answer;
+      once = λ n since older start token number l other h. drawn_once (S n) since older start token number l.legal l.drawn l.on other h;
+      later = λ n since older start token number l moment actions a live answer.
+          later_begins (S n) since older start token number l.legal l.drawn l.on moment actions a live answer;
     }

@@ -1,8 +1,8 @@
 use Rattle.txn_core.proofs.Duties.{other, one}
 use Rattle.txn_core.proofs.order.is_settled.Goals as goal
 
-pub returns-then-is_over : goal.returns-then-is_over
-returns-then-is_over g c = λ n. one ((c.is_over.ensures n).0 c.if-is_over.true) c.is_over.result c.if-is_over.true
+pub returns-then-is_ended : goal.returns-then-is_ended
+returns-then-is_ended g c = λ n. one ((c.is_ended.ensures n).0 c.if-is_ended.true) c.is_ended.result c.if-is_ended.true
 
-pub returns-else-is_over : goal.returns-else-is_over
-returns-else-is_over g c = λ n. other (λ x. let t = (c.is_over.ensures n).1 x in absurd (cc)) c.is_over-else-is_over.result (c.is_over-else-is_over.ensures n)
+pub returns-else-is_ended : goal.returns-else-is_ended
+returns-else-is_ended g c = λ n. other (λ x. let t = (c.is_ended.ensures n).1 x in absurd (cc)) c.is_ended-else-is_ended.result (c.is_ended-else-is_ended.ensures n)

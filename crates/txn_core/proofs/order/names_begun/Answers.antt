@@ -8,7 +8,7 @@ pub returns-in-Begin : goal.returns-in-Begin
 returns-in-Begin g c = λ n pass. subst (λ m. IsTrue c.may_begin.result ↔ NamesBegun (g.R.Rules.protocol n) (reverse c.args.past.now) pass m) (sym c.in-Begin.is) (rw c.as_slice.ensures at c.may_begin.ensures n)
 
 pub returns-in-Prepare : goal.returns-in-Prepare
-returns-in-Prepare g c = λ n pass. subst (λ m. IsTrue c.may_prepare.result ↔ NamesBegun (g.R.Rules.protocol n) (reverse c.args.past.now) pass m) (sym c.in-Prepare.is) (c.may_prepare.ensures n)
+returns-in-Prepare g c = λ n pass. subst (λ m. IsTrue c.may_prepare.result ↔ NamesBegun (g.R.Rules.protocol n) (reverse c.args.past.now) pass m) (sym c.in-Prepare.is) (c.may_prepare.ensures n pass)
 
 pub returns-in-Decide : goal.returns-in-Decide
 returns-in-Decide g c = λ n pass. subst (λ m. IsTrue c.was.result ↔ NamesBegun (g.R.Rules.protocol n) (reverse c.args.past.now) pass m) (sym c.in-Decide.is) (tested c.was.result _ c.was.ensures)

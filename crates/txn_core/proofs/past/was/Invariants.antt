@@ -4,4 +4,4 @@ use Rattle.txn_core.specs.Replay.{tells}
 use Rattle.txn_core.proofs.past.was.Given as goal
 
 abbrev pub invariant-loop-entry : goal.invariant-loop-entry
-invariant-loop-entry g l = list_any (λ e. tells l.deed l.number e.message e.answer) (reverse (take l.entry-index l.past)) ≡ false
+invariant-loop-entry g l = list_any (λ e. tells l.fact l.number e.message e.answer) (reverse (take l.entry-index l.past)) ≡ false

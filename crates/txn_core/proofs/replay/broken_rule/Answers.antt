@@ -63,8 +63,8 @@ returns-then-not-feeds_in_order g c =
     (kept_first (g.R.Rules.protocol c.args.partitions) (reverse c.args.past.now) c.args.entry.now EarlyForget (IndexOrder ∷ AllCells ∷ []) c.forgets_late.result c.if-not-forgets_late.false (c.forgets_late.ensures c.args.partitions) IndexOrder
     (broken (g.R.Rules.protocol c.args.partitions) (reverse c.args.past.now) c.args.entry.now IndexOrder (AllCells ∷ []) c.feeds_in_order.result c.if-not-feeds_in_order.true (c.feeds_in_order.ensures c.args.entry.now.pass))))))))
 
-pub returns-then-not-is_over_its_cells : goal.returns-then-not-is_over_its_cells
-returns-then-not-is_over_its_cells g c =
+pub returns-then-not-has_its_reach : goal.returns-then-not-has_its_reach
+returns-then-not-has_its_reach g c =
     kept_first (g.R.Rules.protocol c.args.partitions) (reverse c.args.past.now) c.args.entry.now NotBegun (EarlyCommit ∷ CauselessCancel ∷ EarlyApply ∷ EarlyRelease ∷ EarlyDone ∷ EarlyForget ∷ IndexOrder ∷ AllCells ∷ []) c.names_begun.result c.if-not-names_begun.false (c.names_begun.ensures c.args.partitions c.args.entry.now.pass) AllCells
     (kept_first (g.R.Rules.protocol c.args.partitions) (reverse c.args.past.now) c.args.entry.now EarlyCommit (CauselessCancel ∷ EarlyApply ∷ EarlyRelease ∷ EarlyDone ∷ EarlyForget ∷ IndexOrder ∷ AllCells ∷ []) c.has_ground_for.result c.if-not-has_ground_for.false (c.has_ground_for.ensures c.args.partitions) AllCells
     (kept_first (g.R.Rules.protocol c.args.partitions) (reverse c.args.past.now) c.args.entry.now CauselessCancel (EarlyApply ∷ EarlyRelease ∷ EarlyDone ∷ EarlyForget ∷ IndexOrder ∷ AllCells ∷ []) c.has_ground_for-2.result c.if-not-has_ground_for-2.false (c.has_ground_for-2.ensures c.args.partitions) AllCells
@@ -73,8 +73,8 @@ returns-then-not-is_over_its_cells g c =
     (kept_first (g.R.Rules.protocol c.args.partitions) (reverse c.args.past.now) c.args.entry.now EarlyDone (EarlyForget ∷ IndexOrder ∷ AllCells ∷ []) c.finishes_late.result c.if-not-finishes_late.false (c.finishes_late.ensures c.args.partitions c.args.entry.now.pass) AllCells
     (kept_first (g.R.Rules.protocol c.args.partitions) (reverse c.args.past.now) c.args.entry.now EarlyForget (IndexOrder ∷ AllCells ∷ []) c.forgets_late.result c.if-not-forgets_late.false (c.forgets_late.ensures c.args.partitions) AllCells
     (kept_first (g.R.Rules.protocol c.args.partitions) (reverse c.args.past.now) c.args.entry.now IndexOrder (AllCells ∷ []) c.feeds_in_order.result c.if-not-feeds_in_order.false (c.feeds_in_order.ensures c.args.entry.now.pass) AllCells
-    (broken (g.R.Rules.protocol c.args.partitions) (reverse c.args.past.now) c.args.entry.now AllCells ([]) c.is_over_its_cells.result c.if-not-is_over_its_cells.true (c.is_over_its_cells.ensures c.args.partitions)))))))))
+    (broken (g.R.Rules.protocol c.args.partitions) (reverse c.args.past.now) c.args.entry.now AllCells ([]) c.has_its_reach.result c.if-not-has_its_reach.true (c.has_its_reach.ensures c.args.partitions)))))))))
 
 pub returns : goal.returns
 returns g c =
-    ((c.names_begun.ensures c.args.partitions c.args.entry.now.pass).0 c.if-not-names_begun.false, ((c.has_ground_for.ensures c.args.partitions).0 c.if-not-has_ground_for.false, ((c.has_ground_for-2.ensures c.args.partitions).0 c.if-not-has_ground_for-2.false, ((c.applies_late.ensures c.args.partitions c.args.entry.now.pass).0 c.if-not-applies_late.false, ((c.releases_late.ensures c.args.partitions c.args.entry.now.pass).0 c.if-not-releases_late.false, ((c.finishes_late.ensures c.args.partitions c.args.entry.now.pass).0 c.if-not-finishes_late.false, ((c.forgets_late.ensures c.args.partitions).0 c.if-not-forgets_late.false, ((c.feeds_in_order.ensures c.args.entry.now.pass).0 c.if-not-feeds_in_order.false, ((c.is_over_its_cells.ensures c.args.partitions).0 c.if-not-is_over_its_cells.false, tt)))))))))
+    ((c.names_begun.ensures c.args.partitions c.args.entry.now.pass).0 c.if-not-names_begun.false, ((c.has_ground_for.ensures c.args.partitions).0 c.if-not-has_ground_for.false, ((c.has_ground_for-2.ensures c.args.partitions).0 c.if-not-has_ground_for-2.false, ((c.applies_late.ensures c.args.partitions c.args.entry.now.pass).0 c.if-not-applies_late.false, ((c.releases_late.ensures c.args.partitions c.args.entry.now.pass).0 c.if-not-releases_late.false, ((c.finishes_late.ensures c.args.partitions c.args.entry.now.pass).0 c.if-not-finishes_late.false, ((c.forgets_late.ensures c.args.partitions).0 c.if-not-forgets_late.false, ((c.feeds_in_order.ensures c.args.entry.now.pass).0 c.if-not-feeds_in_order.false, ((c.has_its_reach.ensures c.args.partitions).0 c.if-not-has_its_reach.false, tt)))))))))

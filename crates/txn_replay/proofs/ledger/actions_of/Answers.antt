@@ -1,5 +1,5 @@
 use Rattle.std.proofs.Common.{◌∙◌, arith}
-use Rattle.txn_core.specs.World.{world}
+use Rattle.txn_core.specs.State.{state_after}
 use Rattle.txn_core.specs.History.{effects}
 use Rattle.txn_replay.proofs.Folding.{next_more, actions_more, at_end}
 use Rattle.txn_replay.proofs.ledger.actions_of.Goals as goal
@@ -13,4 +13,4 @@ loop-entry-preserved g c =
     }
 
 pub returns : goal.returns
-returns g c = λ n. at_end (λ es. (world (g.R.Rules.protocol n).core (effects es)).ledger.actions c.args.number) c.args.past.now c.loop-entry.entry-index (omega arith) (omega arith) c.loop-entry.found.now (c.loop-entry.invariant.so n)
+returns g c = λ n. at_end (λ es. (state_after (g.R.Rules.protocol n).core (effects es)).ledger.actions c.args.number) c.args.past.now c.loop-entry.entry-index (omega arith) (omega arith) c.loop-entry.found.now (c.loop-entry.invariant.so n)

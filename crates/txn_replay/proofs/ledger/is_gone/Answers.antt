@@ -1,5 +1,5 @@
 use Rattle.std.proofs.Common.{◌∙◌, arith}
-use Rattle.txn_core.specs.World.{world}
+use Rattle.txn_core.specs.State.{state_after}
 use Rattle.txn_core.specs.History.{effects}
 use Rattle.txn_replay.proofs.Folding.{gone_more, at_end}
 use Rattle.txn_replay.proofs.ledger.is_gone.Goals as goal
@@ -8,4 +8,4 @@ pub loop-entry-preserved : goal.loop-entry-preserved
 loop-entry-preserved g c = λ n. c.gone_or-found.ensures ∙ gone_more (g.R.Rules.protocol n).core c.args.past.now c.loop-entry.entry-index c.entry-item.result c.loop-entry-test.true c.entry-item.is c.args.number c.loop-entry.found (c.loop-entry.invariant n)
 
 pub returns : goal.returns
-returns g c = λ n. at_end (λ es. (world (g.R.Rules.protocol n).core (effects es)).ledger.gone c.args.number) c.args.past.now c.loop-entry.entry-index (omega arith) (omega arith) c.loop-entry.found (c.loop-entry.invariant n)
+returns g c = λ n. at_end (λ es. (state_after (g.R.Rules.protocol n).core (effects es)).ledger.gone c.args.number) c.args.past.now c.loop-entry.entry-index (omega arith) (omega arith) c.loop-entry.found (c.loop-entry.invariant n)

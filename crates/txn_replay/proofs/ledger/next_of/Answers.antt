@@ -1,5 +1,5 @@
 use Rattle.std.proofs.Common.{◌∙◌, arith}
-use Rattle.txn_core.specs.World.{world}
+use Rattle.txn_core.specs.State.{state_after}
 use Rattle.txn_core.specs.History.{effects}
 use Rattle.txn_replay.proofs.Folding.{next_more, at_end}
 use Rattle.txn_replay.proofs.ledger.next_of.Goals as goal
@@ -13,4 +13,4 @@ loop-entry-preserved g c =
     }
 
 pub returns-clause-exact : goal.returns-clause-exact
-returns-clause-exact g c = λ n. at_end (λ es. (world (g.R.Rules.protocol n).core (effects es)).ledger.next) c.args.past.now c.loop-entry.entry-index (omega arith) (omega arith) c.loop-entry.next (c.loop-entry.invariant.exact n)
+returns-clause-exact g c = λ n. at_end (λ es. (state_after (g.R.Rules.protocol n).core (effects es)).ledger.next) c.args.past.now c.loop-entry.entry-index (omega arith) (omega arith) c.loop-entry.next (c.loop-entry.invariant.exact n)

@@ -2,13 +2,13 @@ use Rattle.std.proofs.Common.{◌≡◌, inl, take, get_or, None, refl, arith}
 use Rattle.txn_core.specs.declared.kind.BreakKind.TheVariants.{WrongAnswer}
 use Rattle.txn_core.proofs.Basics.{true_false}
 use Rattle.txn_core.proofs.Breaking.{first_break, keeps_more, keeps_whole}
-use Rattle.txn_replay.specs.State.{keys_of, key_in}
+use Rattle.txn_replay.specs.Replica.{keys_of, key_in}
 use Rattle.txn_replay.proofs.Sequences.{key_at}
 use Rattle.txn_replay.proofs.Ending.{of_answers}
 use Rattle.txn_replay.proofs.replay.first_wrong.Goals as goal
 
 pub loop-place-init : goal.loop-place-init
-loop-place-init g c = record { right = tt; len = c.in_ok-board.ensures.len; state = c.in_ok-board.ensures.state }
+loop-place-init g c = record { right = tt; len = c.in_ok-replica.ensures.len; state = c.in_ok-replica.ensures.state }
 
 pub loop-place-preserved : goal.loop-place-preserved
 loop-place-preserved g c =

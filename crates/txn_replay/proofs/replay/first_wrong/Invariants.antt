@@ -1,6 +1,6 @@
 use Rattle.std.proofs.Common.{◌≡◌, length, reverse, take}
 use Rattle.txn_core.specs.Breaks.{AllKeep}
-use Rattle.txn_replay.specs.State.{IsBefore}
+use Rattle.txn_replay.specs.Replica.{IsBefore}
 use Rattle.txn_replay.proofs.Ending.{of_answers}
 use Rattle.txn_replay.proofs.replay.first_wrong.Given as goal
 
@@ -8,6 +8,6 @@ abbrev pub invariant-loop-place : goal.invariant-loop-place
 invariant-loop-place g l =
     record {
       right : AllKeep (g.R.Rules.protocol l.partitions) of_answers (reverse (take l.place l.entries));
-      len : length l.board.slots.items ≡ length l.entries;
-      state : IsBefore (g.R.Rules.protocol l.partitions) l.entries l.place l.board.catalog l.board.slots.items;
+      len : length l.replica.slots.items ≡ length l.entries;
+      state : IsBefore (g.R.Rules.protocol l.partitions) l.entries l.place l.replica.catalog l.replica.slots.items;
     }

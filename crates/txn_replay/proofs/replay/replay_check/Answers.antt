@@ -4,6 +4,7 @@ use Rattle.std.proofs.lemmas.List.{length-take}
 use Rattle.std.proofs.Math.Seq.{take-length}
 use Rattle.txn_core.specs.declared.kind.BreakKind.TheVariants.{WrongAnswer}
 use Rattle.txn_core.specs.Breaks.{AllKeep, IsFirstBreak}
+use Rattle.txn_core.proofs.Exports.{keeps_are_legal}
 use Rattle.txn_replay.specs.Ends.{ends_at}
 use Rattle.txn_replay.proofs.Ending.{of_answers, wrong_first, sending_first, both_keep, sent_before, place_within}
 use Rattle.txn_replay.proofs.replay.replay_check.Goals as goal
@@ -43,4 +44,4 @@ pub returns-in-None : goal.returns-in-None
 returns-in-None g c =
     let answers : AllKeep (g.R.Rules.protocol c.args.partitions) of_answers (reverse (take c.up_to-end.result c.args.entries.now)) = subst (λ o. MatchOption o (AllKeep (g.R.Rules.protocol c.args.partitions) of_answers (reverse (take c.up_to-end.result c.args.entries.now))) (λ p. IsFirstBreak (g.R.Rules.protocol c.args.partitions) of_answers (take c.up_to-end.result c.args.entries.now) p WrongAnswer)) c.in-Ok-None.field-0-is (c.in-Ok-None.ensures) in
     let at : c.up_to-end.result ≡ length c.args.entries.now = c.up_to-end.ensures ∙ ap (λ o. ends_at (length c.args.entries.now) o) c.in-None.is in
-    both_keep (g.R.Rules.protocol c.args.partitions) (reverse c.args.entries.now) (subst (λ l. AllKeep (g.R.Rules.protocol c.args.partitions) of_answers (reverse l)) (ap (λ n. take n c.args.entries.now) at ∙ take-length c.args.entries.now) answers) c.in-None.ensures
+    keeps_are_legal (g.R.Rules.protocol c.args.partitions) (reverse c.args.entries.now) (both_keep (g.R.Rules.protocol c.args.partitions) (reverse c.args.entries.now) (subst (λ l. AllKeep (g.R.Rules.protocol c.args.partitions) of_answers (reverse l)) (ap (λ n. take n c.args.entries.now) at ∙ take-length c.args.entries.now) answers) c.in-None.ensures)

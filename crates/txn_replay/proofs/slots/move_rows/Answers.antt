@@ -1,5 +1,5 @@
 use Rattle.std.proofs.Common.{arith}
-use Rattle.txn_replay.specs.State.{moved_in}
+use Rattle.txn_replay.specs.Replica.{moved_in}
 use Rattle.txn_replay.proofs.Sequences.{mapped_more, mapped_all}
 use Rattle.txn_replay.proofs.slots.move_rows.Goals as goal
 

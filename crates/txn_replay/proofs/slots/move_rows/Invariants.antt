@@ -1,5 +1,5 @@
 use Rattle.std.proofs.Common.{◌≡◌, ℕ, ◌++◌, map, take, drop}
-use Rattle.txn_replay.specs.State.{moved_in}
+use Rattle.txn_replay.specs.Replica.{moved_in}
 use Rattle.txn_replay.proofs.slots.move_rows.Given as goal
 
 abbrev pub invariant-loop-slot : goal.invariant-loop-slot

@@ -1,5 +1,5 @@
 use Rattle.std.proofs.Common.{arith}
-use Rattle.txn_replay.specs.State.{put_in}
+use Rattle.txn_replay.specs.Replica.{put_in}
 use Rattle.txn_replay.proofs.Sequences.{mapped_more, mapped_all}
 use Rattle.txn_replay.proofs.slots.put.Goals as goal
 

@@ -1,5 +1,5 @@
 use Rattle.std.proofs.Common.{◌≡◌, ℕ, ◌++◌, map, take, drop}
-use Rattle.txn_replay.specs.State.{put_in}
+use Rattle.txn_replay.specs.Replica.{put_in}
 use Rattle.txn_replay.proofs.slots.put.Given as goal
 
 abbrev pub invariant-loop-slot : goal.invariant-loop-slot

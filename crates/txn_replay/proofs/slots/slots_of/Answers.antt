@@ -1,6 +1,6 @@
 use Rattle.std.proofs.Common.{◌≡◌, [], ◌++◌, ◌∷◌, get_or, None, length, sym, ap, subst, arith}
-use Rattle.txn_core.specs.World.{world}
-use Rattle.txn_replay.specs.State.{keys_of, Fits}
+use Rattle.txn_core.specs.State.{state_after}
+use Rattle.txn_replay.specs.Replica.{keys_of, Fits}
 use Rattle.txn_replay.proofs.Sequences.{fits_more, fits_all}
 use Rattle.txn_replay.proofs.slots.slots_of.Goals as goal
 
@@ -13,9 +13,9 @@ loop-entry-preserved g c =
     record {
       as_long = omega (arith, c.in_ok-push.ensures.len);
       each = λ k less.
-          subst (λ xs. Fits (g.R.Rules.protocol c.args.partitions) (world (g.R.Rules.protocol c.args.partitions).core []) (get_or (keys_of (g.R.Rules.protocol c.args.partitions) c.args.entries.now) k None) (get_or xs k None)) (sym items)
-          (fits_more (g.R.Rules.protocol c.args.partitions) (world (g.R.Rules.protocol c.args.partitions).core []) c.args.entries.now c.loop-entry.entry-index c.loop-entry.slots.items c.loop-entry.invariant.as_long c.entry-item.result c.in_ok-slot_of.field-0 c.loop-entry-test.true c.entry-item.is c.loop-entry.invariant.each c.in_ok-slot_of.ensures k less);
+          subst (λ xs. Fits (g.R.Rules.protocol c.args.partitions) (state_after (g.R.Rules.protocol c.args.partitions).core []) (get_or (keys_of (g.R.Rules.protocol c.args.partitions) c.args.entries.now) k None) (get_or xs k None)) (sym items)
+          (fits_more (g.R.Rules.protocol c.args.partitions) (state_after (g.R.Rules.protocol c.args.partitions).core []) c.args.entries.now c.loop-entry.entry-index c.loop-entry.slots.items c.loop-entry.invariant.as_long c.entry-item.result c.in_ok-slot_of.field-0 c.loop-entry-test.true c.entry-item.is c.loop-entry.invariant.each c.in_ok-slot_of.ensures k less);
     }
 
 pub returns-clause-fits : goal.returns-clause-fits
-returns-clause-fits g c = λ k. fits_all (g.R.Rules.protocol c.args.partitions) (world (g.R.Rules.protocol c.args.partitions).core []) c.args.entries.now c.loop-entry.entry-index c.loop-entry.slots.items c.loop-entry.invariant.as_long (omega arith) c.loop-entry.invariant.each k
+returns-clause-fits g c = λ k. fits_all (g.R.Rules.protocol c.args.partitions) (state_after (g.R.Rules.protocol c.args.partitions).core []) c.args.entries.now c.loop-entry.entry-index c.loop-entry.slots.items c.loop-entry.invariant.as_long (omega arith) c.loop-entry.invariant.each k

@@ -1,5 +1,5 @@
 use Rattle.std.proofs.Common.{ap, sym, ◌∙◌, reverse, refl, arith}
-use Rattle.txn_core.specs.History.{purged, kept_after, kept, found_kept}
+use Rattle.txn_core.specs.History.{unless_over, kept_after, kept, found_kept}
 use Rattle.txn_replay.specs.Kept.{kept_in}
 use Rattle.txn_replay.proofs.Folding.{one_more, at_end}
 use Rattle.txn_replay.proofs.token.found.Goals as goal
@@ -10,5 +10,5 @@ loop-entry-preserved g c = c.keep-kept.ensures ∙ one_more (λ es. kept es c.in
 pub returns : goal.returns
 returns g c =
     c.purge.ensures
-    ∙ ap (λ old. purged c.args.moment old) (at_end (λ es. kept es c.in-Some.named) c.args.past.now c.loop-entry.entry-index (omega arith) (omega arith) (kept_in c.loop-entry.kept) c.loop-entry.invariant)
+    ∙ ap (λ old. unless_over c.args.moment old) (at_end (λ es. kept es c.in-Some.named) c.args.past.now c.loop-entry.entry-index (omega arith) (omega arith) (kept_in c.loop-entry.kept) c.loop-entry.invariant)
     ∙ ap (λ t. found_kept (reverse c.args.past.now) c.args.moment t) (sym c.in-Some.is)

@@ -1,0 +1,31 @@
+use Rattle.std.proofs.Common.{reverse, take, arith}
+use Rattle.std.proofs.lemmas.Result.{IfOk-weaker, IfOk-equal}
+use Rattle.txn_core.specs.State.{state_after}
+use Rattle.txn_core.specs.History.{effects}
+use Rattle.txn_replay.specs.Replica.{keys_of}
+use Rattle.txn_replay.proofs.Sequences.{key_at}
+use Rattle.txn_replay.proofs.Advancing.{have_room, before_more, command_more, no_command}
+use Rattle.txn_replay.proofs.replica.step.Goals as goal
+
+pub change_item-requires : goal.change_item-requires
+change_item-requires g c =
+    record { within = omega arith; room = have_room (g.R.Rules.protocol c.args.partitions) c.args.entries.now c.args.place c.args.replica.now.catalog c.args.replica.now.slots.items c.requires.state c.requires.within c.requires.room }
+
+pub returns-in-Command-clause-len : goal.returns-in-Command-clause-len
+returns-in-Command-clause-len g c = IfOk-equal c.change_catalog.result _ _ _ c.change_catalog.ensures.len c.requires.len
+
+pub returns-in-Command-clause-state : goal.returns-in-Command-clause-state
+returns-in-Command-clause-state g c =
+    IfOk-weaker c.change_catalog.result _ _
+    (λ u h. command_more (g.R.Rules.protocol c.args.partitions) c.args.entries.now c.args.place c.index-entries-place.result c.requires.within c.index-entries-place.is c.change_catalog.new.replica.catalog c.change_catalog.new.replica.slots.items c.in-Command.command c.in-Command.is (h c.args.partitions (keys_of (g.R.Rules.protocol c.args.partitions) c.args.entries.now) (state_after (g.R.Rules.protocol c.args.partitions).core (effects (reverse (take c.args.place c.args.entries.now)))) c.requires.state))
+    c.change_catalog.ensures.state
+
+pub returns-in_default : goal.returns-in_default
+returns-in_default g c =
+    record {
+      len = IfOk-equal c.change_item.result _ _ _ c.change_item.ensures.len c.requires.len;
+      state = IfOk-weaker c.change_item.result _ _
+          (λ u h. before_more (g.R.Rules.protocol c.args.partitions) c.args.entries.now c.args.place c.index-entries-place.result c.requires.within c.index-entries-place.is c.change_item.new.replica.catalog c.change_item.new.replica.slots.items
+          (h c.args.partitions (keys_of (g.R.Rules.protocol c.args.partitions) c.args.entries.now) (effects (reverse (take c.args.place c.args.entries.now))) (no_command (g.R.Rules.protocol c.args.partitions) c.index-entries-place.result.message c.in_default.not-Command) (key_at (g.R.Rules.protocol c.args.partitions) c.args.entries.now c.args.place c.index-entries-place.result c.requires.within c.index-entries-place.is) c.requires.state))
+          c.change_item.ensures.state;
+    }

@@ -1,0 +1,115 @@
+//! The state that a replay keeps, and one more entry.
+ghost use Rattle.std.specs.Prelude.{◌≡◌, ◌≤◌, ◌<◌, ◌+◌, ◌^◌, ℕ, IfOk, List, Option, length};
+ghost use Rattle.txn_core.specs.State.{State, step, state_after};
+ghost use Rattle.txn_core.specs.Effects.{Effect, Changed};
+ghost use Rattle.txn_core.specs.History.{where_so, effect, effects, is_changed};
+ghost use Rattle.txn_core.specs.declared.entry.Entry.{Entry};
+ghost use Rattle.txn_replay.specs.Replica.{key_in, IsReplica, IsBefore, Advances, HaveRoom};
+
+use crate::effect::{change_of, is_changed};
+use crate::item_answers::Reply;
+use crate::slots::{move_rows, put, slots_of};
+use crate::tracked::Tracked;
+use std::alloc::{AllocError as NoMemory, Global};
+use txn_core::{Event, Message, Rules};
+
+/// The state after the entries so far.
+#[derive(Drop)]
+pub struct Replica<K, V, C> {
+    /// The catalog.
+    pub catalog: C,
+    /// Of each entry of the whole list, the item that it names.
+    pub slots: Vec<Option<Tracked<K, V>>>,
+}
+
+/// A replica under these rules.
+pub type ReplicaOf<R> = Replica<<R as Rules>::Key, <R as Rules>::Value, <R as Rules>::Catalog>;
+
+/// The state before the first entry.
+pub fn begin<R: Rules>(
+    alloc: Global,
+    partitions: u32,
+    entries: &[Event<R>],
+) -> Result<ReplicaOf<R>, NoMemory>
+    requires { 1 ≤ partitions }
+    ensures len { IfOk result (λ replica. length replica.slots.items ≡ length entries.now) }
+    ensures state { IfOk result (λ replica. IsBefore (R.protocol partitions) entries.now 0 replica.catalog replica.slots.items) }
+{
+    let catalog = R::no_table(alloc)?;
+    let slots = slots_of::<R>(alloc, partitions, entries)?;
+    Ok(Replica { catalog, slots })
+}
+
+/// Takes a command that was carried out, at this moment; another answer changes nothing.
+fn change_catalog<R: Rules>(
+    alloc: Global,
+    replica: &mut ReplicaOf<R>,
+    command: &R::Command,
+    moment: u64,
+    answer: &Reply<R>,
+) -> Result<(), NoMemory>
+    ensures len { IfOk result (λ _. length replica.new.slots.items ≡ length replica.old.slots.items) }
+    ensures state { IfOk result (λ _. (n : ℕ) (keys : List (Option R.Key)) (w : State R.Key R.Value R.Action R.Catalog) → IsReplica (R.protocol n) keys w replica.old.catalog replica.old.slots.items → IsReplica (R.protocol n) keys (step (R.protocol n).core w (where_so (is_changed answer.now) (Changed command.now moment))) replica.new.catalog replica.new.slots.items) }
+{
+    if !is_changed::<R>(answer) {
+        return Ok(());
+    }
+    let next = R::change(alloc, command, moment, &replica.catalog)?;
+    move_rows::<R>(
+        alloc,
+        &replica.catalog,
+        &next,
+        command,
+        replica.slots.as_mut_slice(),
+    )?;
+    replica.catalog = next;
+    Ok(())
+}
+
+/// Takes a change of the item in this slot.
+fn change_item<R: Rules>(
+    alloc: Global,
+    replica: &mut ReplicaOf<R>,
+    place: usize,
+    entry: &Event<R>,
+) -> Result<(), NoMemory>
+    requires within { place < length replica.old.slots.items }
+    requires room { HaveRoom replica.old.slots.items }
+    ensures len { IfOk result (λ _. length replica.new.slots.items ≡ length replica.old.slots.items) }
+    ensures state { IfOk result (λ _. (n : ℕ) (keys : List (Option R.Key)) (es : List (Effect R.Key R.Action R.Command)) → Advances (R.protocol n) keys es place entry.now replica.old.catalog replica.old.slots.items replica.new.catalog replica.new.slots.items) }
+{
+    let Some(tracked) = &replica.slots[place] else {
+        return Ok(());
+    };
+    let Some(change) = change_of::<R>(alloc, &replica.catalog, tracked, entry)? else {
+        return Ok(());
+    };
+    let home = tracked.home;
+    let key = R::copy_of_key(alloc, &tracked.key)?;
+    put::<R>(alloc, home, &key, &change, replica.slots.as_mut_slice())
+}
+
+/// Takes the entry at this place.
+pub fn step<R: Rules>(
+    alloc: Global,
+    partitions: u32,
+    replica: &mut ReplicaOf<R>,
+    entries: &[Event<R>],
+    place: usize,
+) -> Result<(), NoMemory>
+    requires some { 1 ≤ partitions }
+    requires within { place < length entries.now }
+    requires len { length replica.old.slots.items ≡ length entries.now }
+    requires room { length entries.now < 2 ^ 64 }
+    requires state { IsBefore (R.protocol partitions) entries.now place replica.old.catalog replica.old.slots.items }
+    ensures len { IfOk result (λ _. length replica.new.slots.items ≡ length entries.now) }
+    ensures state { IfOk result (λ _. IsBefore (R.protocol partitions) entries.now (place + 1) replica.new.catalog replica.new.slots.items) }
+{
+    let entry = &entries[place];
+    match &entry.message {
+        Message::Command { command } => {
+            change_catalog::<R>(alloc, replica, command, entry.moment, &entry.answer)
+        }
+        _ => change_item::<R>(alloc, replica, place, entry),
+    }
+}
