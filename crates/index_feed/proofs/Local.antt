@@ -1,0 +1,167 @@
+-- A cell's own events decide its outbox, its marks and its rows.
+use Rattle.std.proofs.Common.{◌≡◌, ℕ, suc, Bool, true, false, ◌&&◌, nat_eq, nat_lt, List, [], ◌∷◌, ◌++◌, Option, None, if◌then◌else◌, refl, sym, ap, ◌∙◌, subst}
+use Rattle.std.specs.List.{flat_map}
+use Rattle.std.proofs.lemmas.Bool.{cond_both, and_left, ne_eqb}
+use Rattle.std.proofs.lemmas.List.{append-nil}
+use Rattle.index_feed.specs.declared.change.Change.{Change}
+use Rattle.index_feed.specs.Feed.{Indexed, Feed, Event, Sets, Commands, Peeks, Feeds, Acks, Rests, at, served, is_at, changes, founding, gather, is_fed, fed, acked, step, IsLawful, arranged}
+use Rattle.index_feed.proofs.Queued.{not_at_key}
+
+module _ {K V C : Type 0} (I : Indexed K V C) where
+  -- both hold the same in a cell
+  pub record AlikeAt (i : ℕ) (f h : Feed K V C) : Type 0 where
+    pub catalog : f.catalog ≡ h.catalog
+    pub row : (q : K) → I.cell_of q ≡ i → f.row q ≡ h.row q
+    pub keys : f.keys i ≡ h.keys i
+    pub sent : f.sent i ≡ h.sent i
+    pub outbox : f.outbox i ≡ h.outbox i
+    pub mark : (j : ℕ) → f.mark i j ≡ h.mark i j
+    pub shown : (g : ℕ) (q : K) → I.cell_of q ≡ i → f.shown g q ≡ h.shown g q
+
+  pub alike_itself : (i : ℕ) (f : Feed K V C) → AlikeAt i f f
+  alike_itself i f = record { catalog = refl; row = λ q _. refl; keys = refl; sent = refl; outbox = refl; mark = λ j. refl; shown = λ g q _. refl }
+
+  -- the event is of this cell, or of all
+  abbrev pub IsOf : ℕ → Event K V C → Type 0
+  IsOf i (Sets k new) = I.cell_of k ≡ i
+  IsOf i (Commands c ks row) = Unit {0}
+  IsOf i (Peeks j o) = j ≡ i
+  IsOf i (Feeds j s c) = I.cell_of c.key ≡ i
+  IsOf i (Acks j s) = j ≡ i
+  IsOf i Rests = ⊥
+
+  module _ (law : IsLawful I) where
+    acked_apart : (i j s : ℕ) (f : Feed K V C) (xs : List (Change K V)) → (j ≡ i → ⊥) → AlikeAt i (acked I f j s xs) f
+    acked_apart i j s f [] apart = alike_itself i f
+    acked_apart i j s f (x ∷ xs) apart =
+        cond_both (nat_eq s (suc (f.sent j))) (record f { sent = at f.sent j s; outbox = at f.outbox j xs }) f (λ h. AlikeAt i h f)
+        (λ _. record {
+          catalog = refl;
+          row = λ q _. refl;
+          keys = refl;
+          sent = ap (λ b. if b then s else f.sent i) (ne_eqb j i apart);
+          outbox = ap (λ b. if b then xs else f.outbox i) (ne_eqb j i apart);
+          mark = λ j. refl;
+          shown = λ g q _. refl;
+        })
+        (λ _. alike_itself i f)
+
+    -- an event of another cell changes nothing here
+    pub others_leave : (i : ℕ) (f : Feed K V C) (x : Event K V C) → (IsOf i x → ⊥) → AlikeAt i (step I f x) f
+    others_leave i f (Sets k new) apart =
+        record {
+          catalog = refl;
+          row = λ q home. cond_both (I.same k q) new (f.row q) (λ v. v ≡ f.row q) (λ s. absurd (apart (ap I.cell_of (law.exact k q s) ∙ home))) (λ _. refl);
+          keys = ap (λ b. if b then arranged I k (f.keys (I.cell_of k)) else f.keys i) (ne_eqb (I.cell_of k) i apart);
+          sent = refl;
+          outbox = ap (λ b. f.outbox i ++ (if b then changes I f.catalog k (f.row k) new else [])) (ne_eqb (I.cell_of k) i apart) ∙ append-nil (f.outbox i);
+          mark = λ j. refl;
+          shown = λ g q _. refl;
+        }
+    others_leave i f (Commands c ks row) apart = absurd (apart tt)
+    others_leave i f (Peeks j o) apart = alike_itself i f
+    others_leave i f (Feeds j s c) apart =
+        cond_both (is_fed I f j s c) (fed I f j s c) f (λ h. AlikeAt i h f)
+        (λ _. record {
+          catalog = refl;
+          row = λ q _. refl;
+          keys = refl;
+          sent = refl;
+          outbox = refl;
+          mark = λ u. ap (λ b. if b then s else f.mark i u) (and_left (nat_eq i (I.cell_of c.key)) (nat_eq u j) (ne_eqb i (I.cell_of c.key) (λ e. apart (sym e))));
+          shown = λ g q home. ap (λ b. if b then c.after else f.shown g q) (not_at_key I law c g q (λ e. apart (ap I.cell_of e ∙ home)));
+        })
+        (λ _. alike_itself i f)
+    others_leave i f (Acks j s) apart = acked_apart i j s f (f.outbox j) apart
+    others_leave i f Rests apart = alike_itself i f
+
+    -- the founding of a cell's items depends on the catalog that was there
+    fed_alike :
+        (i j s : ℕ) (c : Change K V) (f h : Feed K V C) → I.cell_of c.key ≡ i → AlikeAt i f h
+        → is_fed I f j s c ≡ is_fed I h j s c
+    fed_alike i j s c f h home a =
+        ap (λ n. nat_lt n s && served I f.catalog c.index (I.item_of c.key)) (ap (λ z. f.mark z j) home ∙ a.mark j ∙ ap (λ z. h.mark z j) (sym home))
+        ∙ ap (λ d. nat_lt (h.mark (I.cell_of c.key) j) s && served I d c.index (I.item_of c.key)) a.catalog
+
+    both_if :
+        (i : ℕ) (b d : Bool) (f g h k : Feed K V C) → b ≡ d → AlikeAt i f h → AlikeAt i g k
+        → AlikeAt i (if b then f else g) (if d then h else k)
+    both_if i true true f g h k e x y = x
+    both_if i false false f g h k e x y = y
+    both_if i true false f g h k e x y = absurd (cc)
+    both_if i false true f g h k e x y = absurd (cc)
+
+    acked_alike :
+        (i s : ℕ) (f h : Feed K V C) (xs : List (Change K V)) → AlikeAt i f h
+        → AlikeAt i (acked I f i s xs) (acked I h i s xs)
+    acked_alike i s f h [] a = a
+    acked_alike i s f h (x ∷ xs) a =
+        both_if i (nat_eq s (suc (f.sent i))) (nat_eq s (suc (h.sent i))) (record f { sent = at f.sent i s; outbox = at f.outbox i xs }) f (record h { sent = at h.sent i s; outbox = at h.outbox i xs }) h
+        (ap (λ n. nat_eq s (suc n)) a.sent)
+        (record {
+          catalog = a.catalog;
+          row = a.row;
+          keys = a.keys;
+          sent = ap (λ n. if nat_eq i i then s else n) a.sent;
+          outbox = ap (λ ys. if nat_eq i i then xs else ys) a.outbox;
+          mark = a.mark;
+          shown = a.shown;
+        })
+        a
+
+    founds_alike :
+        (i : ℕ) (b d c : C) (row : K → Option V) (ks js : List K) → b ≡ d → ks ≡ js
+        → flat_map (λ k. if nat_eq (I.cell_of k) i then founding I b c k (row k) else []) ks ≡ flat_map (λ k. if nat_eq (I.cell_of k) i then founding I d c k (row k) else []) js
+    founds_alike i b d c row ks js e h =
+        ap (λ z. flat_map (λ k. if nat_eq (I.cell_of k) i then founding I z c k (row k) else []) ks) e
+        ∙ ap (λ zs. flat_map (λ k. if nat_eq (I.cell_of k) i then founding I d c k (row k) else []) zs) h
+
+    -- two that hold the same in a cell go on so at its events
+    pub own_alike :
+        (i : ℕ) (f h : Feed K V C) (x : Event K V C) → IsOf i x → AlikeAt i f h
+        → AlikeAt i (step I f x) (step I h x)
+    own_alike i f h (Sets k new) home a =
+        record {
+          catalog = a.catalog;
+          row = λ q there. ap (λ v. if I.same k q then new else v) (a.row q there);
+          keys =
+              ap (λ z. at f.keys z (arranged I k (f.keys z)) i) home
+              ∙ ap (λ ys. if nat_eq i i then arranged I k ys else ys) a.keys
+              ∙ sym (ap (λ z. at h.keys z (arranged I k (h.keys z)) i) home);
+          sent = a.sent;
+          outbox =
+              ap (λ ys. ys ++ (if nat_eq (I.cell_of k) i then changes I f.catalog k (f.row k) new else [])) a.outbox
+              ∙ ap (λ d. h.outbox i ++ (if nat_eq (I.cell_of k) i then changes I d k (f.row k) new else [])) a.catalog
+              ∙ ap (λ v. h.outbox i ++ (if nat_eq (I.cell_of k) i then changes I h.catalog k v new else [])) (a.row k home);
+          mark = a.mark;
+          shown = a.shown;
+        }
+    own_alike i f h (Commands c ks row) home a =
+        record {
+          catalog = refl;
+          row = λ q _. refl;
+          keys = ap (λ ys. gather I i ks ys) a.keys;
+          sent = a.sent;
+          outbox =
+              ap (λ ys. ys ++ flat_map (λ k. if nat_eq (I.cell_of k) i then founding I f.catalog c k (row k) else []) (gather I i ks (f.keys i))) a.outbox
+              ∙ ap (λ ys. h.outbox i ++ ys) (founds_alike i f.catalog h.catalog c row (gather I i ks (f.keys i)) (gather I i ks (h.keys i)) a.catalog (ap (λ ys. gather I i ks ys) a.keys));
+          mark = a.mark;
+          shown = λ g q there. ap (λ v. if served I c g (I.item_of q) then v else None) (a.shown g q there);
+        }
+    own_alike i f h (Peeks j o) home a = a
+    own_alike i f h (Feeds j s c) home a =
+        both_if i (is_fed I f j s c) (is_fed I h j s c) (fed I f j s c) f (fed I h j s c) h (fed_alike i j s c f h home a)
+        (record {
+          catalog = a.catalog;
+          row = a.row;
+          keys = a.keys;
+          sent = a.sent;
+          outbox = a.outbox;
+          mark = λ u. ap (λ n. if nat_eq i (I.cell_of c.key) && nat_eq u j then s else n) (a.mark u);
+          shown = λ g q there. ap (λ v. if is_at I c g q then c.after else v) (a.shown g q there);
+        })
+        a
+    own_alike i f h (Acks j s) home a =
+        subst (λ z. AlikeAt i (acked I f z s (f.outbox z)) (acked I h z s (h.outbox z))) (sym home)
+        (subst (λ ys. AlikeAt i (acked I f i s (f.outbox i)) (acked I h i s ys)) a.outbox (acked_alike i s f h (f.outbox i) a))
+    own_alike i f h Rests home a = absurd home

@@ -1,0 +1,55 @@
+-- What holds of the feed in every legal list of events.
+use Rattle.std.specs.Prelude.{◌≡◌, ℕ, ◌≤◌, true, false, List, [], ◌∷◌, Option, None, Some}
+use Rattle.index_feed.specs.declared.change.Change.{Change}
+use Rattle.index_feed.specs.Feed.{Out, Indexed, Event, Peeks, Feeds, Acks, served, overlay, feed, due, WasSent, IsLegal, WasDue}
+
+module _ {K V C : Type 0} (I : Indexed K V C) where
+  -- each row of an index is its item's projection at a prefix
+  abbrev pub IndexRowsProject : Type 0
+  IndexRowsProject =
+      (c : C) (es : List (Event K V C)) → IsLegal I c es → (g : ℕ) (q : K) (r : V)
+      → (feed I c es).shown g q ≡ Some r → WasDue I c es g q r
+
+  -- an index's row, after the changes that wait in the outbox of its item, is its item's projection
+  abbrev pub WhatWaitsCompletes : Type 0
+  WhatWaitsCompletes =
+      (c : C) (es : List (Event K V C)) → IsLegal I c es → (g : ℕ) (q : K)
+      → served I (feed I c es).catalog g (I.item_of q) ≡ true
+      → overlay I ((feed I c es).outbox (I.cell_of (I.item_of q))) g q ((feed I c es).shown g q) ≡ due I (feed I c es) g q
+
+  -- an index that is gone has no rows, and never gets one
+  abbrev pub NoneServedNoRow : Type 0
+  NoneServedNoRow =
+      (c : C) (es : List (Event K V C)) → IsLegal I c es → (g : ℕ) (q : K)
+      → served I (feed I c es).catalog g (I.item_of q) ≡ false → (feed I c es).shown g q ≡ None
+
+  -- where every outbox is empty each index has exactly the rows that it should have
+  abbrev pub DrainedIsProjection : Type 0
+  DrainedIsProjection =
+      (c : C) (es : List (Event K V C)) → IsLegal I c es → ((i : ℕ) → (feed I c es).outbox i ≡ []) → (g : ℕ) (q : K)
+      → (feed I c es).shown g q ≡ due I (feed I c es) g q
+
+  -- an ApplyIndex after one of the same source and sequence changes nothing, however late
+  abbrev pub RepeatsChangeNothing : Type 0
+  RepeatsChangeNothing =
+      (c : C) (es : List (Event K V C)) (i s : ℕ) (x : Change K V) → IsLegal I c (Feeds i s x ∷ es)
+      → WasSent I es i s → feed I c (Feeds i s x ∷ es) ≡ feed I c es
+
+  -- nor does an Ack of a sequence that was acknowledged
+  abbrev pub AcksChangeOnce : Type 0
+  AcksChangeOnce =
+      (c : C) (es : List (Event K V C)) (i s : ℕ) → s ≤ (feed I c es).sent i
+      → feed I c (Acks i s ∷ es) ≡ feed I c es
+
+  -- what should be there is the same before and after every message of the feed
+  pub record LeaveItems (c : C) (es : List (Event K V C)) : Type 0 where
+    pub peeks :
+        (i : ℕ) (o : Option (Out K V)) (g : ℕ) (q : K)
+        → due I (feed I c (Peeks i o ∷ es)) g q ≡ due I (feed I c es) g q
+    pub feeds :
+        (i s : ℕ) (x : Change K V) (g : ℕ) (q : K)
+        → due I (feed I c (Feeds i s x ∷ es)) g q ≡ due I (feed I c es) g q
+    pub acks : (i s : ℕ) (g : ℕ) (q : K) → due I (feed I c (Acks i s ∷ es)) g q ≡ due I (feed I c es) g q
+
+  abbrev pub FeedsLeaveItems : Type 0
+  FeedsLeaveItems = (c : C) (es : List (Event K V C)) → LeaveItems c es
