@@ -4,10 +4,10 @@ use Rattle.std.specs.List.{find}
 use Rattle.std.proofs.lemmas.Bool.{cond_both}
 use Rattle.txn_core.specs.declared.stamp.Stamp.{Stamp}
 use Rattle.txn_core.specs.declared.fate.Fate.TheVariants.{Undecided, Committed, Cancelled}
-use Rattle.txn_core.specs.Stamps.{earlier, IsBy}
+use Rattle.txn_core.specs.Stamps.{earlier, IsBy, later, single}
 use Rattle.txn_core.specs.declared.outcome.Outcome.TheVariants.{New}
 use Rattle.txn_core.specs.Protocol.{after, Protocol, IsLawful}
-use Rattle.txn_core.specs.State.{Pending, Spot, Tally, Ledger, holder, last, on_item, action_on, after_action, touches, at, kept_or, ledger_begun, ledger_decided, ledger_finished, ledger_forgot, spot_commits, spot_changed}
+use Rattle.txn_core.specs.State.{Pending, Spot, Tally, Ledger, holder, last, on_item, action_on, after_action, touches, at, kept_or, ledger_begun, ledger_decided, ledger_finished, ledger_forgot, spot_commits, spot_changed, tally_changed}
 use Rattle.txn_core.proofs.Basics.{none_some, some_is, true_false, at_split, holder_is, none_of}
 use Rattle.txn_core.proofs.Invariant.{GoodSpot}
 
@@ -209,7 +209,7 @@ module _ {K V A F C D : Type 0} (P : Protocol K V A F C D) (l : Ledger A) (cat :
       }
 
   -- the catalog changes
-  pub kept_changed : IsLawful P → (d : D) (moment : ℕ) → ((p : Pending V) → s.pend ≡ Some p → P.there (P.change d moment cat) q ≡ true) → ((p : Pending V) (a : A) (v : Option V) → s.pend ≡ Some p → P.same (P.key_of a) q ≡ true → P.act (P.change d moment cat) a v ≡ P.act cat a v) → GoodSpot P l cat c q s → GoodSpot P l (P.change d moment cat) c q (spot_changed (P.there cat q) (P.there (P.change d moment cat) q) (P.adds d cat q) s)
+  pub kept_changed : IsLawful P → (d : D) (moment : ℕ) → ((p : Pending V) → s.pend ≡ Some p → P.there (P.change d moment cat) q ≡ true) → ((p : Pending V) (a : A) (v : Option V) → s.pend ≡ Some p → P.same (P.key_of a) q ≡ true → P.act (P.change d moment cat) a v ≡ P.act cat a v) → GoodSpot P l cat c q s → GoodSpot P l (P.change d moment cat) (tally_changed c) q (spot_changed c moment (P.there cat q) (P.there (P.change d moment cat) q) (P.adds d cat q) s)
   kept_changed law d moment stays acts_alike g =
       record {
         drawn = g.drawn;
@@ -242,10 +242,12 @@ module _ {K V A F C D : Type 0} (P : Protocol K V A F C D) (l : Ledger A) (cat :
           ap (λ b. kept_or b (P.there (P.change d moment cat) q) v (P.adds d cat q)) (g.alive p e)
           ∙ ap (λ b. kept_or true b v (P.adds d cat q)) (stays p e)
 
-      late_of : (m : ℕ) → s.applied m ≡ true → P.there (P.change d moment cat) q ≡ true → (P.there cat q ≡ true) ⊎ (P.drawn cat < P.table q) → IsBy (l.stamp m) (last c (spot_changed (P.there cat q) (P.there (P.change d moment cat) q) (P.adds d cat q) s))
+      late_of : (m : ℕ) → s.applied m ≡ true → P.there (P.change d moment cat) q ≡ true → (P.there cat q ≡ true) ⊎ (P.drawn cat < P.table q) → IsBy (l.stamp m) (last (tally_changed c) (spot_changed c moment (P.there cat q) (P.there (P.change d moment cat) q) (P.adds d cat q) s))
       late_of m h t (inl was) =
           let same : kept_or (P.there cat q) (P.there (P.change d moment cat) q) s.row (P.adds d cat q) ≡ s.row =
           ap (λ b. kept_or b (P.there (P.change d moment cat) q) s.row (P.adds d cat q)) was
           ∙ ap (λ b. kept_or true b s.row (P.adds d cat q)) t in
-          subst (λ v. IsBy (l.stamp m) (cond (is_some v) s.stamp c.floor)) (sym same) (g.late m was h)
+          let stamps : last (tally_changed c) (spot_changed c moment (P.there cat q) (P.there (P.change d moment cat) q) (P.adds d cat q) s) ≡ last c s =
+          λ i. cond (is_some (same i)) (cond (was i) s.stamp (later c.floor (single moment))) c.floor in
+          subst (λ t. IsBy (l.stamp m) t) (sym stamps) (g.late m was h)
       late_of m h t (inr new) = true_false (s.applied m) h ((g.unborn new).1 m)

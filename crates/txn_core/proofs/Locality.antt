@@ -12,7 +12,7 @@ use Rattle.txn_core.specs.Stamps.{later, single}
 use Rattle.txn_core.specs.Protocol.{after, Protocol, IsLawful}
 use Rattle.txn_core.specs.Service.{Service, IsServiceLawful}
 use Rattle.txn_core.specs.Effects.{Effect, Wrote, Begun, Prepared, Commits, Cancels, Applied, Released, Finished, Forgot, Changed, Quiet}
-use Rattle.txn_core.specs.State.{Spot, Tally, State, at, hold, image_or, stamp_or, tally_after, kept_or, ledger_begun, ledger_decided, ledger_finished, ledger_forgot, spot_wrote, spot_prepared, spot_applied, spot_released, here, on_key, step}
+use Rattle.txn_core.specs.State.{Spot, Tally, State, at, hold, image_or, stamp_or, tally_after, tally_changed, kept_or, ledger_begun, ledger_decided, ledger_finished, ledger_forgot, spot_wrote, spot_prepared, spot_applied, spot_released, here, on_key, step}
 use Rattle.txn_core.specs.Answers.{KeptToken}
 use Rattle.txn_core.specs.History.{where_so, begin_effect, decide_effect, effect_of, effect, kept_after, kept, reasons_in, reasons_of}
 use Rattle.txn_core.specs.Legal.{state, sent_to, IsLegal}
@@ -113,8 +113,14 @@ module _ {K V A F C D : Type 0} (P : Protocol K V A F C D) (law : IsLawful P) (i
           items = λ q at_q j.
               let x = s.items q at_q j in
               let c = s.catalog j in
-              record { row = kept_or (P.there c q) (P.there (P.change d moment c) q) x.row (P.adds d c q); stamp = x.stamp; version = x.version; pend = x.pend };
-          numbers = s.numbers;
+              let t = here_same q at_q j in
+              record {
+                row = kept_or (P.there c q) (P.there (P.change d moment c) q) x.row (P.adds d c q);
+                stamp = if P.there c q then x.stamp else later t.floor (single moment);
+                version = if P.there c q then x.version else t.count + 1;
+                pend = x.pend;
+              };
+          numbers = λ j. tally_changed (s.numbers j);
           catalog = λ j. P.change d moment (s.catalog j);
         }
     same_step (Begun stamp actions) = record { items = s.items; numbers = s.numbers; catalog = s.catalog }

@@ -65,7 +65,11 @@ module _ {K V A F C D : Type 0} (P : Protocol K V A F C D) where
     counted_step w (Prepared n stamp a) h =
         counted_on_key w (P.key_of a) (spot_prepared P w.catalog n stamp a) (here P w (P.key_of a)) h (λ s v. v) (omega arith) (h.gone (P.cell_of (P.key_of a)))
     counted_step w (Released n k) h = counted_on_key w k (λ s. spot_released s) (here P w k) h (λ s v. v) (omega arith) (h.gone (P.cell_of k))
-    counted_step w (Changed d moment) h = record { versions = h.versions; gone = h.gone }
+    counted_step w (Changed d moment) h =
+        record {
+          versions = λ q. cond_both (P.there w.catalog q) (w.spot q).version ((here P w q).count + 1) (λ n. n ≤ (here P w q).count + 1) (λ _. let v = h.versions q in omega arith) (λ _. omega arith);
+          gone = λ i. let g = h.gone i in omega arith;
+        }
     counted_step w (Commits n) h = record { versions = h.versions; gone = h.gone }
     counted_step w _ h = record { versions = h.versions; gone = h.gone }
 
@@ -181,7 +185,7 @@ module _ {K V A F C D : Type 0} (P : Protocol K V A F C D) where
           let row : kept_or (P.there w.catalog q) (P.there (P.change d moment w.catalog) q) (w.spot q).row (P.adds d w.catalog q) ≡ (w.spot q).row =
           ap (λ b. kept_or b (P.there (P.change d moment w.catalog) q) (w.spot q).row (P.adds d w.catalog q)) before
           ∙ ap (λ b. kept_or true b (w.spot q).row (P.adds d w.catalog q)) now in
-          inl (record { row = row; version = ap (λ x. if is_some x then (w.spot q).version else (here P w q).gone) row; stays = λ p h fate. (h, fate) })
+          inl (record { row = row; version = λ i. if is_some (row i) then (if before i then (w.spot q).version else (here P w q).count + 1) else (here P w q).gone; stays = λ p h fate. (h, fate) })
       still_or_new (Begun stamp actions) may before now = inl (record { row = refl; version = refl; stays = λ p h fate. (h, fate) })
       still_or_new _ may before now = inl (record { row = refl; version = refl; stays = λ p h fate. (h, fate) })
 

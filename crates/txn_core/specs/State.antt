@@ -96,8 +96,19 @@ spot_applied c n s =
 abbrev pub spot_released : {V : Type 0} → Spot V → Spot V
 spot_released s = record s { pend = None }
 
-abbrev pub spot_changed : {V : Type 0} → Bool → Bool → Option V → Spot V → Spot V
-spot_changed before now new s = record s { row = kept_or before now s.row new; tab = kept_or before now s.tab new }
+-- an item after a change of the catalog: what comes with its table is stamped and counted like a write that creates it
+abbrev pub spot_changed : {V : Type 0} → Tally → ℕ → Bool → Bool → Option V → Spot V → Spot V
+spot_changed c moment before now new s =
+    record s {
+      row = kept_or before now s.row new;
+      stamp = if before then s.stamp else later c.floor (single moment);
+      version = if before then s.version else c.count + 1;
+      tab = kept_or before now s.tab new;
+    }
+
+-- each change of the catalog counts once in each cell
+abbrev pub tally_changed : Tally → Tally
+tally_changed c = record c { count = c.count + 1 }
 
 abbrev pub ledger_begun : {A : Type 0} → Ledger A → Stamp → List A → Ledger A
 ledger_begun l stamp actions = record l { next = suc l.next; stamp = at l.stamp l.next stamp; actions = at l.actions l.next actions }
@@ -175,7 +186,11 @@ module _ {K V A F C D : Type 0} (P : Protocol K V A F C D) where
   step w (Forgot n) = record w { ledger = ledger_forgot w.ledger n }
   step w (Changed d moment) =
       let next = P.change d moment w.catalog in
-      record w { spot = λ q. spot_changed (P.there w.catalog q) (P.there next q) (P.adds d w.catalog q) (w.spot q); catalog = next }
+      record w {
+        spot = λ q. spot_changed (here w q) moment (P.there w.catalog q) (P.there next q) (P.adds d w.catalog q) (w.spot q);
+        cell = λ i. tally_changed (w.cell i);
+        catalog = next;
+      }
   step w Quiet = w
 
   -- an item that nobody named yet

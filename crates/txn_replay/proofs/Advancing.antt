@@ -124,7 +124,7 @@ module _ {K V A F C D Q B : Type 0} (S : Service K V A F C D Q B) (keys : List (
   pub catalog_stays : (w : State K V A C) (moment : ℕ) (d : D) (b : Bool) → b ≡ false → IsReplica S keys w now slots → IsReplica S keys (step S.core w (where_so b (Changed d moment))) now slots
   catalog_stays w moment d b no' old = subst (λ x. IsReplica S keys (step S.core w (where_so x (Changed d moment))) now slots) (sym no') old
 
-  pub catalog_moves : (w : State K V A C) (moment : ℕ) (d : D) (b : Bool) → b ≡ true → (next : C) → next ≡ S.core.change d moment now → (law : IsServiceLawful S) (after : List (Option (Tracked K V))) → after ≡ map (moved_in S.core now next d) slots → IsReplica S keys w now slots → IsReplica S keys (step S.core w (where_so b (Changed d moment))) next after
+  pub catalog_moves : (w : State K V A C) (moment : ℕ) (d : D) (b : Bool) → b ≡ true → (next : C) → next ≡ S.core.change d moment now → (law : IsServiceLawful S) (after : List (Option (Tracked K V))) → after ≡ map (moved_in S.core moment now next d) slots → IsReplica S keys w now slots → IsReplica S keys (step S.core w (where_so b (Changed d moment))) next after
   catalog_moves w moment d b yes' next next_is law after after_is old =
       subst (λ x. IsReplica S keys (step S.core w (where_so x (Changed d moment))) next after) (sym yes')
       (subst (λ xs. IsReplica S keys (step S.core w (Changed d moment)) next xs) (sym after_is) (state_moved S law keys w now slots old d moment next next_is))

@@ -49,7 +49,14 @@ module _ {K V A F C D : Type 0} (P : Protocol K V A F C D) (law : IsLawful P) wh
       λ j.
       let z = alike es x y same j in
       let cat = (state_after P es).catalog in
-      record { row = kept_or (law.one_place cat x y same j) (law.one_place (P.change d moment cat) x y same j) z.row (law.one_gift d cat x y same j); stamp = z.stamp; version = z.version; pend = z.pend }
+      let was = law.one_place cat x y same j in
+      let c = (state_after P es).cell (law.one_cell x y same j) in
+      record {
+        row = kept_or was (law.one_place (P.change d moment cat) x y same j) z.row (law.one_gift d cat x y same j);
+        stamp = if was then z.stamp else later c.floor (single moment);
+        version = if was then z.version else c.count + 1;
+        pend = z.pend;
+      }
   alike (Commits n ∷ es) x y same = alike es x y same
   alike (Begun stamp actions ∷ es) x y same = alike es x y same
   alike (Cancels n ∷ es) x y same = alike es x y same

@@ -5,7 +5,7 @@ use Rattle.std.specs.List.{list_all}
 use Rattle.std.proofs.Math.ListN.{set}
 use Rattle.std.proofs.Math.Seq.{drop-cons}
 use Rattle.std.proofs.lemmas.Bool.{cases_lt}
-use Rattle.std.proofs.lemmas.List.{get_or-map, get_or_push, get_or_append_left, get_or_past, get_or_default, append-nil, length-map, drop_all}
+use Rattle.std.proofs.lemmas.List.{get_or-map, get_or_push, get_or_append_left, get_or_past, get_or_default, get_or-append_right, append-nil, length-map, length-take-le, get_or-drop, drop_all}
 use Rattle.std.proofs.lemmas.List.Edits.{map_over_more}
 use Rattle.txn_core.specs.declared.entry.Entry.{Entry}
 use Rattle.txn_core.specs.Service.{Service}
@@ -17,6 +17,16 @@ use Rattle.txn_replay.specs.Replica.{key_in, keys_of, Fits}
 module _ {X : Type 0} (f : X → X) (xs ys : List X) (i : ℕ) where
   pub mapped_more : (x y : X) → i < length xs → ys ≡ map f (take i xs) ++ drop i xs → x ≡ get_or ys i x → y ≡ f (get_or ys i x) → set ys i y ≡ map f (take (i + 1) xs) ++ drop (i + 1) xs
   mapped_more x y lt so is by = ap (λ z. set ys i z) (by ∙ ap f (sym is)) ∙ map_over_more f xs ys i x lt so is
+
+  -- what was not mapped yet is as it was
+  pub still_there : (x : X) → i < length xs → ys ≡ map f (take i xs) ++ drop i xs → get_or ys i x ≡ get_or xs i x
+  still_there x lt so =
+      let long : length (map f (take i xs)) ≡ i = length-map (take i xs) f ∙ length-take-le i xs (omega arith) in
+      ap (λ l. get_or l i x) so
+      ∙ get_or-append_right (map f (take i xs)) (drop i xs) i i x long (omega arith)
+      ∙ ap (λ k. get_or (drop i xs) k x) (omega arith)
+      ∙ get_or-drop i xs 0 x
+      ∙ ap (λ k. get_or xs k x) (omega arith)
 
   pub mapped_all : length xs ≤ i → i ≤ length xs → ys ≡ map f (take i xs) ++ drop i xs → ys ≡ map f xs
   mapped_all ge le so = so ∙ (λ j. map f (whole xs i ge le j) ++ drop_all i xs ge j) ∙ append-nil (map f xs)

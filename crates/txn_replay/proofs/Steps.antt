@@ -1,11 +1,12 @@
 -- The state after one more entry.
-use Rattle.std.proofs.Common.{◌≡◌, ℕ, ◌==◌, Bool, true, false, List, map, get_or, Option, None, Some, if◌then◌else◌, refl, sym, ap, ◌∙◌, subst}
+use Rattle.std.proofs.Common.{◌≡◌, ◌+◌, ℕ, ◌==◌, Bool, true, false, List, map, get_or, Option, None, Some, if◌then◌else◌, refl, sym, ap, ◌∙◌, subst}
 use Rattle.std.proofs.lemmas.Bool.{cond_both, eqb-true, eqb-false}
 use Rattle.std.proofs.Math.ListN.{get_or-map as got_map}
 use Rattle.txn_core.specs.Protocol.{Protocol, IsLawful}
 use Rattle.txn_core.specs.Service.{Service, IsServiceLawful}
 use Rattle.txn_core.specs.Effects.{Effect, Changed}
-use Rattle.txn_core.specs.State.{Spot, Tally, Pending, State, here, on_key, kept_or, step, state_after}
+use Rattle.txn_core.specs.State.{Spot, Tally, Pending, State, here, on_key, kept_or, tally_changed, step, state_after}
+use Rattle.txn_core.specs.Stamps.{later, single}
 use Rattle.txn_core.specs.Cells.{item}
 use Rattle.txn_core.proofs.Basics.{at_split}
 use Rattle.txn_replay.specs.declared.tracked.Tracked.{Tracked}
@@ -64,23 +65,30 @@ module _ {K V A F C D Q B : Type 0} (S : Service K V A F C D Q B) (law : IsServi
     next_of : next ≡ S.core.change d moment w.catalog
     next_of = next_is ∙ ap (λ c. S.core.change d moment c) old.catalog
 
-    moved_slot : (o : Option K) (slot : Option (Tracked K V)) → Fits S w o slot → Fits S (step S.core w (Changed d moment)) o (moved_in S.core now next d slot)
+    moved_slot : (o : Option K) (slot : Option (Tracked K V)) → Fits S w o slot → Fits S (step S.core w (Changed d moment)) o (moved_in S.core moment now next d slot)
     moved_slot o None fits = fits
     moved_slot o (Some t) fits = (
       fits.0,
       record {
         item = λ j.
             let x = fits.1.item j in
-            record { row = kept_or (S.core.there (old.catalog j) t.key) (S.core.there (next_of j) t.key) x.row (S.core.adds d (old.catalog j) t.key); stamp = x.stamp; version = x.version; pend = x.pend };
-        cell = fits.1.cell;
+            let c = fits.1.cell j in
+            let was = S.core.there (old.catalog j) t.key in
+            record {
+              row = kept_or was (S.core.there (next_of j) t.key) x.row (S.core.adds d (old.catalog j) t.key);
+              stamp = if was then x.stamp else later c.floor (single moment);
+              version = if was then x.version else c.count + 1;
+              pend = x.pend;
+            };
+        cell = λ j. tally_changed (fits.1.cell j);
         home = fits.1.home;
       },
     )
 
-    pub state_moved : IsReplica S keys (step S.core w (Changed d moment)) next (map (moved_in S.core now next d) slots)
+    pub state_moved : IsReplica S keys (step S.core w (Changed d moment)) next (map (moved_in S.core moment now next d) slots)
     state_moved =
         record {
           catalog = next_of;
-          fits = λ k. subst (λ s. Fits S (step S.core w (Changed d moment)) (get_or keys k None) s) (sym (got_map (moved_in S.core now next d) slots k None)) (moved_slot (get_or keys k None) (get_or slots k None) (old.fits k));
+          fits = λ k. subst (λ s. Fits S (step S.core w (Changed d moment)) (get_or keys k None) s) (sym (got_map (moved_in S.core moment now next d) slots k None)) (moved_slot (get_or keys k None) (get_or slots k None) (old.fits k));
           covered = old.covered;
         }

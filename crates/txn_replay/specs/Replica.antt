@@ -5,6 +5,7 @@ use Rattle.std.specs.List.{list_any}
 use Rattle.txn_core.specs.declared.message.Message.{Message}
 use Rattle.txn_core.specs.declared.answer.HeldItem.{HeldItem}
 use Rattle.txn_core.specs.declared.entry.Entry.{Entry}
+use Rattle.txn_core.specs.Stamps.{later, single}
 use Rattle.txn_core.specs.Protocol.{Protocol}
 use Rattle.txn_core.specs.Service.{Service}
 use Rattle.txn_core.specs.Effects.{Effect, Quiet}
@@ -75,14 +76,26 @@ module _ {K V A F C D : Type 0} (P : Protocol K V A F C D) where
       Some (record t { item = if P.same key t.key then change.item else t.item; cell = if home == t.home then change.cell else t.cell })
 
   -- what a change of the catalog leaves of one
-  abbrev pub moved_in : C → C → D → Option (Tracked K V) → Option (Tracked K V)
-  moved_in cat next d None = None
-  moved_in cat next d (Some t) =
-      Some (record t { item = record t.item { row = kept_or (P.there cat t.key) (P.there next t.key) t.item.row (P.adds d cat t.key) } })
+  abbrev pub moved_in : ℕ → C → C → D → Option (Tracked K V) → Option (Tracked K V)
+  moved_in moment cat next d None = None
+  moved_in moment cat next d (Some t) =
+      let was = P.there cat t.key in
+      Some (record t {
+        item = record t.item {
+          row = kept_or was (P.there next t.key) t.item.row (P.adds d cat t.key);
+          stamp = if was then t.item.stamp else later t.cell.floor (single moment);
+          version = if was then t.item.version else t.cell.count + 1;
+        };
+        cell = record t.cell { count = t.cell.count + 1 };
+      })
 
--- there is room for one more change in each cell that is counted
+-- there is room for one more change in a cell that is counted
+abbrev pub HasRoom : {K V : Type 0} → Option (Tracked K V) → Type 0
+HasRoom slot = IfSome slot (λ t. t.cell.count + 1 < 2 ^ 64)
+
+-- and in each of these
 abbrev pub HaveRoom : {K V : Type 0} → List (Option (Tracked K V)) → Type 0
-HaveRoom slots = (k : ℕ) → IfSome (slice_index_or slots k None) (λ t. t.cell.count + 1 < 2 ^ 64)
+HaveRoom slots = (k : ℕ) → HasRoom (slice_index_or slots k None)
 
 abbrev pub is_command : {K V A F D Q : Type 0} → Message K V A F D Q → Bool
 is_command (Message.Command d) = true

@@ -20,7 +20,7 @@ pub struct Change<V> {
 }
 
 /// The later of two stamps, the first where they are equal.
-fn later(one: Stamp, other: Stamp) -> Stamp
+pub fn later(one: Stamp, other: Stamp) -> Stamp
     ensures { result ≡ later one other }
 {
     if one.moment < other.moment {

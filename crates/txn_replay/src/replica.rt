@@ -48,6 +48,7 @@ fn change_catalog<R: Rules>(
     moment: u64,
     answer: &Reply<R>,
 ) -> Result<(), NoMemory>
+    requires { HaveRoom replica.old.slots.items }
     ensures len { IfOk result (λ _. length replica.new.slots.items ≡ length replica.old.slots.items) }
     ensures state { IfOk result (λ _. (n : ℕ) (keys : List (Option R.Key)) (w : State R.Key R.Value R.Action R.Catalog) → IsReplica (R.protocol n) keys w replica.old.catalog replica.old.slots.items → IsReplica (R.protocol n) keys (step (R.protocol n).core w (where_so (is_changed answer.now) (Changed command.now moment))) replica.new.catalog replica.new.slots.items) }
 {
@@ -57,6 +58,7 @@ fn change_catalog<R: Rules>(
     let next = R::change(alloc, command, moment, &replica.catalog)?;
     move_rows::<R>(
         alloc,
+        moment,
         &replica.catalog,
         &next,
         command,

@@ -2,9 +2,9 @@
 ghost use Rattle.std.specs.Prelude.{◌≡◌, ◌≤◌, ℕ, IfOk, map, length, slice_index_or, [], None};
 ghost use Rattle.std.specs.Option.{option_copied};
 ghost use Rattle.txn_core.specs.State.{state_after};
-ghost use Rattle.txn_replay.specs.Replica.{key_in, keys_of, IsShown, Fits, put_in, moved_in};
+ghost use Rattle.txn_replay.specs.Replica.{key_in, keys_of, IsShown, Fits, put_in, moved_in, HasRoom, HaveRoom};
 
-use crate::change::Change;
+use crate::change::{Change, later};
 use crate::tracked::{Counters, ItemState, Tracked, copy_of_item};
 use std::alloc::{AllocError as NoMemory, Global};
 use txn_core::{Event, Message, Rules, Stamp};
@@ -138,41 +138,48 @@ pub fn put<R: Rules>(
     Ok(())
 }
 
-/// The item of a slot after a change of the catalog.
+/// A slot after a change of the catalog at this moment.
 fn row_moved<R: Rules>(
     alloc: Global,
+    moment: u64,
     catalog: &R::Catalog,
     next: &R::Catalog,
     command: &R::Command,
     slot: &mut Slot<R>,
 ) -> Result<(), NoMemory>
-    ensures { IfOk result (λ _. (n : ℕ) → slot.new ≡ moved_in (R.protocol n).core catalog.now next.now command.now slot.old) }
+    requires { HasRoom slot.old }
+    ensures { IfOk result (λ _. (n : ℕ) → slot.new ≡ moved_in (R.protocol n).core moment catalog.now next.now command.now slot.old) }
 {
     let Some(tracked) = slot else {
         return Ok(());
     };
-    if !R::is_there(next, &tracked.key) {
-        tracked.item.row = None;
-        return Ok(());
-    }
+    let count = tracked.cell.count + 1;
     if !R::is_there(catalog, &tracked.key) {
         tracked.item.row = R::adds(alloc, command, catalog, &tracked.key)?;
+        tracked.item.stamp = later(tracked.cell.floor, Stamp { moment, number: 0 });
+        tracked.item.version = count;
     }
+    if !R::is_there(next, &tracked.key) {
+        tracked.item.row = None;
+    }
+    tracked.cell.count = count;
     Ok(())
 }
 
-/// The slots after a change of the catalog.
+/// The slots after a change of the catalog at this moment.
 pub fn move_rows<R: Rules>(
     alloc: Global,
+    moment: u64,
     catalog: &R::Catalog,
     next: &R::Catalog,
     command: &R::Command,
     slots: &mut [Slot<R>],
 ) -> Result<(), NoMemory>
-    ensures { IfOk result (λ _. (n : ℕ) → slots.new ≡ map (moved_in (R.protocol n).core catalog.now next.now command.now) slots.old) }
+    requires { HaveRoom slots.old }
+    ensures { IfOk result (λ _. (n : ℕ) → slots.new ≡ map (moved_in (R.protocol n).core moment catalog.now next.now command.now) slots.old) }
 {
     for slot in slots.iter_mut() {
-        row_moved::<R>(alloc, catalog, next, command, slot)?;
+        row_moved::<R>(alloc, moment, catalog, next, command, slot)?;
     }
     Ok(())
 }

@@ -8,8 +8,8 @@ use Rattle.txn_replay.proofs.replica.change_catalog.Goals as goal
 
 pub returns-clause-state : goal.returns-clause-state
 returns-clause-state g c = λ n keys w old.
-    let slots_is : c.move_rows.new.slots ≡ map (moved_in (g.R.Rules.protocol n).core c.args.replica.now.catalog c.in_ok-next.next c.args.command.now) c.args.replica.now.slots.items = cc (c.in_ok-move_rows.ensures n, c.as_mut_slice.ensures.value) in
-    let many : length c.move_rows.new.slots ≡ length c.args.replica.now.slots.items = ap length slots_is ∙ length-map c.args.replica.now.slots.items (moved_in (g.R.Rules.protocol n).core c.args.replica.now.catalog c.in_ok-next.next c.args.command.now) in
+    let slots_is : c.move_rows.new.slots ≡ map (moved_in (g.R.Rules.protocol n).core c.args.moment c.args.replica.now.catalog c.in_ok-next.next c.args.command.now) c.args.replica.now.slots.items = cc (c.in_ok-move_rows.ensures n, c.as_mut_slice.ensures.value) in
+    let many : length c.move_rows.new.slots ≡ length c.args.replica.now.slots.items = ap length slots_is ∙ length-map c.args.replica.now.slots.items (moved_in (g.R.Rules.protocol n).core c.args.moment c.args.replica.now.catalog c.in_ok-next.next c.args.command.now) in
     let len = c.as_mut_slice.ensures.len in
     let same = ap length c.as_mut_slice.ensures.value in
     let back = written_back c.args.replica.now.slots.len c.move_rows.new.slots c.args.replica.now.slots.items many (omega arith) in

@@ -11,6 +11,10 @@ pub change_item-requires : goal.change_item-requires
 change_item-requires g c =
     record { within = omega arith; room = have_room (g.R.Rules.protocol c.args.partitions) c.args.entries.now c.args.place c.args.replica.now.catalog c.args.replica.now.slots.items c.requires.state c.requires.within c.requires.room }
 
+pub change_catalog-requires : goal.change_catalog-requires
+change_catalog-requires g c =
+    have_room (g.R.Rules.protocol c.args.partitions) c.args.entries.now c.args.place c.args.replica.now.catalog c.args.replica.now.slots.items c.requires.state c.requires.within c.requires.room
+
 pub returns-in-Command-clause-len : goal.returns-in-Command-clause-len
 returns-in-Command-clause-len g c = IfOk-equal c.change_catalog.result _ _ _ c.change_catalog.ensures.len c.requires.len
 
