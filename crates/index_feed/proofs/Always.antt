@@ -3,7 +3,7 @@ use Rattle.std.proofs.Common.{◌≡◌, inl, inr, ℕ, suc, ◌≤◌, false, n
 use Rattle.std.proofs.lemmas.Bool.{cond_both, cases_Bool, and_left, and_right, eqb-true, ne_eqb, le-ltb}
 use Rattle.index_feed.specs.declared.change.Change.{Change}
 use Rattle.index_feed.specs.Feed.{Out, Indexed, Feed, Event, Sets, Commands, Peeks, Feeds, Acks, Rests, showing, at, served, row_in, at_key, overlay, is_fed, fed, acked, start, feed, due, out, WasPeeked, WasSent, IsLegal, IsLawful}
-use Rattle.index_feed.specs.Laws.{IndexRowsProject, WhatWaitsCompletes, DrainedIsProjection, NoneServedNoRow, RepeatsChangeNothing, AcksChangeOnce, FeedsLeaveItems}
+use Rattle.index_feed.specs.Laws.{RowsAreListed, IndexRowsProject, WhatWaitsCompletes, DrainedIsProjection, NoneServedNoRow, RepeatsChangeNothing, AcksChangeOnce, FeedsLeaveItems}
 use Rattle.index_feed.proofs.Kept.{peek_sequence, out_parts, Spent, Kept, still, popped}
 use Rattle.index_feed.proofs.Feeding.{fed_or_not}
 use Rattle.index_feed.proofs.Growing.{set_kept, rule_kept}
@@ -13,6 +13,7 @@ module _ {K V C : Type 0} (I : Indexed K V C) (law : IsLawful I) where
   first_kept c =
       record {
         listed = λ k e. absurd (cc);
+        rows_listed = λ g q e. absurd (cc);
         due = λ g q sv. sym (ap (λ b. if b then None else None) sv);
         gone = λ g q e. refl;
         sound = λ i. tt;
@@ -70,6 +71,9 @@ module _ {K V C : Type 0} (I : Indexed K V C) (law : IsLawful I) where
 
   pub rows_project : IndexRowsProject I
   rows_project c es legal = (always c es legal).shown
+
+  pub all_listed : RowsAreListed I
+  all_listed c es legal = record { items = (always c es legal).listed; rows = (always c es legal).rows_listed }
 
   pub completes : WhatWaitsCompletes I
   completes c es legal = (always c es legal).due

@@ -1,10 +1,12 @@
 -- An ApplyIndex keeps what is kept, whether it is Fed or Already.
-use Rattle.std.proofs.Common.{◌≡◌, ◌⊎◌, inl, inr, ℕ, suc, ◌<◌, ◌≤◌, true, false, ◌&&◌, nat_eq, nat_lt, List, [], ◌∷◌, Option, None, Some, if◌then◌else◌, refl, sym, ap, ◌∙◌, subst, arith}
+use Rattle.std.proofs.Common.{◌≡◌, ◌⊎◌, inl, inr, ℕ, suc, ◌<◌, ◌≤◌, true, false, ◌&&◌, nat_eq, nat_lt, List, [], ◌∷◌, Option, None, Some, if◌then◌else◌, refl, sym, ap, ◌∙◌, subst, arith, is_some}
 use Rattle.std.proofs.lemmas.Bool.{cond_both, cases_Bool, and_parts, and_from, and_cases, and_right, eqb-true, eqb-false, eq-eqb, ltb-true, ltb-false}
 use Rattle.index_feed.specs.declared.change.Change.{Change}
-use Rattle.index_feed.specs.Feed.{Indexed, Feed, Event, Feeds, showing, peek, served, is_at, overlay, is_fed, fed, due, out, WasPeeked, WasDue, IsLawful}
+use Rattle.std.specs.List.{list_any}
+use Rattle.index_feed.proofs.Arranged.{added, others}
+use Rattle.index_feed.specs.Feed.{arranged, Indexed, Feed, Event, Feeds, showing, peek, served, is_at, overlay, is_fed, fed, due, out, WasPeeked, WasDue, IsLawful}
 use Rattle.index_feed.proofs.Queued.{at_is, not_at_key}
-use Rattle.index_feed.proofs.Kept.{top, true_false, peek_sequence, peek_top, peek_each, out_parts, Spent, FirstSpent, Sound, Kept, older, still}
+use Rattle.index_feed.proofs.Kept.{at_split, top, true_false, peek_sequence, peek_top, peek_each, out_parts, Spent, FirstSpent, Sound, Kept, older, still}
 
 -- a row that the outbox's first is of is as it says, whatever it was
 module _ {K V C : Type 0} (I : Indexed K V C) where
@@ -61,6 +63,14 @@ module _ {K V C : Type 0} (I : Indexed K V C) where
         let own : Sound I c0 es f.catalog i c = peek_each (Sound I c0 es f.catalog i) (f.sent i) (f.outbox i) (showing s c) here (k.sound i) in
         record {
           listed = k.listed;
+          rows_listed = λ g q e.
+              at_split f.row_keys (I.cell_of c.key) (arranged I c.key (f.row_keys (I.cell_of c.key))) (I.cell_of q) (λ ys. list_any (λ x. I.same x q) ys ≡ true)
+              (λ m. cond_both (is_at I c g q) c.after (f.shown g q) (λ v. is_some v ≡ true → list_any (λ x. I.same x q) (arranged I c.key (f.row_keys (I.cell_of c.key))) ≡ true)
+              (λ a _. subst (λ y. list_any (λ x. I.same x y) (arranged I c.key (f.row_keys (I.cell_of c.key))) ≡ true) (at_is I law c g q a).1 (added I law c.key (f.row_keys (I.cell_of c.key))))
+              (λ _ h. others I law c.key q (f.row_keys (I.cell_of c.key)) (subst (λ z. list_any (λ x. I.same x q) (f.row_keys z) ≡ true) (sym m) (k.rows_listed g q h))) e)
+              (λ apart. cond_both (is_at I c g q) c.after (f.shown g q) (λ v. is_some v ≡ true → list_any (λ x. I.same x q) (f.row_keys (I.cell_of q)) ≡ true)
+              (λ a _. absurd (apart (ap I.cell_of (at_is I law c g q a).1)))
+              (λ _ h. k.rows_listed g q h) e);
           due = λ g q sq.
               cond_both (is_at I c g q) c.after (f.shown g q) (λ y. overlay I (f.outbox (I.cell_of (I.item_of q))) g q y ≡ due I f g q)
               (λ a. let p = at_is I law c g q a in

@@ -10,11 +10,15 @@ use Rattle.index_feed.proofs.Queued.{at_is, not_at_index, Telling, telling_chang
 use Rattle.index_feed.proofs.Kept.{at_split, top_append, true_false, is_none, peek_append, peek_sequence, peek_back, peek_each, Spent, Sound, Kept}
 
 module _ {K V C : Type 0} (I : Indexed K V C) where
+  some_from : (x y : Option V) → ((r : V) → x ≡ Some r → y ≡ Some r) → is_some x ≡ true → is_some y ≡ true
+  some_from None y h e = absurd (cc)
+  some_from (Some r) y h e = ap (λ z. is_some z) (h r refl)
+
   -- outboxes grow at their ends, under this catalog, with these rows
   abbrev pub grown :
       Feed K V C → C → (K → Option V) → (ℕ → List K) → (ℕ → List (Change K V)) → (ℕ → K → Option V) → Feed K V C
   grown f c row keys extra shown =
-      record { catalog = c; row = row; keys = keys; sent = f.sent; outbox = λ i. f.outbox i ++ extra i; mark = f.mark; shown = shown }
+      record { catalog = c; row = row; keys = keys; row_keys = f.row_keys; sent = f.sent; outbox = λ i. f.outbox i ++ extra i; mark = f.mark; shown = shown }
 
   -- an index that was drawn and is served was served before; rows of indexes that are served stay
   pub record Grows (c0 : C) (es : List (Event K V C)) (e : Event K V C) (f : Feed K V C) (c : C) (row : K → Option V) (keys : ℕ → List K) (extra : ℕ → List (Change K V)) (shown : ℕ → K → Option V) : Type 0 where
@@ -53,6 +57,7 @@ module _ {K V C : Type 0} (I : Indexed K V C) where
   grows_kept c0 es e f c row keys extra shown k h peeked sent =
       record {
         listed = h.listed;
+        rows_listed = λ g q e. k.rows_listed g q (some_from (shown g q) (f.shown g q) (λ r w. h.from g q r w) e);
         due = λ g q sq. h.due g q sq ∙ sym (ap (λ b. if b then at_key I q (row_in I c g (I.item_of q) (row (I.item_of q))) else None) sq);
         gone = h.gone;
         sound = λ i.

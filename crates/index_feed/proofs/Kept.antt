@@ -94,6 +94,8 @@ module _ {K V C : Type 0} (I : Indexed K V C) where
   pub record Kept (c0 : C) (es : List (Event K V C)) (f : Feed K V C) : Type 0 where
     -- every item that is there is listed
     pub listed : (k : K) → is_some (f.row k) ≡ true → list_any (λ x. I.same x k) (f.keys (I.cell_of k)) ≡ true
+    -- and every index row
+    pub rows_listed : (g : ℕ) (q : K) → is_some (f.shown g q) ≡ true → list_any (λ x. I.same x q) (f.row_keys (I.cell_of q)) ≡ true
     -- a row, after what waits in the outbox of its item, is as it should be
     pub due :
         (g : ℕ) (q : K) → served I f.catalog g (I.item_of q) ≡ true
@@ -128,6 +130,7 @@ module _ {K V C : Type 0} (I : Indexed K V C) where
   still c0 es e f k peeked sent =
       record {
         listed = k.listed;
+        rows_listed = k.rows_listed;
         due = k.due;
         gone = k.gone;
         sound = λ i. older c0 es e f.catalog i (f.outbox i) (k.sound i);
@@ -155,6 +158,7 @@ module _ {K V C : Type 0} (I : Indexed K V C) where
         let marked : (u : ℕ) → f.mark u i ≤ s = λ u. subst (λ n. f.mark u i ≤ n) (peek_top (f.sent i) (f.outbox i) (showing s c) now ∙ sym t) (k.marks u i) in
         record {
           listed = k.listed;
+        rows_listed = k.rows_listed;
           due = λ g q sv.
               at_split f.outbox i cs (I.cell_of (I.item_of q)) (λ ys. overlay I ys g q (f.shown g q) ≡ due I f g q)
               (λ m. ap (λ y. overlay I cs g q y)

@@ -1,10 +1,10 @@
 -- A cell's own events decide its outbox, its marks and its rows.
-use Rattle.std.proofs.Common.{◌≡◌, ℕ, suc, Bool, true, false, ◌&&◌, nat_eq, nat_lt, List, [], ◌∷◌, ◌++◌, Option, None, if◌then◌else◌, refl, sym, ap, ◌∙◌, subst}
+use Rattle.std.proofs.Common.{◌≡◌, ℕ, suc, Bool, true, false, ◌&&◌, nat_eq, nat_lt, List, [], ◌∷◌, ◌++◌, Option, None, if◌then◌else◌, refl, sym, ap, ◌∙◌, subst, inl, inr}
 use Rattle.std.specs.List.{flat_map}
-use Rattle.std.proofs.lemmas.Bool.{cond_both, and_left, ne_eqb}
+use Rattle.std.proofs.lemmas.Bool.{cond_both, cases_Bool, eqb-true, and_left, ne_eqb}
 use Rattle.std.proofs.lemmas.List.{append-nil}
 use Rattle.index_feed.specs.declared.change.Change.{Change}
-use Rattle.index_feed.specs.Feed.{Indexed, Feed, Event, Sets, Commands, Peeks, Feeds, Acks, Rests, at, served, is_at, changes, founding, gather, is_fed, fed, acked, step, IsLawful, arranged}
+use Rattle.index_feed.specs.Feed.{Indexed, Feed, Event, Sets, Commands, Peeks, Feeds, Acks, Rests, at, served, is_at, changes, founding, gather, is_fed, fed, acked, step, IsLawful, arranged, founded}
 use Rattle.index_feed.proofs.Queued.{not_at_key}
 
 module _ {K V C : Type 0} (I : Indexed K V C) where
@@ -13,13 +13,14 @@ module _ {K V C : Type 0} (I : Indexed K V C) where
     pub catalog : f.catalog ≡ h.catalog
     pub row : (q : K) → I.cell_of q ≡ i → f.row q ≡ h.row q
     pub keys : f.keys i ≡ h.keys i
+    pub row_keys : f.row_keys i ≡ h.row_keys i
     pub sent : f.sent i ≡ h.sent i
     pub outbox : f.outbox i ≡ h.outbox i
     pub mark : (j : ℕ) → f.mark i j ≡ h.mark i j
     pub shown : (g : ℕ) (q : K) → I.cell_of q ≡ i → f.shown g q ≡ h.shown g q
 
   pub alike_itself : (i : ℕ) (f : Feed K V C) → AlikeAt i f f
-  alike_itself i f = record { catalog = refl; row = λ q _. refl; keys = refl; sent = refl; outbox = refl; mark = λ j. refl; shown = λ g q _. refl }
+  alike_itself i f = record { catalog = refl; row = λ q _. refl; keys = refl; row_keys = refl; sent = refl; outbox = refl; mark = λ j. refl; shown = λ g q _. refl }
 
   -- the event is of this cell, or of all
   abbrev pub IsOf : ℕ → Event K V C → Type 0
@@ -39,6 +40,7 @@ module _ {K V C : Type 0} (I : Indexed K V C) where
           catalog = refl;
           row = λ q _. refl;
           keys = refl;
+          row_keys = refl;
           sent = ap (λ b. if b then s else f.sent i) (ne_eqb j i apart);
           outbox = ap (λ b. if b then xs else f.outbox i) (ne_eqb j i apart);
           mark = λ j. refl;
@@ -53,6 +55,7 @@ module _ {K V C : Type 0} (I : Indexed K V C) where
           catalog = refl;
           row = λ q home. cond_both (I.same k q) new (f.row q) (λ v. v ≡ f.row q) (λ s. absurd (apart (ap I.cell_of (law.exact k q s) ∙ home))) (λ _. refl);
           keys = ap (λ b. if b then arranged I k (f.keys (I.cell_of k)) else f.keys i) (ne_eqb (I.cell_of k) i apart);
+          row_keys = refl;
           sent = refl;
           outbox = ap (λ b. f.outbox i ++ (if b then changes I f.catalog k (f.row k) new else [])) (ne_eqb (I.cell_of k) i apart) ∙ append-nil (f.outbox i);
           mark = λ j. refl;
@@ -66,6 +69,7 @@ module _ {K V C : Type 0} (I : Indexed K V C) where
           catalog = refl;
           row = λ q _. refl;
           keys = refl;
+          row_keys = ap (λ b. if b then arranged I c.key (f.row_keys (I.cell_of c.key)) else f.row_keys i) (ne_eqb (I.cell_of c.key) i apart);
           sent = refl;
           outbox = refl;
           mark = λ u. ap (λ b. if b then s else f.mark i u) (and_left (nat_eq i (I.cell_of c.key)) (nat_eq u j) (ne_eqb i (I.cell_of c.key) (λ e. apart (sym e))));
@@ -102,6 +106,7 @@ module _ {K V C : Type 0} (I : Indexed K V C) where
           catalog = a.catalog;
           row = a.row;
           keys = a.keys;
+          row_keys = a.row_keys;
           sent = ap (λ n. if nat_eq i i then s else n) a.sent;
           outbox = ap (λ ys. if nat_eq i i then xs else ys) a.outbox;
           mark = a.mark;
@@ -109,12 +114,34 @@ module _ {K V C : Type 0} (I : Indexed K V C) where
         })
         a
 
-    founds_alike :
-        (i : ℕ) (b d c : C) (row : K → Option V) (ks js : List K) → b ≡ d → ks ≡ js
-        → flat_map (λ k. if nat_eq (I.cell_of k) i then founding I b c k (row k) else []) ks ≡ flat_map (λ k. if nat_eq (I.cell_of k) i then founding I d c k (row k) else []) js
-    founds_alike i b d c row ks js e h =
-        ap (λ z. flat_map (λ k. if nat_eq (I.cell_of k) i then founding I z c k (row k) else []) ks) e
-        ∙ ap (λ zs. flat_map (λ k. if nat_eq (I.cell_of k) i then founding I d c k (row k) else []) zs) h
+    -- what a cell's items queue for new indexes goes by these items
+    founded_alike : (i : ℕ) (b c : C) (row other : K → Option V) → ((q : K) → I.cell_of q ≡ i → row q ≡ other q)
+        → (k : K) → founded I b c row i k ≡ founded I b c other i k
+    founded_alike i b c row other same k =
+        elim (cases_Bool (nat_eq (I.cell_of k) i)) [
+          | inl t ↦ (λ j. if t j then founding I b c k (row k) else [])
+              ∙ ap (λ v. founding I b c k v) (same k (eqb-true (I.cell_of k) i t))
+              ∙ sym (λ j. if t j then founding I b c k (other k) else [])
+          | inr f ↦ (λ j. if f j then founding I b c k (row k) else []) ∙ sym (λ j. if f j then founding I b c k (other k) else [])
+        ]
+
+    -- two that hold the same in a cell go on so at a command, whose rows agree on the cell's items
+    pub command_alike : (i : ℕ) (f h : Feed K V C) (c : C) (ks : List K) (row other : K → Option V)
+        → ((q : K) → I.cell_of q ≡ i → row q ≡ other q) → AlikeAt i f h
+        → AlikeAt i (step I f (Commands c ks row)) (step I h (Commands c ks other))
+    command_alike i f h c ks row other same a =
+        record {
+          catalog = refl;
+          row = same;
+          keys = ap (λ ys. gather I i ks ys) a.keys;
+          row_keys = a.row_keys;
+          sent = a.sent;
+          outbox =
+              (λ j. a.outbox j ++ flat_map (founded I (a.catalog j) c row i) (gather I i ks (a.keys j)))
+              ∙ (λ j. h.outbox i ++ flat_map (λ k. founded_alike i h.catalog c row other same k j) (gather I i ks (h.keys i)));
+          mark = a.mark;
+          shown = λ g q there. ap (λ v. if served I c g (I.item_of q) then v else None) (a.shown g q there);
+        }
 
     -- two that hold the same in a cell go on so at its events
     pub own_alike :
@@ -128,6 +155,7 @@ module _ {K V C : Type 0} (I : Indexed K V C) where
               ap (λ z. at f.keys z (arranged I k (f.keys z)) i) home
               ∙ ap (λ ys. if nat_eq i i then arranged I k ys else ys) a.keys
               ∙ sym (ap (λ z. at h.keys z (arranged I k (h.keys z)) i) home);
+          row_keys = a.row_keys;
           sent = a.sent;
           outbox =
               ap (λ ys. ys ++ (if nat_eq (I.cell_of k) i then changes I f.catalog k (f.row k) new else [])) a.outbox
@@ -136,18 +164,7 @@ module _ {K V C : Type 0} (I : Indexed K V C) where
           mark = a.mark;
           shown = a.shown;
         }
-    own_alike i f h (Commands c ks row) home a =
-        record {
-          catalog = refl;
-          row = λ q _. refl;
-          keys = ap (λ ys. gather I i ks ys) a.keys;
-          sent = a.sent;
-          outbox =
-              ap (λ ys. ys ++ flat_map (λ k. if nat_eq (I.cell_of k) i then founding I f.catalog c k (row k) else []) (gather I i ks (f.keys i))) a.outbox
-              ∙ ap (λ ys. h.outbox i ++ ys) (founds_alike i f.catalog h.catalog c row (gather I i ks (f.keys i)) (gather I i ks (h.keys i)) a.catalog (ap (λ ys. gather I i ks ys) a.keys));
-          mark = a.mark;
-          shown = λ g q there. ap (λ v. if served I c g (I.item_of q) then v else None) (a.shown g q there);
-        }
+    own_alike i f h (Commands c ks row) home a = command_alike i f h c ks row row (λ q _. refl) a
     own_alike i f h (Peeks j o) home a = a
     own_alike i f h (Feeds j s c) home a =
         both_if i (is_fed I f j s c) (is_fed I h j s c) (fed I f j s c) f (fed I h j s c) h (fed_alike i j s c f h home a)
@@ -155,6 +172,10 @@ module _ {K V C : Type 0} (I : Indexed K V C) where
           catalog = a.catalog;
           row = a.row;
           keys = a.keys;
+          row_keys =
+              ap (λ z. at f.row_keys z (arranged I c.key (f.row_keys z)) i) home
+              ∙ ap (λ ys. if nat_eq i i then arranged I c.key ys else ys) a.row_keys
+              ∙ sym (ap (λ z. at h.row_keys z (arranged I c.key (h.row_keys z)) i) home);
           sent = a.sent;
           outbox = a.outbox;
           mark = λ u. ap (λ n. if nat_eq i (I.cell_of c.key) && nat_eq u j then s else n) (a.mark u);

@@ -1,6 +1,7 @@
 -- The feed of indexes: what a change of an item queues, and what cells hold after a list of events, the newest first.
 use Rattle.std.specs.Prelude.{◌≡◌, ◌⊎◌, ℕ, suc, ◌<◌, ◌≤◌, Bool, true, ◌&&◌, nat_eq, nat_lt, List, [], ◌∷◌, ◌++◌, Option, None, Some, is_some, if◌then◌else◌}
-use Rattle.std.specs.List.{list_any, flat_map}
+use Rattle.std.specs.List.{list_any, flat_map, filter_map}
+use Rattle.std.specs.Option.{option_map}
 use Rattle.std.specs.List.Sorted.{IsStrictlyIncreasing}
 use Rattle.std.specs.Cmp.{IsTotalOrder}
 use Rattle.std.specs.Ordering.{is_eq}
@@ -51,6 +52,8 @@ pub record Feed (K V C : Type 0) : Type 0 where
   pub row : K → Option V
   -- of each cell, the keys of the items that it has or had
   pub keys : ℕ → List K
+  -- of each cell, the keys of the index rows that it has or had
+  pub row_keys : ℕ → List K
   -- of each source: how many changes were acknowledged, and those that wait
   pub sent : ℕ → ℕ
   pub outbox : ℕ → List (Change K V)
@@ -150,6 +153,7 @@ module _ {K V C : Type 0} (I : Indexed K V C) where
       record f {
         mark = λ t j. if nat_eq t (I.cell_of c.key) && nat_eq j i then s else f.mark t j;
         shown = λ g q. if is_at c g q then c.after else f.shown g q;
+        row_keys = at f.row_keys (I.cell_of c.key) (arranged c.key (f.row_keys (I.cell_of c.key)));
       }
 
   -- an Ack takes the outbox's first away where it is it
@@ -185,6 +189,7 @@ module _ {K V C : Type 0} (I : Indexed K V C) where
         catalog = c;
         row = λ k. None;
         keys = λ i. [];
+        row_keys = λ i. [];
         sent = λ i. 0;
         outbox = λ i. [];
         mark = λ t i. 0;
@@ -206,6 +211,17 @@ module _ {K V C : Type 0} (I : Indexed K V C) where
 
   abbrev pub out : Feed K V C → ℕ → Option (Out K V)
   out f i = peek (f.sent i) (f.outbox i)
+
+  -- what stands at these keys, in their order
+  abbrev pub at_keys : (K → Option V) → List K → List (K × V)
+  at_keys row ks = filter_map (λ k. option_map (λ v. (k, v)) (row k)) ks
+
+  -- the items of a cell, and its rows of an index
+  abbrev pub items_in : Feed K V C → ℕ → List (K × V)
+  items_in f i = at_keys f.row (f.keys i)
+
+  abbrev pub rows_in : Feed K V C → ℕ → ℕ → List (K × V)
+  rows_in f g i = at_keys (f.shown g) (f.row_keys i)
 
   -- a PeekOut of the source was answered with this change
   abbrev pub WasPeeked : List (Event K V C) → ℕ → ℕ → Change K V → Type 0

@@ -1,7 +1,8 @@
 -- What holds of the feed in every legal list of events.
-use Rattle.std.specs.Prelude.{◌≡◌, ℕ, ◌≤◌, true, false, List, [], ◌∷◌, Option, None, Some}
+use Rattle.std.specs.Prelude.{◌≡◌, ℕ, ◌≤◌, true, false, List, [], ◌∷◌, Option, None, Some, is_some}
+use Rattle.std.specs.List.{list_any}
 use Rattle.index_feed.specs.declared.change.Change.{Change}
-use Rattle.index_feed.specs.Feed.{Out, Indexed, Event, Peeks, Feeds, Acks, served, overlay, feed, due, WasSent, IsLegal, WasDue}
+use Rattle.index_feed.specs.Feed.{Out, Indexed, Feed, Event, Peeks, Feeds, Acks, served, overlay, feed, due, WasSent, IsLegal, WasDue}
 
 module _ {K V C : Type 0} (I : Indexed K V C) where
   -- each row of an index is its item's projection at a prefix
@@ -9,6 +10,14 @@ module _ {K V C : Type 0} (I : Indexed K V C) where
   IndexRowsProject =
       (c : C) (es : List (Event K V C)) → IsLegal I c es → (g : ℕ) (q : K) (r : V)
       → (feed I c es).shown g q ≡ Some r → WasDue I c es g q r
+
+  -- every item, and every index row, stands in the list of its cell
+  pub record AreListed (f : Feed K V C) : Type 0 where
+    pub items : (k : K) → is_some (f.row k) ≡ true → list_any (λ x. I.same x k) (f.keys (I.cell_of k)) ≡ true
+    pub rows : (g : ℕ) (q : K) → is_some (f.shown g q) ≡ true → list_any (λ x. I.same x q) (f.row_keys (I.cell_of q)) ≡ true
+
+  abbrev pub RowsAreListed : Type 0
+  RowsAreListed = (c : C) (es : List (Event K V C)) → IsLegal I c es → AreListed (feed I c es)
 
   -- an index's row, after the changes that wait in the outbox of its item, is its item's projection
   abbrev pub WhatWaitsCompletes : Type 0
