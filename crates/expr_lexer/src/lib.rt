@@ -2,7 +2,7 @@
 //!
 //! [`tokens`] reads the text of an expression as its tokens, each with the place of its bytes, or tells the
 //! first byte that can't be read. A text has one such reading (`specs/Lexes.antt`, [`one_reading`]). A token is the
-//! longest that stands at its place.
+//! longest that begins at its place (`specs/Longest.antt`).
 //!
 //! The types that parsers hand on, texts, lists and document paths, are those of `base_types`.
 #![tactic(auto)]
