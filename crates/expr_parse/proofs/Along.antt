@@ -1,15 +1,15 @@
 -- From what the machine answers to the grammar: for conditions and for lists of paths.
 use Rattle.std.proofs.Common.{◌≡◌, ℕ, List, [], ◌∷◌, ◌++◌, Result, Ok, Err, refl, sym, ap, subst, ◌∙◌, append-nil}
 use Rattle.base_types.specs.declared.path.DocPath.{DocPath}
-use Rattle.expr_parse.specs.Trees.{Tree}
-use Rattle.expr_parse.specs.Words.{Word}
-use Rattle.expr_parse.specs.Grammar.{IsCondition, ArePaths}
-use Rattle.expr_parse.specs.Faults.{IsFault}
+use Rattle.expr_words.specs.Trees.{Tree}
+use Rattle.expr_words.specs.Words.{Word}
+use Rattle.expr_words.specs.Grammar.{IsCondition, ArePaths}
+use Rattle.expr_words.specs.Faults.{IsFault}
 use Rattle.expr_parse.specs.Reading.{IsSentence}
-use Rattle.expr_parse.specs.Machine.{Kept, Whole, Listed, ACondition, APath, MorePaths, Do, FirstPath, path_of, reads}
-use Rattle.expr_parse.proofs.Owing.{AllAfter}
-use Rattle.expr_parse.proofs.Viability.{ok_right, is_fault}
-use Rattle.expr_parse.proofs.Complete.{condition_reads, paths_read, kept_tree, kept_paths}
+use Rattle.expr_words.specs.Machine.{Kept, Whole, Listed, ACondition, APath, MorePaths, Do, FirstPath, path_of, reads}
+use Rattle.expr_words.proofs.Owing.{AllAfter}
+use Rattle.expr_words.proofs.Viability.{ok_right, is_fault}
+use Rattle.expr_words.proofs.Complete.{condition_reads, paths_read, kept_tree, kept_paths}
 
 -- the tree that is kept
 abbrev kept_whole : Tree → List Kept → Tree

@@ -2,20 +2,20 @@
 use Rattle.std.proofs.Common.{◌≡◌, ◌≤◌, ℕ, List, [], ◌∷◌, length, option_map, Option, None, Some, Result, Ok, Err, IfOk, IfErr, refl, sym, ◌∙◌, ap, subst, inl, inr}
 use Rattle.expr_lexer.specs.declared.token.Token.{Token}
 use Rattle.expr_lexer.specs.Lexes.{Lexes}
-use Rattle.expr_parse.specs.declared.given.Given.{Given}
-use Rattle.expr_parse.specs.declared.parse_end.ParseEnd.{ParseEnd}
-use Rattle.expr_parse.specs.declared.parse_end.ParseEnd.TheVariants.{Syntax, TooLong, Overlap, NoMemory}
-use Rattle.expr_parse.specs.declared.stop.Stop.{Stop}
-use Rattle.expr_parse.specs.declared.stop.Stop.TheVariants as stop
-use Rattle.expr_parse.specs.Words.{Word, words, undefined, fault_of}
+use Rattle.expr_words.specs.declared.given.Given.{Given}
+use Rattle.expr_words.specs.declared.parse_end.ParseEnd.{ParseEnd}
+use Rattle.expr_words.specs.declared.parse_end.ParseEnd.TheVariants.{Syntax, TooLong, Overlap, NoMemory}
+use Rattle.expr_words.specs.declared.stop.Stop.{Stop}
+use Rattle.expr_words.specs.declared.stop.Stop.TheVariants as stop
+use Rattle.expr_words.specs.Words.{Word, words, undefined, fault_of}
 use Rattle.expr_parse.specs.Reading.{Reads, ReadsTokens, ReadsCondition, ReadsPaths, IsSentence, ConditionFault, PathsFault, no_sentence, not_given, at_fault, sentence, too_long, no_token, lexed, most_bytes, IsTold, IsTreeOr}
 use Rattle.expr_parse.specs.Judged.{IsTokens, IsFaultOr, IsGivenOr, AreFit, ReadsWhole, end_of, IsAnswer}
-use Rattle.expr_parse.specs.Faults.{IsFault}
-use Rattle.expr_parse.specs.Trees.{tree}
-use Rattle.expr_parse.specs.Grammar.{IsCondition, ArePaths, most_levels}
-use Rattle.expr_parse.specs.Machine.{Whole, Listed, ACondition, APath, Do, FirstPath, MorePaths}
-use Rattle.expr_parse.specs.declared.tree.Condition.{Condition}
-use Rattle.expr_parse.specs.declared.words.Missing.{Missing}
+use Rattle.expr_words.specs.Faults.{IsFault}
+use Rattle.expr_words.specs.Trees.{tree}
+use Rattle.expr_words.specs.Grammar.{IsCondition, ArePaths, most_levels}
+use Rattle.expr_words.specs.Machine.{Whole, Listed, ACondition, APath, Do, FirstPath, MorePaths}
+use Rattle.expr_words.specs.declared.tree.Condition.{Condition}
+use Rattle.expr_words.specs.declared.meaning.Missing.{Missing}
 use Rattle.base_types.specs.declared.path.DocPath.{DocPath}
 use Rattle.expr_parse.proofs.Along.{condition_is, condition_fault, paths_are, paths_fault}
 

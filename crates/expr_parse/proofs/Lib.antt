@@ -1,13 +1,4 @@
-pub mod Names
-pub mod Owing
-pub mod Sound
-pub mod Viability
-pub mod Steps
-pub mod Complete
 pub mod Along
 pub mod Readings
-pub mod Resolve
 pub mod Agreement
-pub mod Parsing
 pub mod Answering
-pub mod Ascending

@@ -2,13 +2,13 @@
 use Rattle.std.proofs.Common.{◌≡◌, ◌+◌, ◌<◌, ◌≤◌, ℕ, List, [], ◌∷◌, ◌++◌, length, Option, Some, None, Result, Ok, Err, refl, sym, ap, subst, ◌∙◌, append_assoc, append-nil, length-append, arith}
 use Rattle.base_types.specs.declared.path.DocPath.{DocPath}
 use Rattle.expr_lexer.specs.declared.token.Token.{Token}
-use Rattle.expr_parse.specs.declared.given.Given.{Given}
-use Rattle.expr_parse.specs.declared.parse_end.ParseEnd.{ParseEnd}
-use Rattle.expr_parse.specs.declared.parse_end.ParseEnd.TheVariants.{Syntax, Overlap}
-use Rattle.expr_parse.specs.Trees.{Tree}
-use Rattle.expr_parse.specs.Words.{Word, words}
-use Rattle.expr_parse.specs.Grammar.{IsCondition, ArePaths, most_levels}
-use Rattle.expr_parse.specs.Faults.{Stops, IsFault}
+use Rattle.expr_words.specs.declared.given.Given.{Given}
+use Rattle.expr_words.specs.declared.parse_end.ParseEnd.{ParseEnd}
+use Rattle.expr_words.specs.declared.parse_end.ParseEnd.TheVariants.{Syntax, Overlap}
+use Rattle.expr_words.specs.Trees.{Tree}
+use Rattle.expr_words.specs.Words.{Word, words}
+use Rattle.expr_words.specs.Grammar.{IsCondition, ArePaths, most_levels}
+use Rattle.expr_words.specs.Faults.{Stops, IsFault}
 use Rattle.expr_lexer.specs.Lexes.{Lexes}
 use Rattle.expr_parse.specs.Reading.{IsSentence, place_of, ReadsTokens, no_sentence, not_given, at_fault, sentence, Reads, too_long, no_token, lexed, ConditionFault, ReadsCondition, PathsFault, ReadsPaths}
 use Rattle.expr_parse.proofs.Along.{one_condition, one_list}

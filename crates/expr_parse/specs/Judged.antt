@@ -5,13 +5,13 @@ use Rattle.expr_lexer.specs.declared.token.Token.{Token}
 use Rattle.expr_lexer.specs.Lexes.{Lexes}
 use Rattle.expr_lexer.specs.Spans.{IsPart}
 use Rattle.expr_lexer.specs.Spelling.{IsSpelled}
-use Rattle.expr_parse.specs.declared.parse_end.ParseEnd.{ParseEnd}
-use Rattle.expr_parse.specs.declared.parse_end.ParseEnd.TheVariants.{Syntax, TooLong, Overlap, NoMemory}
-use Rattle.expr_parse.specs.declared.stop.Stop.{Stop}
-use Rattle.expr_parse.specs.declared.stop.Stop.TheVariants as stop
-use Rattle.expr_parse.specs.declared.words.Missing.{Missing}
-use Rattle.expr_parse.specs.Words.{Word, fault_of}
-use Rattle.expr_parse.specs.Machine.{Kept, Owed, reads}
+use Rattle.expr_words.specs.declared.parse_end.ParseEnd.{ParseEnd}
+use Rattle.expr_words.specs.declared.parse_end.ParseEnd.TheVariants.{Syntax, TooLong, Overlap, NoMemory}
+use Rattle.expr_words.specs.declared.stop.Stop.{Stop}
+use Rattle.expr_words.specs.declared.stop.Stop.TheVariants as stop
+use Rattle.expr_words.specs.declared.meaning.Missing.{Missing}
+use Rattle.expr_words.specs.Words.{Word, fault_of}
+use Rattle.expr_words.specs.Machine.{Kept, Owed, reads}
 use Rattle.expr_parse.specs.Reading.{IsTold, HaveOverlap, place_of, most_bytes}
 
 -- nothing may follow: the whole, if these words are none

@@ -1,14 +1,4 @@
-pub mod Trees
-pub mod Given
-pub mod Ascending
-pub mod Words
-pub mod Grammar
-pub mod Faults
 pub mod Reading
 pub mod Agreement
-pub mod Marks
-pub mod Functions
-pub mod Machine
-pub mod Parses
-pub mod Fronts
 pub mod Judged
+pub mod Openings

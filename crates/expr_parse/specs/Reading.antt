@@ -3,14 +3,14 @@ use Rattle.std.specs.Prelude.{◌≡◌, ◌<◌, ◌≤◌, ◌⊎◌, ◌-◌,
 use Rattle.base_types.specs.declared.path.DocPath.{DocPath}
 use Rattle.base_types.specs.declared.path.Step.{Step}
 use Rattle.expr_lexer.specs.declared.token.Token.{Token}
-use Rattle.expr_parse.specs.declared.given.Given.{Given}
-use Rattle.expr_parse.specs.declared.parse_end.ParseEnd.{ParseEnd}
-use Rattle.expr_parse.specs.declared.parse_end.ParseEnd.TheVariants.{Syntax, TooLong, NoMemory}
-use Rattle.expr_parse.specs.declared.parse_end.ParseEnd.TheVariants as parse_end
-use Rattle.expr_parse.specs.Trees.{Tree}
-use Rattle.expr_parse.specs.Words.{Word, words, undefined}
-use Rattle.expr_parse.specs.Grammar.{IsCondition, ArePaths, most_levels}
-use Rattle.expr_parse.specs.Faults.{IsFault}
+use Rattle.expr_words.specs.declared.given.Given.{Given}
+use Rattle.expr_words.specs.declared.parse_end.ParseEnd.{ParseEnd}
+use Rattle.expr_words.specs.declared.parse_end.ParseEnd.TheVariants.{Syntax, TooLong, NoMemory}
+use Rattle.expr_words.specs.declared.parse_end.ParseEnd.TheVariants as parse_end
+use Rattle.expr_words.specs.Trees.{Tree}
+use Rattle.expr_words.specs.Words.{Word, words, undefined}
+use Rattle.expr_words.specs.Grammar.{IsCondition, ArePaths, most_levels}
+use Rattle.expr_words.specs.Faults.{IsFault}
 use Rattle.expr_lexer.specs.Lexes.{Lexes}
 
 -- the most bytes of a text

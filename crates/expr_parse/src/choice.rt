@@ -2,38 +2,24 @@
 #![tactic(auto)]
 
 ghost use Rattle.std.specs.Prelude.{◌<◌, ◌∷◌, length, IfOk, IfSome, []};
-ghost use Rattle.expr_parse.specs.Trees.{tree};
-ghost use Rattle.expr_parse.specs.Words.{meanings, Sign};
-ghost use Rattle.expr_parse.specs.Fronts.{IsBehindComma};
+ghost use Rattle.expr_words.specs.Trees.{tree};
+ghost use Rattle.expr_words.specs.Words.{meanings, Sign};
+ghost use Rattle.expr_words.specs.Fronts.{IsBehindComma};
 ghost use Rattle.expr_lexer.specs.declared.token.TokenKind.TheVariants as sign;
-ghost use Rattle.expr_parse.specs.Parses.{Extends};
-ghost use Rattle.expr_parse.specs.Machine.{Goes, reads, choice, Whole, Side, Sides, ARest, AnOperand, MoreChoices, AClose, Do, FirstChoice, NextChoice, MakeChoice};
+ghost use Rattle.expr_words.specs.Parses.{Extends};
+ghost use Rattle.expr_words.specs.Machine.{Goes, reads, choice, Whole, Side, Sides, ARest, AnOperand, MoreChoices, AClose, Do, FirstChoice, NextChoice, MakeChoice};
 
-use crate::operand::{fewer, operand};
-use crate::sign::{close_parenthesis, open_parenthesis, stuck};
-use crate::stop::Stop;
-use crate::tree::{Condition, Operand};
-use crate::word::Word;
+use crate::operand::operand;
 use base_types::Seq;
 use expr_lexer::TokenKind;
+use expr_words::{Condition, Operand, Stop, Word, behind_comma, close_parenthesis, fewer, open_parenthesis, stuck};
 use std::alloc::Global;
 
 /// The most choices of an IN behind the first.
 const MOST_FURTHER_CHOICES: usize = 99;
 
-/// Behind the comma that is first.
-fn behind_comma<'t, 'a>(words: &'t [Word<'a>]) -> Option<&'t [Word<'a>]>
-    ensures comma { IsBehindComma (λ x. meanings x.now) (meanings words.now) result }
-    ensures shorter { IfSome result (λ x. length x.now < length words.now) }
-{
-    match words {
-        [Word::Sign(TokenKind::Comma), rest @ ..] => Some(rest),
-        _ => None,
-    }
-}
-
 /// Adds the choice behind a comma.
-#[tactic(auto, using(crate::proofs::Parsing::do_it))]
+#[tactic(auto, using(expr_words::proofs::Steps::do_it))]
 fn further_choice<'t, 'a>(
     alloc: Global,
     choices: &mut Seq<Operand>,
@@ -50,7 +36,7 @@ fn further_choice<'t, 'a>(
 }
 
 /// The choices behind an opening parenthesis, as far as the closing one.
-#[tactic(auto, using(crate::proofs::Parsing::choice_steps))]
+#[tactic(auto, using(expr_words::proofs::Steps::choice_steps))]
 fn choices<'t, 'a>(
     alloc: Global,
     words: &'t [Word<'a>],
@@ -78,7 +64,7 @@ fn choices<'t, 'a>(
 }
 
 /// These choices, before the closing parenthesis.
-#[tactic(auto, using(crate::proofs::Parsing::do_it))]
+#[tactic(auto, using(expr_words::proofs::Steps::do_it))]
 fn closed<'t, 'a>(
     choices: Seq<Operand>,
     words: &'t [Word<'a>],
@@ -93,7 +79,7 @@ fn closed<'t, 'a>(
 }
 
 /// The choices of an IN, for its first operand. Their parenthesis takes a level.
-#[tactic(auto, using(crate::proofs::Parsing::barred))]
+#[tactic(auto, using(expr_words::proofs::Steps::barred))]
 pub(crate) fn choice<'t, 'a>(
     alloc: Global,
     first: Operand,

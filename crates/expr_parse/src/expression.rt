@@ -4,28 +4,21 @@ ghost use Rattle.std.specs.Prelude.{◌≡◌, ◌<◌, ◌^◌, List, [], ◌�
 ghost use Rattle.base_types.specs.declared.path.DocPath.{DocPath};
 ghost use Rattle.expr_lexer.specs.Spans.{IsPart};
 ghost use Rattle.expr_lexer.specs.Spelling.{IsSpelled};
-ghost use Rattle.expr_parse.specs.Trees.{Tree, tree};
-ghost use Rattle.expr_parse.specs.Words.{meanings, fault_of};
-ghost use Rattle.expr_parse.specs.Grammar.{IsCondition, ArePaths, most_levels};
+ghost use Rattle.expr_words.specs.Trees.{Tree, tree};
+ghost use Rattle.expr_words.specs.Words.{meanings, fault_of};
+ghost use Rattle.expr_words.specs.Grammar.{IsCondition, ArePaths, most_levels};
 ghost use Rattle.expr_parse.specs.Reading.{ReadsTokens, ReadsCondition, ReadsPaths, ConditionFault, PathsFault, IsTold, IsTreeOr, place_of};
-ghost use Rattle.expr_parse.specs.Marks.{IsMadeFor, IsMarked, MarksAll};
+ghost use Rattle.expr_words.specs.Marks.{IsMadeFor, IsMarked, MarksAll};
 ghost use Rattle.expr_parse.specs.Judged.{Ends, ReadsWhole, IsAnswer, IsFaultOr, IsGivenOr, AreFit, IsTokens, end_of};
-ghost use Rattle.expr_parse.specs.Parses.{whole};
-ghost use Rattle.expr_parse.specs.Machine.{Listed, ACondition, APath, MorePaths, Do, FirstPath};
+ghost use Rattle.expr_words.specs.Parses.{whole};
+ghost use Rattle.expr_words.specs.Machine.{Listed, ACondition, APath, MorePaths, Do, FirstPath};
 
-use crate::given::{Given, Used};
 use crate::laws::one_reading;
 use crate::logic::disjunction;
 use crate::overlap::overlap;
-use crate::parse_end::ParseEnd;
-use crate::path::path_list;
-use crate::sign::stuck;
-use crate::stop::Stop;
-use crate::tree::{Condition, Paths};
-use crate::word::Word;
-use crate::words::{Missing, words};
 use base_types::{DocPath, Seq, Text};
 use expr_lexer::{LexEnd, Token, tokens};
+use expr_words::{Condition, Given, Missing, ParseEnd, Paths, Stop, Used, Word, path_list, stuck, words};
 use std::alloc::Global;
 
 /// The most bytes of an expression.
@@ -49,7 +42,7 @@ fn text_tokens(alloc: Global, text: &str) -> Result<Seq<Token>, ParseEnd>
 }
 
 /// What was parsed, if no word is left behind it.
-#[tactic(auto, using(crate::proofs::Parsing::none_owed))]
+#[tactic(auto, using(expr_words::proofs::Steps::none_owed))]
 fn end<'a, T: Drop>(parsed: T, words: &[Word<'a>]) -> Result<T, Stop>
     ensures { Ends parsed (meanings words.now) result }
 {

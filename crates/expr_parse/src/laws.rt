@@ -2,11 +2,11 @@
 
 ghost use Rattle.std.specs.Prelude.{◌≡◌, ℕ, List, Result};
 ghost use Rattle.base_types.specs.declared.path.DocPath.{DocPath};
-ghost use Rattle.expr_parse.specs.declared.given.Given.{Given};
-ghost use Rattle.expr_parse.specs.declared.parse_end.ParseEnd.{ParseEnd};
-ghost use Rattle.expr_parse.specs.Trees.{Tree};
-ghost use Rattle.expr_parse.specs.Words.{Word};
-ghost use Rattle.expr_parse.specs.Grammar.{IsCondition, ArePaths};
+ghost use Rattle.expr_words.specs.declared.given.Given.{Given};
+ghost use Rattle.expr_words.specs.declared.parse_end.ParseEnd.{ParseEnd};
+ghost use Rattle.expr_words.specs.Trees.{Tree};
+ghost use Rattle.expr_words.specs.Words.{Word};
+ghost use Rattle.expr_words.specs.Grammar.{IsCondition, ArePaths};
 ghost use Rattle.expr_parse.specs.Reading.{ReadsCondition, ReadsPaths};
 
 /// The grammar is unambiguous: no words are sentences for two trees, however many levels are left.

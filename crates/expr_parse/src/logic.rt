@@ -1,20 +1,16 @@
 //! Conditions: parts joined by AND and OR, NOT and parentheses.
-#![tactic(auto, using(crate::proofs::Parsing::do_it))]
+#![tactic(auto, using(expr_words::proofs::Steps::do_it))]
 
 ghost use Rattle.std.specs.Prelude.{◌<◌, ◌∷◌, length, IfOk, []};
-ghost use Rattle.expr_parse.specs.Trees.{tree, Conjunction, Disjunction};
-ghost use Rattle.expr_parse.specs.Words.{meanings};
-ghost use Rattle.expr_parse.specs.Fronts.{IsOpening, IsLess};
-ghost use Rattle.expr_parse.specs.Parses.{Parses, whole};
-ghost use Rattle.expr_parse.specs.Machine.{Whole, ACondition, AConjunction, APart, AClose, Do, Joins, Negates};
+ghost use Rattle.expr_words.specs.Trees.{tree, Conjunction, Disjunction};
+ghost use Rattle.expr_words.specs.Words.{meanings};
+ghost use Rattle.expr_parse.specs.Openings.{IsOpening, IsLess};
+ghost use Rattle.expr_words.specs.Parses.{Parses, whole};
+ghost use Rattle.expr_words.specs.Machine.{Whole, ACondition, AConjunction, APart, AClose, Do, Joins, Negates};
 
-use crate::operand::fewer;
 use crate::predicate::flat;
-use crate::sign::{close_parenthesis, stuck};
-use crate::stop::Stop;
-use crate::tree::Condition;
-use crate::word::Word;
 use expr_lexer::TokenKind;
+use expr_words::{Condition, Stop, Word, close_parenthesis, fewer, stuck};
 use std::alloc::Global;
 
 /// How a part of a condition begins.
@@ -106,7 +102,7 @@ fn and_part<'t, 'a>(
 
 /// Parts joined by AND, from the left.
 #[cycle(condition)]
-#[tactic(auto, using(crate::proofs::Parsing::conjunction_starts))]
+#[tactic(auto, using(expr_words::proofs::Steps::conjunction_starts))]
 fn conjunction<'t, 'a>(
     alloc: Global,
     words: &'t [Word<'a>],
@@ -145,7 +141,7 @@ fn or_part<'t, 'a>(
 
 /// Conjunctions joined by OR, from the left.
 #[cycle(condition)]
-#[tactic(auto, using(crate::proofs::Parsing::condition_starts))]
+#[tactic(auto, using(expr_words::proofs::Steps::condition_starts))]
 pub(crate) fn disjunction<'t, 'a>(
     alloc: Global,
     words: &'t [Word<'a>],

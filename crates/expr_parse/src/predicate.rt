@@ -1,23 +1,18 @@
 //! The parts of a condition that hold no other: comparisons, ranges, choices and functions.
-#![tactic(auto, using(crate::proofs::Parsing::do_it))]
+#![tactic(auto, using(expr_words::proofs::Steps::do_it))]
 
 ghost use Rattle.std.specs.Prelude.{◌≡◌, ◌<◌, ◌∷◌, true, false, length, IfOk, IfSome, []};
-ghost use Rattle.expr_parse.specs.Trees.{Compared, Presence, Absence, FrontTest, PartTest};
-ghost use Rattle.expr_parse.specs.Words.{meanings};
-ghost use Rattle.expr_parse.specs.Fronts.{opens, calls, compares, is_deeper, IsComparing};
-ghost use Rattle.expr_parse.specs.Parses.{Parses, whole};
-ghost use Rattle.expr_parse.specs.Machine.{Goes, reads, Side, Steps, Place, APart, NamedPart, ARest, AnOperand, APath, AValue, AnOpen, AClose, AComma, AnAnd, Do, OfSides, OfPath, MakeRange, MakeSize, MakeKindTest};
+ghost use Rattle.expr_words.specs.Trees.{Compared, Presence, Absence, FrontTest, PartTest};
+ghost use Rattle.expr_words.specs.Words.{meanings};
+ghost use Rattle.expr_words.specs.Fronts.{opens, calls, compares, is_deeper, IsComparing};
+ghost use Rattle.expr_words.specs.Parses.{Parses, whole};
+ghost use Rattle.expr_words.specs.Machine.{Goes, reads, Side, Steps, Place, APart, NamedPart, ARest, AnOperand, APath, AValue, AnOpen, AClose, AComma, AnAnd, Do, OfSides, OfPath, MakeRange, MakeSize, MakeKindTest};
 
 use crate::choice::choice;
-use crate::function::{Function, function_of};
-use crate::operand::{called, fewer, operand, plain_operand, size_of};
-use crate::path::document_path;
-use crate::sign::{and, close_parenthesis, comma, open_parenthesis, stuck};
-use crate::stop::Stop;
-use crate::tree::{Comparison, Condition, Operand};
-use crate::word::Word;
+use crate::operand::{operand, plain_operand, size_of};
 use base_types::DocPath;
 use expr_lexer::TokenKind;
+use expr_words::{Comparison, Condition, Function, Operand, Stop, Word, and, called, close_parenthesis, comma, document_path, fewer, function_of, open_parenthesis, stuck};
 use std::alloc::Global;
 
 /// The comparison of an operand with the one that follows.
@@ -239,7 +234,7 @@ fn size_predicate<'t, 'a>(
 
 /// The part that begins with the function of this name. Its parenthesis, which takes a level, is
 /// first.
-#[tactic(auto, using(crate::proofs::Parsing::known_calls))]
+#[tactic(auto, using(expr_words::proofs::Steps::known_calls))]
 fn call<'t, 'a>(
     alloc: Global,
     name: &str,

@@ -1,5 +1,5 @@
 ghost use Rattle.std.specs.Prelude.{◌<◌, ◌^◌, length, IfOk};
-ghost use Rattle.expr_parse.specs.Marks.{IsMadeFor};
+ghost use Rattle.expr_words.specs.Marks.{IsMadeFor};
 
 use super::{
     Comparison, Condition, Given, NamePair, Operand, ParseEnd, Paths, Used, condition, paths,

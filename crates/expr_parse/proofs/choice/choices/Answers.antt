@@ -1,6 +1,6 @@
 use Rattle.std.proofs.Common.{◌∙◌}
-use Rattle.expr_parse.specs.Words.{meanings}
-use Rattle.expr_parse.proofs.Parsing.{goes_along, choices_end}
+use Rattle.expr_words.specs.Words.{meanings}
+use Rattle.expr_words.proofs.Steps.{goes_along, choices_end}
 use Rattle.expr_parse.proofs.choice.choices.Goals as goal
 
 pub returns-clause-goes : goal.returns-clause-goes

@@ -1,6 +1,6 @@
 use Rattle.std.proofs.Common.{◌≡◌, ◌<◌, ◌∷◌, length, List}
-use Rattle.expr_parse.specs.Words.{meanings}
-use Rattle.expr_parse.specs.Machine.{reads, Owed, Kept, Sides, AnOperand, MoreChoices, Do, FirstChoice}
+use Rattle.expr_words.specs.Words.{meanings}
+use Rattle.expr_words.specs.Machine.{reads, Owed, Kept, Sides, AnOperand, MoreChoices, Do, FirstChoice}
 use Rattle.expr_parse.proofs.choice.choices.Given as goal
 
 abbrev pub invariant-loop-after : goal.invariant-loop-after

@@ -1,7 +1,7 @@
 use Rattle.std.proofs.Common.{◌≡◌, List, Ok, Err, sym, refl, subst}
-use Rattle.expr_parse.specs.Trees.{tree}
-use Rattle.expr_parse.specs.Words.{Word, words, meanings}
-use Rattle.expr_parse.specs.Grammar.{IsCondition, most_levels}
+use Rattle.expr_words.specs.Trees.{tree}
+use Rattle.expr_words.specs.Words.{Word, words, meanings}
+use Rattle.expr_words.specs.Grammar.{IsCondition, most_levels}
 use Rattle.expr_parse.specs.Reading.{ConditionFault}
 use Rattle.expr_parse.proofs.Answering.{IsJudged, condition_judged, told_given, told_stop}
 use Rattle.expr_parse.proofs.expression.condition_of.Goals as goal

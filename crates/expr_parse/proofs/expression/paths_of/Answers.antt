@@ -1,7 +1,7 @@
 use Rattle.std.proofs.Common.{◌≡◌, List, Ok, Err, sym, subst}
 use Rattle.base_types.specs.declared.path.DocPath.{DocPath}
-use Rattle.expr_parse.specs.Words.{Word, words, meanings}
-use Rattle.expr_parse.specs.Grammar.{ArePaths}
+use Rattle.expr_words.specs.Words.{Word, words, meanings}
+use Rattle.expr_words.specs.Grammar.{ArePaths}
 use Rattle.expr_parse.specs.Reading.{PathsFault}
 use Rattle.expr_parse.proofs.Answering.{IsJudged, paths_judged, told_fit, told_stop}
 use Rattle.expr_parse.proofs.expression.paths_of.Goals as goal

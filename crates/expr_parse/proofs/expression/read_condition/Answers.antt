@@ -1,5 +1,5 @@
-use Rattle.expr_parse.specs.Trees.{tree}
-use Rattle.expr_parse.specs.Grammar.{IsCondition, most_levels}
+use Rattle.expr_words.specs.Trees.{tree}
+use Rattle.expr_words.specs.Grammar.{IsCondition, most_levels}
 use Rattle.expr_parse.specs.Reading.{ConditionFault}
 use Rattle.expr_parse.proofs.Answering.{read_on}
 use Rattle.expr_parse.proofs.expression.read_condition.Goals as goal

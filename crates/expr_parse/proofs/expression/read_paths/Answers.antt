@@ -1,6 +1,6 @@
 use Rattle.std.proofs.Common.{List}
 use Rattle.base_types.specs.declared.path.DocPath.{DocPath}
-use Rattle.expr_parse.specs.Grammar.{ArePaths}
+use Rattle.expr_words.specs.Grammar.{ArePaths}
 use Rattle.expr_parse.specs.Reading.{PathsFault}
 use Rattle.expr_parse.proofs.Answering.{read_on}
 use Rattle.expr_parse.proofs.expression.read_paths.Goals as goal

@@ -1,7 +1,7 @@
 use Rattle.std.proofs.Common.{◌≡◌, ◌+◌, ◌*◌, ◌<◌, ◌∷◌, length, List}
-use Rattle.expr_parse.specs.Trees.{tree}
-use Rattle.expr_parse.specs.Words.{meanings}
-use Rattle.expr_parse.specs.Machine.{reads, Owed, Kept, Whole, ACondition, AConjunction, MoreAnd, MoreOr}
+use Rattle.expr_words.specs.Trees.{tree}
+use Rattle.expr_words.specs.Words.{meanings}
+use Rattle.expr_words.specs.Machine.{reads, Owed, Kept, Whole, ACondition, AConjunction, MoreAnd, MoreOr}
 use Rattle.expr_parse.proofs.logic.+condition.Given as goal
 
 abbrev pub decreases-part : goal.decreases-part

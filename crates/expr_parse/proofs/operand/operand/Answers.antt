@@ -1,5 +1,5 @@
-use Rattle.expr_parse.specs.Words.{meanings}
-use Rattle.expr_parse.proofs.Parsing.{goes_along, plain_level}
+use Rattle.expr_words.specs.Words.{meanings}
+use Rattle.expr_words.proofs.Steps.{goes_along, plain_level}
 use Rattle.expr_parse.proofs.operand.operand.Goals as goal
 
 pub returns-in-None-clause-goes : goal.returns-in-None-clause-goes

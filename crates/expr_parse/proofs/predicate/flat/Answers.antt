@@ -1,7 +1,7 @@
 use Rattle.std.proofs.Common.{◌∷◌, ◌∙◌}
-use Rattle.expr_parse.specs.Words.{meanings}
-use Rattle.expr_parse.specs.Machine.{ARest}
-use Rattle.expr_parse.proofs.Parsing.{goes_along, part_operand, plain_level}
+use Rattle.expr_words.specs.Words.{meanings}
+use Rattle.expr_words.specs.Machine.{ARest}
+use Rattle.expr_words.proofs.Steps.{goes_along, part_operand, plain_level}
 use Rattle.expr_parse.proofs.predicate.flat.Goals as goal
 
 pub returns-in-None-clause-goes : goal.returns-in-None-clause-goes

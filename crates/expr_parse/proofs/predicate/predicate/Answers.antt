@@ -1,6 +1,6 @@
 use Rattle.std.proofs.Common.{◌∷◌}
-use Rattle.expr_parse.specs.Machine.{Side}
-use Rattle.expr_parse.proofs.Parsing.{goes_along}
+use Rattle.expr_words.specs.Machine.{Side}
+use Rattle.expr_words.proofs.Steps.{goes_along}
 use Rattle.expr_parse.proofs.predicate.predicate.Goals as goal
 
 pub returns-in-Some-clause-goes : goal.returns-in-Some-clause-goes

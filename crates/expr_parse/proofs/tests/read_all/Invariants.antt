@@ -1,4 +1,4 @@
-use Rattle.expr_parse.specs.Marks.{IsMadeFor}
+use Rattle.expr_words.specs.Marks.{IsMadeFor}
 use Rattle.expr_parse.proofs.tests.read_all.Given as goal
 
 abbrev pub invariant-loop-text : goal.invariant-loop-text

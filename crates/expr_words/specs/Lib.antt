@@ -1,0 +1,11 @@
+pub mod Trees
+pub mod Given
+pub mod Ascending
+pub mod Words
+pub mod Grammar
+pub mod Faults
+pub mod Marks
+pub mod Functions
+pub mod Machine
+pub mod Parses
+pub mod Fronts
