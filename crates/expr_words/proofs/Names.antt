@@ -2,7 +2,7 @@
 use Rattle.std.proofs.Common.{◌≡◌, ℕ, Bool, true, false, List, if◌then◌else◌, codes, bytes_eq, refl}
 use Rattle.std.specs.Cmp.Lexicographic.{bytes_decides}
 use Rattle.expr_words.specs.declared.function.Function.{Function}
-use Rattle.expr_words.specs.declared.function.Function.TheVariants.{Size, Exists, NotExists, HasType, BeginsWith, Contains, Unknown}
+use Rattle.expr_words.specs.declared.function.Function.TheVariants.{Size, Exists, NotExists, HasType, BeginsWith, Contains, IfNotExists, ListAppend, Unknown}
 use Rattle.expr_words.specs.Functions.{function_of}
 
 -- the name that a function is written by
@@ -13,6 +13,8 @@ IsCalled NotExists name = name ≡ codes "attribute_not_exists"
 IsCalled HasType name = name ≡ codes "attribute_type"
 IsCalled BeginsWith name = name ≡ codes "begins_with"
 IsCalled Contains name = name ≡ codes "contains"
+IsCalled IfNotExists name = name ≡ codes "if_not_exists"
+IsCalled ListAppend name = name ≡ codes "list_append"
 IsCalled Unknown name = Unit {0}
 
 pick : (name written : List ℕ) (f g : Function) → (name ≡ written → IsCalled f name) → IsCalled g name → IsCalled (if bytes_eq name written then f else g) name
@@ -28,4 +30,6 @@ is_called name =
     (pick name (codes "attribute_not_exists") NotExists _ (λ e. e)
     (pick name (codes "attribute_type") HasType _ (λ e. e)
     (pick name (codes "begins_with") BeginsWith _ (λ e. e)
-    (pick name (codes "contains") Contains Unknown (λ e. e) tt)))))
+    (pick name (codes "contains") Contains _ (λ e. e)
+    (pick name (codes "if_not_exists") IfNotExists _ (λ e. e)
+    (pick name (codes "list_append") ListAppend Unknown (λ e. e) tt)))))))

@@ -5,18 +5,19 @@ use Rattle.base_types.specs.declared.path.Step.TheVariants as step
 use Rattle.expr_lexer.specs.declared.token.TokenKind.TheVariants as sign
 use Rattle.base_types.specs.declared.path.DocPath.{DocPath}
 use Rattle.expr_words.specs.declared.tree.Operand.{Operand}
-use Rattle.expr_words.specs.Trees.{Tree, Disjunction, Conjunction, Choice}
+use Rattle.expr_words.specs.Trees.{Tree, Disjunction, Conjunction, Choice, TermTree, SumTree, SetTree, SectionTree}
+use Rattle.expr_words.specs.declared.tree.PathValue.{PathValue}
 use Rattle.expr_words.specs.Words.{Word, Bare, Held, Number, Sign, Barred}
-use Rattle.expr_words.specs.Grammar.{IsName, AreSteps, IsPath, IsOperand, AreMoreOperands, IsFlat, IsTail, IsPart, IsConjunction, IsCondition, AreMorePaths}
-use Rattle.expr_words.specs.Machine.{Kept, Whole, Side, Sides, Steps, Place, Listed, Owed, ACondition, AConjunction, APart, MoreOr, MoreAnd, ARest, AnOperand, NamedPart, NamedOperand, MoreChoices, APath, MoreSteps, AField, AnIndex, AValue, MorePaths, AnOpen, AClose, ACloseBracket, AnAnd, AComma, ABar, Do, apply, path_of}
+use Rattle.expr_words.specs.Grammar.{IsName, AreSteps, IsPath, IsOperand, IsFlat, IsTail, IsPart, IsConjunction, IsCondition, AreMore, IsTerm, IsSum, IsSumEnd, IsSet, IsPair, IsSection, AreSections}
+use Rattle.expr_words.specs.Machine.{Kept, Whole, Side, Sides, Steps, Place, Listed, Termed, Summed, Assigned, Paired, Sections, Owed, ACondition, AConjunction, APart, MoreOr, MoreAnd, ARest, AnOperand, NamedPart, NamedOperand, MoreChoices, APath, MoreSteps, AField, AnIndex, AValue, MorePaths, ATerm, NamedTerm, ASum, MoreSum, MoreSets, MorePairs, ASection, MoreSections, ASign, ABar, Do, apply, path_of}
 
 abbrev pub Then : Type 1
 Then = List Kept → List Word → Type 0
 
 -- how a list of choices ends, of which at most `left` may still come
 pub data IsListEnd (k left : ℕ) (choices : List Operand) (ts : List Word) : Type 0 where
-  closed : (more : List Word) → AreMoreOperands k more choices → length choices ≤ left → ts ≡ more ++ Sign sign.CloseParenthesis ∷ [] → IsListEnd k left choices ts
-  barred : (more : List Word) → AreMoreOperands k more choices → length choices ≡ left → ts ≡ more ++ Sign sign.Comma ∷ Barred ∷ [] → IsListEnd k left choices ts
+  closed : (more : List Word) → AreMore (IsOperand k) more choices → length choices ≤ left → ts ≡ more ++ Sign sign.CloseParenthesis ∷ [] → IsListEnd k left choices ts
+  barred : (more : List Word) → AreMore (IsOperand k) more choices → length choices ≡ left → ts ≡ more ++ Sign sign.Comma ∷ Barred ∷ [] → IsListEnd k left choices ts
 
 abbrev pub After : Owed → List Kept → List Word → Then → Type 0
 After (ACondition k) ks ts P = (t : Tree) × (a : List Word) × (b : List Word) × IsCondition k a t × (ts ≡ a ++ b) × P (Whole t ∷ ks) b
@@ -38,12 +39,20 @@ After MoreSteps (Steps p ∷ ks) ts P = (q : List Step) × (a : List Word) × (b
 After AField (Steps p ∷ ks) ts P = (name : List ℕ) × (w : Word) × (b : List Word) × IsName w name × (ts ≡ w ∷ b) × P (Steps (p ++ step.Name name ∷ []) ∷ ks) b
 After AnIndex (Steps p ∷ ks) ts P = (index : ℕ) × (b : List Word) × (ts ≡ Number index ∷ b) × P (Steps (p ++ step.Index index ∷ []) ∷ ks) b
 After AValue ks ts P = (value : ℕ) × (b : List Word) × (ts ≡ Held value ∷ b) × P (Place value ∷ ks) b
-After MorePaths (Listed ps ∷ ks) ts P = (qs : List DocPath) × (a : List Word) × (b : List Word) × AreMorePaths a qs × (ts ≡ a ++ b) × P (Listed (ps ++ qs) ∷ ks) b
-After AnOpen ks ts P = (b : List Word) × (ts ≡ Sign sign.OpenParenthesis ∷ b) × P ks b
-After AClose ks ts P = (b : List Word) × (ts ≡ Sign sign.CloseParenthesis ∷ b) × P ks b
-After ACloseBracket ks ts P = (b : List Word) × (ts ≡ Sign sign.CloseBracket ∷ b) × P ks b
-After AnAnd ks ts P = (b : List Word) × (ts ≡ Sign sign.And ∷ b) × P ks b
-After AComma ks ts P = (b : List Word) × (ts ≡ Sign sign.Comma ∷ b) × P ks b
+After MorePaths (Listed ps ∷ ks) ts P = (qs : List DocPath) × (a : List Word) × (b : List Word) × AreMore IsPath a qs × (ts ≡ a ++ b) × P (Listed (ps ++ qs) ∷ ks) b
+After (ATerm k) ks ts P = (t : TermTree) × (a : List Word) × (b : List Word) × IsTerm k a t × (ts ≡ a ++ b) × P (Termed t ∷ ks) b
+After (NamedTerm k name) ks ts P = (t : TermTree) × (a : List Word) × (b : List Word) × IsTerm k (Bare name ∷ a) t × (ts ≡ a ++ b) × P (Termed t ∷ ks) b
+After (ASum k) ks ts P = (s : SumTree) × (a : List Word) × (b : List Word) × IsSum k a s × (ts ≡ a ++ b) × P (Summed s ∷ ks) b
+After (MoreSum k) (Termed t ∷ ks) ts P = (s : SumTree) × (a : List Word) × (b : List Word) × IsSumEnd k t a s × (ts ≡ a ++ b) × P (Summed s ∷ ks) b
+After (MoreSets k) (Assigned xs ∷ ks) ts P =
+    (ys : List SetTree) × (a : List Word) × (b : List Word) × AreMore (IsSet k) a ys × (ts ≡ a ++ b) × P (Assigned (xs ++ ys) ∷ ks) b
+After MorePairs (Paired xs ∷ ks) ts P =
+    (ys : List PathValue) × (a : List Word) × (b : List Word) × AreMore IsPair a ys × (ts ≡ a ++ b) × P (Paired (xs ++ ys) ∷ ks) b
+After (ASection k) (Sections cs ∷ ks) ts P =
+    (c : SectionTree) × (a : List Word) × (b : List Word) × IsSection k a c × (ts ≡ a ++ b) × P (Sections (cs ++ c ∷ []) ∷ ks) b
+After (MoreSections k) (Sections cs ∷ ks) ts P =
+    (ds : List SectionTree) × (a : List Word) × (b : List Word) × AreSections k a ds × (ts ≡ a ++ b) × P (Sections (cs ++ ds) ∷ ks) b
+After (ASign s) ks ts P = (b : List Word) × (ts ≡ Sign s ∷ b) × P ks b
 After ABar ks ts P = (b : List Word) × (ts ≡ Barred ∷ b) × P ks b
 After (Do effect) ks ts P = P (apply effect ks) ts
 After o ks ts P = Unit {0}
@@ -78,11 +87,15 @@ After_map AField (Steps q ∷ ks) ts P Q f (t, a, b, s, e, p) = (t, a, b, s, e, 
 After_map AnIndex (Steps q ∷ ks) ts P Q f (i, b, e, p) = (i, b, e, f _ _ p)
 After_map AValue ks ts P Q f (v, b, e, p) = (v, b, e, f _ _ p)
 After_map MorePaths (Listed ps ∷ ks) ts P Q f (t, a, b, s, e, p) = (t, a, b, s, e, f _ _ p)
-After_map AnOpen ks ts P Q f (b, e, p) = (b, e, f _ _ p)
-After_map AClose ks ts P Q f (b, e, p) = (b, e, f _ _ p)
-After_map ACloseBracket ks ts P Q f (b, e, p) = (b, e, f _ _ p)
-After_map AnAnd ks ts P Q f (b, e, p) = (b, e, f _ _ p)
-After_map AComma ks ts P Q f (b, e, p) = (b, e, f _ _ p)
+After_map (ATerm k) ks ts P Q f (t, a, b, s, e, p) = (t, a, b, s, e, f _ _ p)
+After_map (NamedTerm k name) ks ts P Q f (t, a, b, s, e, p) = (t, a, b, s, e, f _ _ p)
+After_map (ASum k) ks ts P Q f (t, a, b, s, e, p) = (t, a, b, s, e, f _ _ p)
+After_map (MoreSum k) (Termed t0 ∷ ks) ts P Q f (t, a, b, s, e, p) = (t, a, b, s, e, f _ _ p)
+After_map (MoreSets k) (Assigned xs ∷ ks) ts P Q f (t, a, b, s, e, p) = (t, a, b, s, e, f _ _ p)
+After_map MorePairs (Paired xs ∷ ks) ts P Q f (t, a, b, s, e, p) = (t, a, b, s, e, f _ _ p)
+After_map (ASection k) (Sections cs ∷ ks) ts P Q f (t, a, b, s, e, p) = (t, a, b, s, e, f _ _ p)
+After_map (MoreSections k) (Sections cs ∷ ks) ts P Q f (t, a, b, s, e, p) = (t, a, b, s, e, f _ _ p)
+After_map (ASign sign) ks ts P Q f (b, e, p) = (b, e, f _ _ p)
 After_map ABar ks ts P Q f (b, e, p) = (b, e, f _ _ p)
 After_map (Do effect) ks ts P Q f p = f _ _ p
 After_map o ks ts P Q f h = tt

@@ -10,7 +10,7 @@ use Rattle.expr_words.specs.declared.parse_end.ParseEnd.{ParseEnd}
 use Rattle.expr_words.specs.declared.meaning.Missing.{Missing}
 use Rattle.expr_words.specs.declared.word.Word as code
 use Rattle.expr_words.specs.Words.{Word, meant, meanings, meaning, words, missing, undefined, fault_of}
-use Rattle.expr_words.specs.Marks.{IsMadeFor, Marks, name_used, value_used, names_used, values_used, MarksAll}
+use Rattle.expr_words.specs.Marks.{IsMadeFor, Marks, Stays, KeepsMarks, name_used, value_used, names_used, values_used, MarksAll}
 
 -- what is kept before the tokens `rest`, where the marks were `old` before all tokens
 pub record Keeps (given : Given) (text : List ℕ) (tokens rest : List Token) (ws : List code.Word) (gone : Option Missing) (old used : Used) : Type 0 where
@@ -19,6 +19,7 @@ pub record Keeps (given : Given) (text : List ℕ) (tokens rest : List Token) (w
   pub names : (final : List Bool) → Marks (names_used given text rest) used.names.items final → Marks (names_used given text tokens) old.names.items final
   pub values : (final : List Bool) → Marks (values_used given text rest) used.values.items final → Marks (values_used given text tokens) old.values.items final
   pub made_for : IsMadeFor given used
+  pub stays : KeepsMarks old used
 
 pushed : (ws : List code.Word) (w : code.Word) (rest : List Word) → meanings (ws ++ w ∷ []) ++ rest ≡ meanings ws ++ meant w ∷ rest
 pushed [] w rest = refl
@@ -58,10 +59,24 @@ no_marks a k = go (slice_get a k) where
   go None = refl
   go (Some was) = ap (λ b. Some b) (cases was)
 
+marks_stay : (ps : List ℕ) (a b : List Bool) → Marks ps a b → Stays a b
+marks_stay ps a b m k e = m k ∙ ap (option_map (λ was. was || list_any (nat_eq k) ps)) e
+
+-- marks stay where none is set, and where more are
+pub stays_same : (used : Used) → KeepsMarks used used
+stays_same used = record { names = (λ k e. e); values = (λ k e. e) }
+
+pub stays_more : (ps qs : List ℕ) (old used used' : Used) → KeepsMarks old used → Marks ps used.names.items used'.names.items
+    → Marks qs used.values.items used'.values.items → KeepsMarks old used'
+stays_more ps qs old used used' h m n = record {
+  names = (λ k e. marks_stay ps used.names.items used'.names.items m k (h.names k e));
+  values = (λ k e. marks_stay qs used.values.items used'.values.items n k (h.values k e));
+}
+
 pub keeps_begin : (given : Given) (text : List ℕ) (tokens : List Token) (used : Used) → IsMadeFor given used
     → Keeps given text tokens tokens [] None used used
 keeps_begin given text tokens used made =
-    record { words_are = refl; undefined_is = refl; names = (λ final m. m); values = (λ final m. m); made_for = made }
+    record { words_are = refl; undefined_is = refl; names = (λ final m. m); values = (λ final m. m); made_for = made; stays = stays_same used }
 
 pub keeps_step : (given : Given) (text : List ℕ) (tokens : List Token) (token : Token) (rest : List Token) (ws : List code.Word)
     (gone : Option Missing) (old used used' : Used) (w : code.Word) (m : Option Missing)
@@ -82,6 +97,8 @@ keeps_step given text tokens token rest ws gone old used used' w m h w_is m_is n
       values = (λ final n. h.values final (marks_step (option_to_list (value_used given token.kind (word_of text token))) (values_used given text rest)
           used.values.items used'.values.items final values n));
       made_for = made;
+      stays = stays_more (option_to_list (name_used given token.kind (word_of text token))) (option_to_list (value_used given token.kind (word_of text token)))
+          old used used' h.stays names values;
     }
 
 -- the same along the tokens by index; what is kept then is named by the equations
@@ -128,3 +145,6 @@ keeps_undefined {gone = gone} h = sym (no_undefined (option_map fault_of gone)) 
 pub keeps_marks : {given : Given} {text : List ℕ} {tokens : List Token} {ws : List code.Word} {gone : Option Missing} {old used : Used}
     → Keeps given text tokens [] ws gone old used → MarksAll given text tokens old used
 keeps_marks {used = used} h = record { names = h.names used.names.items (no_marks used.names.items); values = h.values used.values.items (no_marks used.values.items) }
+
+-- that marks stay
+pub ruleset mark_laws = (stays_same, stays_more)

@@ -10,11 +10,13 @@ use Rattle.expr_words.specs.declared.tree.Operand.{Operand}
 use Rattle.expr_words.specs.declared.tree.Operand.TheVariants as operand
 use Rattle.expr_words.specs.declared.function.Function.{Function}
 use Rattle.expr_words.specs.declared.function.Function.TheVariants as function
-use Rattle.expr_words.specs.Trees.{Tree, Negation, Compared, Range, Choice, Presence, Absence, KindTest, FrontTest, PartTest}
+use Rattle.expr_words.specs.Trees.{Tree, Negation, Compared, Range, Choice, Presence, Absence, KindTest, FrontTest, PartTest, TermTree, Located, OfValue, OrElse, Appended, SumTree, Alone, Plus, Minus, SetTree, SectionTree, Sets, Removes, Adds, Deletes}
+use Rattle.expr_words.specs.declared.tree.PathValue.{PathValue}
+use Rattle.expr_lexer.specs.declared.token.TokenKind.{TokenKind}
 use Rattle.expr_words.specs.Words.{Word, Bare, Placed, Held, Number, Sign, Barred}
 use Rattle.expr_words.specs.Functions.{function_of}
-use Rattle.expr_words.specs.Grammar.{written, placed, AreSteps, no_step, a_field, an_element, IsPath, IsOperand, a_path, a_value, a_size, IsComparison, equals, differs, is_less, is_at_most, is_more_than, is_at_least, no_operand, an_operand, IsPathTest, exists, not_exists, IsOperandTest, begins, contains, IsFlat, a_comparison, a_range, a_choice, a_path_test, a_kind_test, an_operand_test, a_barred_parenthesis, a_barred_choice, tail_ends, tail_goes, IsPart, no_path, another_path}
-use Rattle.expr_words.specs.Machine.{Kept, Whole, Side, Sides, Steps, Listed, Owed, ACondition, AConjunction, APart, MoreOr, MoreAnd, ARest, AnOperand, NamedPart, NamedOperand, MoreChoices, APath, MoreSteps, AField, AnIndex, AValue, MorePaths, AnOpen, AClose, ACloseBracket, AnAnd, AComma, ABar, Do, Action, OfPath, OfSides, Take, Pass, Refuse, also, act, path_of, named, on_call, on_operand_call, on_rest, on_part, on_choices, on_named_part, on_named_operand}
+use Rattle.expr_words.specs.Grammar.{written, placed, AreSteps, no_step, a_field, an_element, IsPath, IsOperand, a_path, a_value, a_size, IsComparison, equals, differs, is_less, is_at_most, is_more_than, is_at_least, IsPathTest, exists, not_exists, IsOperandTest, begins, contains, IsFlat, a_comparison, a_range, a_choice, a_path_test, a_kind_test, an_operand_test, a_barred_parenthesis, a_barred_choice, tail_ends, tail_goes, IsPart, AreMore, no_more, one_more, AreListed, IsPlainTerm, located, valued, IsTermCall, an_or_else, an_append, IsTerm, IsSumEnd, alone, plus, minus, IsSet, IsPair, IsSection, sets, removes, adds, deletes, no_section, a_section}
+use Rattle.expr_words.specs.Machine.{Kept, Whole, Side, Sides, Steps, Listed, Termed, Summed, Assigned, Paired, Sections, Owed, ACondition, AConjunction, APart, MoreOr, MoreAnd, ARest, AnOperand, NamedPart, NamedOperand, MoreChoices, APath, MoreSteps, AField, AnIndex, AValue, MorePaths, ATerm, NamedTerm, ASum, MoreSum, MoreSets, MorePairs, ASection, MoreSections, ASign, ABar, Do, Action, OfPath, OfSides, EndSets, EndPairs, Take, Pass, Refuse, also, act, path_of, named, on_call, on_operand_call, on_rest, on_part, on_choices, on_named_part, on_named_operand, a_set, a_pair, set_to, pair_of, on_term, on_term_call, on_named_term, on_more_sum, on_section, or_pass, on_same, on_sign}
 use Rattle.expr_words.proofs.Names.{IsCalled, is_called}
 use Rattle.expr_words.proofs.Owing.{Then, After, AllAfter, split, two, three, IsListEnd, closed, barred}
 
@@ -123,7 +125,7 @@ part k ks t = tt
 
 -- a call of one path
 path_call : (k : ℕ) (name : List ℕ) (ks : List Kept) (of : DocPath → Tree) → IsPathTest name of
-    → Sound (NamedPart (suc k) name) ks (Sign sign.OpenParenthesis) (Take (APath ∷ AClose ∷ Do (OfPath of) ∷ []) ks)
+    → Sound (NamedPart (suc k) name) ks (Sign sign.OpenParenthesis) (Take (APath ∷ ASign sign.CloseParenthesis ∷ Do (OfPath of) ∷ []) ks)
 path_call k name ks of c = λ P u (p, a, b, s, e, (b2, e2, r)). (
   of (path_of p),
   Sign sign.OpenParenthesis ∷ (a ++ Sign sign.CloseParenthesis ∷ []),
@@ -135,7 +137,7 @@ path_call k name ks of c = λ P u (p, a, b, s, e, (b2, e2, r)). (
 
 -- a call of two operands
 operand_call : (k : ℕ) (name : List ℕ) (ks : List Kept) (of : Operand → Operand → Tree) → IsOperandTest name of
-    → Sound (NamedPart (suc k) name) ks (Sign sign.OpenParenthesis) (Take (AnOperand k ∷ AComma ∷ AnOperand k ∷ AClose ∷ Do (OfSides of) ∷ []) ks)
+    → Sound (NamedPart (suc k) name) ks (Sign sign.OpenParenthesis) (Take (AnOperand k ∷ ASign sign.Comma ∷ AnOperand k ∷ ASign sign.CloseParenthesis ∷ Do (OfSides of) ∷ []) ks)
 operand_call k name ks of c = λ P u (x, a, b, s, e, (b2, e2, (y, a3, b3, s3, e3, (b4, e4, r)))). (
   of x y,
   Sign sign.OpenParenthesis ∷ (a ++ Sign sign.Comma ∷ (a3 ++ Sign sign.CloseParenthesis ∷ [])),
@@ -189,10 +191,10 @@ operand_size f k name ks n = tt
 more_end : (k left : ℕ) (a : List Word) (y : Operand) (zs : List Operand) (a2 : List Word) → IsOperand k a y → IsListEnd k left zs a2
     → IsListEnd k (suc left) (y ∷ zs) (Sign sign.Comma ∷ (a ++ a2))
 more_end k left a y zs a2 s (closed m are few is) =
-    closed (Sign sign.Comma ∷ (a ++ m)) (an_operand s are) (omega (arith, few))
+    closed (Sign sign.Comma ∷ (a ++ m)) (one_more s are) (omega (arith, few))
     (ap (λ l. Sign sign.Comma ∷ (a ++ l)) is ∙ ap (λ l. Sign sign.Comma ∷ l) (sym (append_assoc a m (Sign sign.CloseParenthesis ∷ []))))
 more_end k left a y zs a2 s (barred m are most is) =
-    barred (Sign sign.Comma ∷ (a ++ m)) (an_operand s are) (omega (arith, most))
+    barred (Sign sign.Comma ∷ (a ++ m)) (one_more s are) (omega (arith, most))
     (ap (λ l. Sign sign.Comma ∷ (a ++ l)) is ∙ ap (λ l. Sign sign.Comma ∷ l) (sym (append_assoc a m (Sign sign.Comma ∷ Barred ∷ []))))
 
 choices : (k left : ℕ) (ys : List Operand) (x : Operand) (ks : List Kept) (t : Word)
@@ -209,12 +211,12 @@ choices k zero ys x ks (Sign sign.Comma) = λ P u (b, e, p). (
   [],
   Sign sign.Comma ∷ Barred ∷ [],
   b,
-  barred [] no_operand refl refl,
+  barred [] no_more refl refl,
   ap (λ l. Sign sign.Comma ∷ l) e,
   subst (λ l. P (Whole (Choice x l) ∷ ks) b) (sym (append-nil ys)) p,
 )
 choices k left ys x ks (Sign sign.CloseParenthesis) = λ P u p.
-    ([], Sign sign.CloseParenthesis ∷ [], u, closed [] no_operand (omega arith) refl, refl, subst (λ l. P (Whole (Choice x l) ∷ ks) u) (sym (append-nil ys)) p)
+    ([], Sign sign.CloseParenthesis ∷ [], u, closed [] no_more (omega arith) refl, refl, subst (λ l. P (Whole (Choice x l) ∷ ks) u) (sym (append-nil ys)) p)
 choices k left ys x ks t = tt
 
 -- an action does not pass
@@ -304,11 +306,11 @@ more_paths ps ks (Sign sign.Comma) = λ P u (p, a, b, s, e, (qs, a2, b2, are, e2
   path_of p ∷ qs,
   Sign sign.Comma ∷ (a ++ a2),
   b2,
-  another_path s are,
+  one_more s are,
   ap (λ l. Sign sign.Comma ∷ l) (two a a2 b2 e e2),
   subst (λ l. P (Listed l ∷ ks) b2) (append_assoc ps (path_of p ∷ []) qs) r,
 )
-more_paths ps ks t = λ P u r. ([], [], u, no_path, refl, subst (λ l. P (Listed l ∷ ks) u) (sym (append-nil ps)) r)
+more_paths ps ks t = λ P u r. ([], [], u, no_more, refl, subst (λ l. P (Listed l ∷ ks) u) (sym (append-nil ps)) r)
 
 conjunction : (k : ℕ) (ks : List Kept) (P : Then) (u : List Word) → After (APart k) ks u (λ ks ts. AllAfter (MoreAnd k ∷ []) ks ts P)
     → After (AConjunction k) ks u P
@@ -332,6 +334,197 @@ condition k ks P u (t, a, b, s, e, (t2, a2, b2, s2, e2, (t3, a3, b3, s3, e3, p))
   three a a2 a3 b3 e e2 e3,
   p,
 )
+
+same_sign : (s t : TokenKind) (ks : List Kept) → Sound (ASign s) ks (Sign t) (on_same s t ks)
+same_sign sign.OpenParenthesis sign.OpenParenthesis ks = λ P u p. (u, refl, p)
+same_sign sign.CloseParenthesis sign.CloseParenthesis ks = λ P u p. (u, refl, p)
+same_sign sign.CloseBracket sign.CloseBracket ks = λ P u p. (u, refl, p)
+same_sign sign.And sign.And ks = λ P u p. (u, refl, p)
+same_sign sign.Comma sign.Comma ks = λ P u p. (u, refl, p)
+same_sign sign.Equal sign.Equal ks = λ P u p. (u, refl, p)
+same_sign s t ks = tt
+
+a_sign : (s : TokenKind) (ks : List Kept) (t : Word) → Sound (ASign s) ks t (on_sign s ks (Some t))
+a_sign s ks (Sign t) = same_sign s t ks
+a_sign s ks t = tt
+
+pub plain_term : (k : ℕ) {ts : List Word} {t : TermTree} → IsPlainTerm ts t → IsTerm k ts t
+plain_term zero s = s
+plain_term (suc k) s = inl s
+
+term : (k : ℕ) (ks : List Kept) (t : Word) → Sound (ATerm k) ks t (on_term k ks (Some t))
+term k ks (Bare name) = λ P u (t, a, b, s, e, p). (t, Bare name ∷ a, b, s, ap (λ l. Bare name ∷ l) e, p)
+term k ks (Placed name) = λ P u (q, a, b, s, e, p). (
+  Located (path_of (step.Name name ∷ q)),
+  Placed name ∷ a,
+  b,
+  plain_term k (located (path_of (step.Name name ∷ q)) (placed_path name a q s) refl),
+  ap (λ l. Placed name ∷ l) e,
+  p,
+)
+term k ks (Held value) = λ P u p. (OfValue value, Held value ∷ [], u, plain_term k (valued value refl refl), refl, p)
+term k ks t = tt
+
+-- a call of two arguments, behind its parenthesis
+two_arguments : {u b b2 b3 : List Word} (a a3 b4 : List Word) → u ≡ a ++ b → b ≡ Sign sign.Comma ∷ b2 → b2 ≡ a3 ++ b3 → b3 ≡ Sign sign.CloseParenthesis ∷ b4
+    → Sign sign.OpenParenthesis ∷ u ≡ (Sign sign.OpenParenthesis ∷ (a ++ Sign sign.Comma ∷ (a3 ++ Sign sign.CloseParenthesis ∷ []))) ++ b4
+two_arguments a a3 b4 e e2 e3 e4 = ap (λ l. Sign sign.OpenParenthesis ∷ l)
+    (two a (Sign sign.Comma ∷ (a3 ++ Sign sign.CloseParenthesis ∷ [])) b4 e (e2 ∙ ap (λ l. Sign sign.Comma ∷ l) (closes a3 (Sign sign.CloseParenthesis) b4 e3 e4)))
+
+term_call : (f : Function) (k : ℕ) (name : List ℕ) (ks : List Kept) → IsCalled f name
+    → Sound (NamedTerm k name) ks (Sign sign.OpenParenthesis) (on_term_call f k ks)
+term_call function.IfNotExists (suc k) name ks n = λ P u (p, a, b, s, e, (b2, e2, (t, a3, b3, s3, e3, (b4, e4, r)))). (
+  OrElse (path_of p) t,
+  Sign sign.OpenParenthesis ∷ (a ++ Sign sign.Comma ∷ (a3 ++ Sign sign.CloseParenthesis ∷ [])),
+  b4,
+  inr (an_or_else a a3 (path_of p) t s s3
+      (ap (λ m. Bare m ∷ Sign sign.OpenParenthesis ∷ (a ++ Sign sign.Comma ∷ (a3 ++ Sign sign.CloseParenthesis ∷ []))) n) refl),
+  two_arguments a a3 b4 e e2 e3 e4,
+  r,
+)
+term_call function.ListAppend (suc k) name ks n = λ P u (x, a, b, s, e, (b2, e2, (y, a3, b3, s3, e3, (b4, e4, r)))). (
+  Appended x y,
+  Sign sign.OpenParenthesis ∷ (a ++ Sign sign.Comma ∷ (a3 ++ Sign sign.CloseParenthesis ∷ [])),
+  b4,
+  inr (an_append a a3 x y s s3
+      (ap (λ m. Bare m ∷ Sign sign.OpenParenthesis ∷ (a ++ Sign sign.Comma ∷ (a3 ++ Sign sign.CloseParenthesis ∷ []))) n) refl),
+  two_arguments a a3 b4 e e2 e3 e4,
+  r,
+)
+term_call f k name ks n = tt
+
+named_term : (k : ℕ) (name : List ℕ) (ks : List Kept) (t : Word) → Sound (NamedTerm k name) ks t (on_named_term k name ks (Some t))
+named_term k name ks (Sign sign.OpenParenthesis) = term_call (function_of name) k name ks (is_called name)
+named_term k name ks (Sign sign.Dot) = λ P u (field, w, b, n, e, (q, a, b2, s, e2, p)). (
+  Located (path_of (step.Name name ∷ step.Name field ∷ q)),
+  Sign sign.Dot ∷ w ∷ a,
+  b2,
+  plain_term k (located (path_of (step.Name name ∷ step.Name field ∷ q)) (bare_path name (Sign sign.Dot ∷ w ∷ a) (step.Name field ∷ q) (a_field n s)) refl),
+  ap (λ l. Sign sign.Dot ∷ l) (e ∙ ap (λ l. w ∷ l) e2),
+  p,
+)
+named_term k name ks (Sign sign.OpenBracket) = λ P u (i, b, e, (b2, e2, (q, a, b3, s, e3, p))). (
+  Located (path_of (step.Name name ∷ step.Index i ∷ q)),
+  Sign sign.OpenBracket ∷ Number i ∷ Sign sign.CloseBracket ∷ a,
+  b3,
+  plain_term k (located (path_of (step.Name name ∷ step.Index i ∷ q))
+      (bare_path name (Sign sign.OpenBracket ∷ Number i ∷ Sign sign.CloseBracket ∷ a) (step.Index i ∷ q) (an_element s)) refl),
+  ap (λ l. Sign sign.OpenBracket ∷ l) (e ∙ ap (λ l. Number i ∷ l) (e2 ∙ ap (λ l. Sign sign.CloseBracket ∷ l) e3)),
+  p,
+)
+named_term k name ks t = λ P u p.
+    (Located (path_of (named name)), [], u, plain_term k (located (path_of (named name)) (bare_path name [] [] no_step) refl), refl, p)
+
+sum : (k : ℕ) (ks : List Kept) (P : Then) (u : List Word) → After (ATerm k) ks u (λ ks ts. AllAfter (MoreSum k ∷ []) ks ts P) → After (ASum k) ks u P
+sum k ks P u (t, a, b, s, e, (x, a2, b2, m, e2, p)) =
+    (x, a ++ a2, b2, record { front = a; more = a2; first = t; is_first = s; is_end = m; spelled = refl }, two a a2 b2 e e2, p)
+
+more_sum : (k : ℕ) (x : TermTree) (ks : List Kept) (t : Word) → Sound (MoreSum k) (Termed x ∷ ks) t (on_more_sum k (Termed x ∷ ks) (Some t))
+more_sum k x ks (Sign sign.Plus) = λ P u (y, a, b, s, e, p). (Plus x y, Sign sign.Plus ∷ a, b, plus a y s refl refl, ap (λ l. Sign sign.Plus ∷ l) e, p)
+more_sum k x ks (Sign sign.Minus) = λ P u (y, a, b, s, e, p). (Minus x y, Sign sign.Minus ∷ a, b, minus a y s refl refl, ap (λ l. Sign sign.Minus ∷ l) e, p)
+more_sum k x ks t = λ P u p. (Alone x, [], u, alone refl refl, refl, p)
+
+-- what is listed here, behind what was listed before, and what comes then
+abbrev pub Lists : {X : Type 0} → (List Word → X → Type 0) → (List X → Kept) → List X → List Kept → List Word → Then → Type 0
+Lists {X} G keep xs ks ts P = (ys : List X) × (a : List Word) × (b : List Word) × AreListed G a ys × (ts ≡ a ++ b) × P (keep (xs ++ ys) ∷ ks) b
+
+-- a list behind a comma goes on with another
+goes_listed : {X : Type 0} (G : List Word → X → Type 0) (a : List Word) (ys : List X) → AreListed G a ys → AreMore G (Sign sign.Comma ∷ a) ys
+goes_listed {X = X} G a ys l =
+    let ends : List X → Type 0 = λ v. AreMore G (Sign sign.Comma ∷ (l.front ++ l.more)) v in
+    subst (λ v. AreMore G (Sign sign.Comma ∷ v) ys) (sym l.spelled) (subst ends (sym l.listed) (one_more l.is_first l.are_more))
+
+set_list : (k : ℕ) (xs : List SetTree) (ks : List Kept) (u : List Word) (P : Then) → AllAfter (a_set k) (Assigned xs ∷ ks) u P
+    → Lists (IsSet k) Assigned xs ks u P
+set_list k xs ks u P (p, a, b, s, e, (b2, e2, (v, a3, b3, s3, e3, (ys, a4, b4, are, e4, r)))) = (
+  set_to p v ∷ ys,
+  (a ++ Sign sign.Equal ∷ a3) ++ a4,
+  b4,
+  record {
+    front = a ++ Sign sign.Equal ∷ a3;
+    more = a4;
+    first = set_to p v;
+    others = ys;
+    is_first = record { front = a; more = a3; is_path = s; is_sum = s3; spelled = refl };
+    are_more = are;
+    spelled = refl;
+    listed = refl;
+  },
+  two (a ++ Sign sign.Equal ∷ a3) a4 b4 (two a (Sign sign.Equal ∷ a3) b3 e (e2 ∙ ap (λ l. Sign sign.Equal ∷ l) e3)) e4,
+  subst (λ l. P (Assigned l ∷ ks) b4) (append_assoc xs (set_to p v ∷ []) ys) r,
+)
+
+pair_list : (xs : List PathValue) (ks : List Kept) (u : List Word) (P : Then) → AllAfter a_pair (Paired xs ∷ ks) u P → Lists IsPair Paired xs ks u P
+pair_list xs ks u P (p, a, b, s, e, (v, b2, e2, (ys, a4, b4, are, e4, r))) = (
+  pair_of p v ∷ ys,
+  (a ++ Held v ∷ []) ++ a4,
+  b4,
+  record {
+    front = a ++ Held v ∷ [];
+    more = a4;
+    first = pair_of p v;
+    others = ys;
+    is_first = record { front = a; is_path = s; spelled = refl };
+    are_more = are;
+    spelled = refl;
+    listed = refl;
+  },
+  two (a ++ Held v ∷ []) a4 b4 (closes a (Held v) b2 e e2) e4,
+  subst (λ l. P (Paired l ∷ ks) b4) (append_assoc xs (pair_of p v ∷ []) ys) r,
+)
+
+more_sets : (k : ℕ) (xs : List SetTree) (ks : List Kept) (t : Word) → Sound (MoreSets k) (Assigned xs ∷ ks) t (act (MoreSets k) (Assigned xs ∷ ks) (Some t))
+more_sets k xs ks (Sign sign.Comma) = λ P u h. goes P u (set_list k xs ks u P h) where
+  goes : (P : Then) (u : List Word) → Lists (IsSet k) Assigned xs ks u P → After (MoreSets k) (Assigned xs ∷ ks) (Sign sign.Comma ∷ u) P
+  goes P u (ys, a, b, l, e, p) = (ys, Sign sign.Comma ∷ a, b, goes_listed (IsSet k) a ys l, ap (λ l. Sign sign.Comma ∷ l) e, p)
+more_sets k xs ks t = λ P u r. ([], [], u, no_more, refl, subst (λ l. P (Assigned l ∷ ks) u) (sym (append-nil xs)) r)
+
+more_pairs : (xs : List PathValue) (ks : List Kept) (t : Word) → Sound MorePairs (Paired xs ∷ ks) t (act MorePairs (Paired xs ∷ ks) (Some t))
+more_pairs xs ks (Sign sign.Comma) = λ P u h. goes P u (pair_list xs ks u P h) where
+  goes : (P : Then) (u : List Word) → Lists IsPair Paired xs ks u P → After MorePairs (Paired xs ∷ ks) (Sign sign.Comma ∷ u) P
+  goes P u (ys, a, b, l, e, p) = (ys, Sign sign.Comma ∷ a, b, goes_listed IsPair a ys l, ap (λ l. Sign sign.Comma ∷ l) e, p)
+more_pairs xs ks t = λ P u r. ([], [], u, no_more, refl, subst (λ l. P (Paired l ∷ ks) u) (sym (append-nil xs)) r)
+
+section : (k : ℕ) (cs : List SectionTree) (ks : List Kept) (t : Word) → Sound (ASection k) (Sections cs ∷ ks) t (on_section k (Sections cs ∷ ks) (Some t))
+section k cs ks (Sign sign.Set) = λ P u h. goes P u (set_list k [] (Sections cs ∷ ks) u (λ ks ts. AllAfter (Do EndSets ∷ []) ks ts P) h) where
+  goes : (P : Then) (u : List Word) → Lists (IsSet k) Assigned [] (Sections cs ∷ ks) u (λ ks ts. AllAfter (Do EndSets ∷ []) ks ts P)
+      → After (ASection k) (Sections cs ∷ ks) (Sign sign.Set ∷ u) P
+  goes P u (ys, a, b, l, e, p) = (Sets ys, Sign sign.Set ∷ a, b, sets a ys l refl refl, ap (λ l. Sign sign.Set ∷ l) e, p)
+section k cs ks (Sign sign.Remove) = λ P u (p, a, b, s, e, (qs, a2, b2, are, e2, r)). (
+  Removes (path_of p ∷ qs),
+  Sign sign.Remove ∷ (a ++ a2),
+  b2,
+  removes (a ++ a2) (path_of p ∷ qs)
+      (record { front = a; more = a2; first = path_of p; others = qs; is_first = s; are_more = are; spelled = refl; listed = refl }) refl refl,
+  ap (λ l. Sign sign.Remove ∷ l) (two a a2 b2 e e2),
+  r,
+)
+section k cs ks (Sign sign.Add) = λ P u h. goes P u (pair_list [] (Sections cs ∷ ks) u (λ ks ts. AllAfter (Do (EndPairs Adds) ∷ []) ks ts P) h) where
+  goes : (P : Then) (u : List Word) → Lists IsPair Paired [] (Sections cs ∷ ks) u (λ ks ts. AllAfter (Do (EndPairs Adds) ∷ []) ks ts P)
+      → After (ASection k) (Sections cs ∷ ks) (Sign sign.Add ∷ u) P
+  goes P u (ys, a, b, l, e, p) = (Adds ys, Sign sign.Add ∷ a, b, adds a ys l refl refl, ap (λ l. Sign sign.Add ∷ l) e, p)
+section k cs ks (Sign sign.Delete) = λ P u h. goes P u (pair_list [] (Sections cs ∷ ks) u (λ ks ts. AllAfter (Do (EndPairs Deletes) ∷ []) ks ts P) h) where
+  goes : (P : Then) (u : List Word) → Lists IsPair Paired [] (Sections cs ∷ ks) u (λ ks ts. AllAfter (Do (EndPairs Deletes) ∷ []) ks ts P)
+      → After (ASection k) (Sections cs ∷ ks) (Sign sign.Delete ∷ u) P
+  goes P u (ys, a, b, l, e, p) = (Deletes ys, Sign sign.Delete ∷ a, b, deletes a ys l refl refl, ap (λ l. Sign sign.Delete ∷ l) e, p)
+section k cs ks t = tt
+
+or_pass_sound : (o : Owed) (ks : List Kept) (t : Word) (a : Action) → ((P : Then) (u : List Word) → P ks u → After o ks u P) → Sound o ks t a
+    → Sound o ks t (or_pass ks a)
+or_pass_sound o ks t (Take new ks') h s = s
+or_pass_sound o ks t (Pass ks') h s = s
+or_pass_sound o ks t Refuse h s = h
+
+more_sections : (k : ℕ) (cs : List SectionTree) (ks : List Kept) (t : Word)
+    → Sound (MoreSections k) (Sections cs ∷ ks) t (act (MoreSections k) (Sections cs ∷ ks) (Some t))
+more_sections k cs ks t =
+    or_pass_sound (MoreSections k) (Sections cs ∷ ks) t (also (MoreSections k ∷ []) (on_section k (Sections cs ∷ ks) (Some t)))
+    (λ P u r. ([], [], u, no_section, refl, subst (λ l. P (Sections l ∷ ks) u) (sym (append-nil cs)) r))
+    (also_sound (ASection k) (MoreSections k) (Sections cs ∷ ks) t (MoreSections k ∷ []) (on_section k (Sections cs ∷ ks) (Some t)) goes (section k cs ks t)) where
+      goes : (P : Then) (u : List Word) → After (ASection k) (Sections cs ∷ ks) u (λ ks ts. AllAfter (MoreSections k ∷ []) ks ts P)
+          → After (MoreSections k) (Sections cs ∷ ks) u P
+      goes P u (c, a, b, s, e, (ds, a2, b2, are, e2, r)) =
+          (c ∷ ds, a ++ a2, b2, a_section s are, two a a2 b2 e e2, subst (λ l. P (Sections l ∷ ks) b2) (append_assoc cs (c ∷ []) ds) r)
 
 pub sound : (o : Owed) (ks : List Kept) (t : Word) → Sound o ks t (act o ks (Some t))
 sound (ACondition k) ks t = also_sound (APart k) (ACondition k) ks t (MoreAnd k ∷ MoreOr k ∷ []) (on_part k ks (Some t)) (condition k ks) (part k ks t)
@@ -378,16 +571,20 @@ sound AValue ks (Held value) = λ P u p. (value, u, refl, p)
 sound AValue ks t = tt
 sound MorePaths (Listed ps ∷ ks) t = more_paths ps ks t
 sound MorePaths ks t = junk MorePaths ks t (act MorePaths ks (Some t)) (λ P u. tt)
-sound AnOpen ks (Sign sign.OpenParenthesis) = λ P u p. (u, refl, p)
-sound AnOpen ks t = tt
-sound AClose ks (Sign sign.CloseParenthesis) = λ P u p. (u, refl, p)
-sound AClose ks t = tt
-sound ACloseBracket ks (Sign sign.CloseBracket) = λ P u p. (u, refl, p)
-sound ACloseBracket ks t = tt
-sound AnAnd ks (Sign sign.And) = λ P u p. (u, refl, p)
-sound AnAnd ks t = tt
-sound AComma ks (Sign sign.Comma) = λ P u p. (u, refl, p)
-sound AComma ks t = tt
+sound (ATerm k) ks t = term k ks t
+sound (NamedTerm k name) ks t = named_term k name ks t
+sound (ASum k) ks t = also_sound (ATerm k) (ASum k) ks t (MoreSum k ∷ []) (on_term k ks (Some t)) (sum k ks) (term k ks t)
+sound (MoreSum k) (Termed x ∷ ks) t = more_sum k x ks t
+sound (MoreSum k) ks t = junk (MoreSum k) ks t (act (MoreSum k) ks (Some t)) (λ P u. tt)
+sound (MoreSets k) (Assigned xs ∷ ks) t = more_sets k xs ks t
+sound (MoreSets k) ks t = junk (MoreSets k) ks t (act (MoreSets k) ks (Some t)) (λ P u. tt)
+sound MorePairs (Paired xs ∷ ks) t = more_pairs xs ks t
+sound MorePairs ks t = junk MorePairs ks t (act MorePairs ks (Some t)) (λ P u. tt)
+sound (ASection k) (Sections cs ∷ ks) t = section k cs ks t
+sound (ASection k) ks t = junk (ASection k) ks t (act (ASection k) ks (Some t)) (λ P u. tt)
+sound (MoreSections k) (Sections cs ∷ ks) t = more_sections k cs ks t
+sound (MoreSections k) ks t = junk (MoreSections k) ks t (act (MoreSections k) ks (Some t)) (λ P u. tt)
+sound (ASign s) ks t = a_sign s ks t
 sound ABar ks Barred = λ P u p. (u, refl, p)
 sound ABar ks t = tt
 sound (Do effect) ks t = λ P u p. p
@@ -412,7 +609,17 @@ sound_end (NamedOperand k name) ks = λ P p.
     (operand.Path (path_of (named name)), [], [], a_path (path_of (named name)) (bare_path name [] [] no_step) refl, refl, p)
 sound_end MoreSteps (Steps p ∷ ks) = λ P r. ([], [], [], no_step, refl, subst (λ l. P (Steps l ∷ ks) []) (sym (append-nil p)) r)
 sound_end MoreSteps ks = junk_end MoreSteps ks (act MoreSteps ks None) (λ P. tt)
-sound_end MorePaths (Listed ps ∷ ks) = λ P r. ([], [], [], no_path, refl, subst (λ l. P (Listed l ∷ ks) []) (sym (append-nil ps)) r)
+sound_end MorePaths (Listed ps ∷ ks) = λ P r. ([], [], [], no_more, refl, subst (λ l. P (Listed l ∷ ks) []) (sym (append-nil ps)) r)
 sound_end MorePaths ks = junk_end MorePaths ks (act MorePaths ks None) (λ P. tt)
+sound_end (NamedTerm k name) ks = λ P p.
+    (Located (path_of (named name)), [], [], plain_term k (located (path_of (named name)) (bare_path name [] [] no_step) refl), refl, p)
+sound_end (MoreSum k) (Termed x ∷ ks) = λ P p. (Alone x, [], [], alone refl refl, refl, p)
+sound_end (MoreSum k) ks = junk_end (MoreSum k) ks (act (MoreSum k) ks None) (λ P. tt)
+sound_end (MoreSets k) (Assigned xs ∷ ks) = λ P r. ([], [], [], no_more, refl, subst (λ l. P (Assigned l ∷ ks) []) (sym (append-nil xs)) r)
+sound_end (MoreSets k) ks = junk_end (MoreSets k) ks (act (MoreSets k) ks None) (λ P. tt)
+sound_end MorePairs (Paired xs ∷ ks) = λ P r. ([], [], [], no_more, refl, subst (λ l. P (Paired l ∷ ks) []) (sym (append-nil xs)) r)
+sound_end MorePairs ks = junk_end MorePairs ks (act MorePairs ks None) (λ P. tt)
+sound_end (MoreSections k) (Sections cs ∷ ks) = λ P r. ([], [], [], no_section, refl, subst (λ l. P (Sections l ∷ ks) []) (sym (append-nil cs)) r)
+sound_end (MoreSections k) ks = junk_end (MoreSections k) ks (act (MoreSections k) ks None) (λ P. tt)
 sound_end (Do effect) ks = λ P p. p
 sound_end o ks = tt

@@ -2,7 +2,7 @@
 use Rattle.std.proofs.Common.{arith, ◌≡◌, ◌≤◌, ℕ, zero, suc, true, false, List, [], ◌∷◌, length, Result, Ok, Err, refl, ap, ◌∙◌}
 use Rattle.expr_words.specs.declared.word.Word as code
 use Rattle.expr_words.specs.Words.{Word, Bare, Placed, Held, Sign, meanings}
-use Rattle.expr_words.specs.Machine.{Owed, Kept, Effect, Do, apply, named, reads, Goes, APath, AField, MoreSteps, Steps, Sides, AnOperand, NamedOperand, NamedPart, APart, AConjunction, ACondition, MoreAnd, MoreOr, ARest, AnOpen, AClose, MoreChoices, AComma, AValue, ABar, MakePath, MakeSize, MakeChoice, MakeKindTest, OfPath, OfSides}
+use Rattle.expr_words.specs.Machine.{Owed, Kept, Effect, Do, apply, named, reads, Goes, APath, AField, MoreSteps, Steps, Sides, AnOperand, NamedOperand, NamedPart, ATerm, NamedTerm, ASum, MoreSum, ASection, MoreSections, ASign, APart, AConjunction, ACondition, MoreAnd, MoreOr, ARest, MoreChoices, AValue, ABar, MakePath, MakeTerm, MakeOrElse, MakeAppended, MakeSize, MakeChoice, MakeKindTest, OfPath, OfSides}
 use Rattle.expr_words.specs.Trees.{Presence, Absence, FrontTest, PartTest}
 use Rattle.expr_words.specs.declared.word.Word.TheVariants as shown
 use Rattle.expr_lexer.specs.declared.token.TokenKind.TheVariants as sign
@@ -32,7 +32,7 @@ path_starts (t ∷ ts) os ks = refl
 
 -- behind the choices that are read, and before no comma, there is the closing parenthesis
 pub choices_end : (ts : List Word) (k left : ℕ) (ys : List Operand) (os : List Owed) (ks : List Kept) → has_comma ts ≡ false
-    → reads ts (MoreChoices k left ∷ os) (Sides ys ∷ ks) ≡ reads ts (AClose ∷ Do MakeChoice ∷ os) (Sides ys ∷ ks)
+    → reads ts (MoreChoices k left ∷ os) (Sides ys ∷ ks) ≡ reads ts (ASign sign.CloseParenthesis ∷ Do MakeChoice ∷ os) (Sides ys ∷ ks)
 choices_end [] k zero ys os ks e = refl
 choices_end [] k (suc left) ys os ks e = refl
 choices_end (Sign sign.Comma ∷ ts) k left ys os ks e = cc
@@ -64,49 +64,49 @@ part_operand (t ∷ ts) (suc k) os ks c d = refl
 
 -- size before a parenthesis, where a level is left
 pub size_call : (ts : List Word) (j : ℕ) (name : List ℕ) (os : List Owed) (ks : List Kept) → opens ts ≡ true → function_of name ≡ function.Size
-    → reads ts (NamedOperand (suc j) name ∷ os) ks ≡ reads ts (AnOpen ∷ APath ∷ AClose ∷ Do MakeSize ∷ os) ks
+    → reads ts (NamedOperand (suc j) name ∷ os) ks ≡ reads ts (ASign sign.OpenParenthesis ∷ APath ∷ ASign sign.CloseParenthesis ∷ Do MakeSize ∷ os) ks
 size_call [] j name os ks o f = cc
 size_call (Sign sign.OpenParenthesis ∷ ts) j name os ks o f = rw f
 size_call (t ∷ ts) j name os ks o f = cc
 
 -- size before a parenthesis, as the first of a part, where a level is left
 pub call_size : (ts : List Word) (j : ℕ) (name : List ℕ) (os : List Owed) (ks : List Kept) → opens ts ≡ true → function_of name ≡ function.Size
-    → reads ts (NamedPart (suc j) name ∷ os) ks ≡ reads ts (AnOpen ∷ APath ∷ AClose ∷ Do MakeSize ∷ ARest (suc j) ∷ os) ks
+    → reads ts (NamedPart (suc j) name ∷ os) ks ≡ reads ts (ASign sign.OpenParenthesis ∷ APath ∷ ASign sign.CloseParenthesis ∷ Do MakeSize ∷ ARest (suc j) ∷ os) ks
 call_size [] j name os ks o f = cc
 call_size (Sign sign.OpenParenthesis ∷ ts) j name os ks o f = rw f
 call_size (t ∷ ts) j name os ks o f = cc
 
 -- attribute_exists before a parenthesis, as the first of a part, where a level is left
 pub call_exists : (ts : List Word) (j : ℕ) (name : List ℕ) (os : List Owed) (ks : List Kept) → opens ts ≡ true → function_of name ≡ function.Exists
-    → reads ts (NamedPart (suc j) name ∷ os) ks ≡ reads ts (AnOpen ∷ APath ∷ AClose ∷ Do (OfPath Presence) ∷ os) ks
+    → reads ts (NamedPart (suc j) name ∷ os) ks ≡ reads ts (ASign sign.OpenParenthesis ∷ APath ∷ ASign sign.CloseParenthesis ∷ Do (OfPath Presence) ∷ os) ks
 call_exists [] j name os ks o f = cc
 call_exists (Sign sign.OpenParenthesis ∷ ts) j name os ks o f = rw f
 call_exists (t ∷ ts) j name os ks o f = cc
 
 -- attribute_not_exists before a parenthesis, as the first of a part, where a level is left
 pub call_not_exists : (ts : List Word) (j : ℕ) (name : List ℕ) (os : List Owed) (ks : List Kept) → opens ts ≡ true → function_of name ≡ function.NotExists
-    → reads ts (NamedPart (suc j) name ∷ os) ks ≡ reads ts (AnOpen ∷ APath ∷ AClose ∷ Do (OfPath Absence) ∷ os) ks
+    → reads ts (NamedPart (suc j) name ∷ os) ks ≡ reads ts (ASign sign.OpenParenthesis ∷ APath ∷ ASign sign.CloseParenthesis ∷ Do (OfPath Absence) ∷ os) ks
 call_not_exists [] j name os ks o f = cc
 call_not_exists (Sign sign.OpenParenthesis ∷ ts) j name os ks o f = rw f
 call_not_exists (t ∷ ts) j name os ks o f = cc
 
 -- attribute_type before a parenthesis, as the first of a part, where a level is left
 pub call_has_type : (ts : List Word) (j : ℕ) (name : List ℕ) (os : List Owed) (ks : List Kept) → opens ts ≡ true → function_of name ≡ function.HasType
-    → reads ts (NamedPart (suc j) name ∷ os) ks ≡ reads ts (AnOpen ∷ APath ∷ AComma ∷ AValue ∷ AClose ∷ Do MakeKindTest ∷ os) ks
+    → reads ts (NamedPart (suc j) name ∷ os) ks ≡ reads ts (ASign sign.OpenParenthesis ∷ APath ∷ ASign sign.Comma ∷ AValue ∷ ASign sign.CloseParenthesis ∷ Do MakeKindTest ∷ os) ks
 call_has_type [] j name os ks o f = cc
 call_has_type (Sign sign.OpenParenthesis ∷ ts) j name os ks o f = rw f
 call_has_type (t ∷ ts) j name os ks o f = cc
 
 -- begins_with before a parenthesis, as the first of a part, where a level is left
 pub call_begins_with : (ts : List Word) (j : ℕ) (name : List ℕ) (os : List Owed) (ks : List Kept) → opens ts ≡ true → function_of name ≡ function.BeginsWith
-    → reads ts (NamedPart (suc j) name ∷ os) ks ≡ reads ts (AnOpen ∷ AnOperand j ∷ AComma ∷ AnOperand j ∷ AClose ∷ Do (OfSides FrontTest) ∷ os) ks
+    → reads ts (NamedPart (suc j) name ∷ os) ks ≡ reads ts (ASign sign.OpenParenthesis ∷ AnOperand j ∷ ASign sign.Comma ∷ AnOperand j ∷ ASign sign.CloseParenthesis ∷ Do (OfSides FrontTest) ∷ os) ks
 call_begins_with [] j name os ks o f = cc
 call_begins_with (Sign sign.OpenParenthesis ∷ ts) j name os ks o f = rw f
 call_begins_with (t ∷ ts) j name os ks o f = cc
 
 -- contains before a parenthesis, as the first of a part, where a level is left
 pub call_contains : (ts : List Word) (j : ℕ) (name : List ℕ) (os : List Owed) (ks : List Kept) → opens ts ≡ true → function_of name ≡ function.Contains
-    → reads ts (NamedPart (suc j) name ∷ os) ks ≡ reads ts (AnOpen ∷ AnOperand j ∷ AComma ∷ AnOperand j ∷ AClose ∷ Do (OfSides PartTest) ∷ os) ks
+    → reads ts (NamedPart (suc j) name ∷ os) ks ≡ reads ts (ASign sign.OpenParenthesis ∷ AnOperand j ∷ ASign sign.Comma ∷ AnOperand j ∷ ASign sign.CloseParenthesis ∷ Do (OfSides PartTest) ∷ os) ks
 call_contains [] j name os ks o f = cc
 call_contains (Sign sign.OpenParenthesis ∷ ts) j name os ks o f = rw f
 call_contains (t ∷ ts) j name os ks o f = cc
@@ -175,3 +175,53 @@ pub named_part : (k : ℕ) (name : List ℕ) (ts : List Word) (os : List Owed) (
 named_part k name [] os ks e = refl
 named_part k name (Sign sign.OpenParenthesis ∷ ts) os ks e = cc
 named_part k name (t ∷ ts) os ks e = refl
+
+pub named_term : (k : ℕ) (name : List ℕ) (ts : List Word) (os : List Owed) (ks : List Kept) → opens ts ≡ false
+    → reads ts (NamedTerm k name ∷ os) ks ≡ reads ts (MoreSteps ∷ Do MakeTerm ∷ os) (Steps (named name) ∷ ks)
+named_term k name [] os ks e = refl
+named_term k name (Sign sign.OpenParenthesis ∷ ts) os ks e = cc
+named_term k name (t ∷ ts) os ks e = refl
+
+-- a sum is a term and what stands behind it
+pub sum_starts : (ts : List Word) (k : ℕ) (os : List Owed) (ks : List Kept) → reads ts (ASum k ∷ os) ks ≡ reads ts (ATerm k ∷ MoreSum k ∷ os) ks
+sum_starts [] k os ks = refl
+sum_starts (Bare name ∷ ts) k os ks = refl
+sum_starts (t ∷ ts) k os ks = refl
+
+-- a term that is a path, where no function is called and no value stands
+pub term_path : (ts : List Word) (k : ℕ) (os : List Owed) (ks : List Kept) → calls ts ≡ false → is_held ts ≡ false
+    → reads ts (ATerm k ∷ os) ks ≡ reads ts (APath ∷ Do MakeTerm ∷ os) ks
+term_path [] k os ks c h = refl
+term_path (Bare name ∷ []) k os ks c h = refl
+term_path (Bare name ∷ Sign sign.OpenParenthesis ∷ ts) k os ks c h = cc
+term_path (Bare name ∷ t ∷ ts) k os ks c h = refl
+term_path (Held value ∷ ts) k os ks c h = cc
+term_path (t ∷ ts) k os ks c h = refl
+
+-- where no function is called it makes no difference how many levels are left
+pub plain_term_level : (ts : List Word) (k : ℕ) (os : List Owed) (ks : List Kept) → calls ts ≡ false
+    → reads ts (ATerm k ∷ os) ks ≡ reads ts (ATerm 0 ∷ os) ks
+plain_term_level [] k os ks c = refl
+plain_term_level (Bare name ∷ []) k os ks c = refl
+plain_term_level (Bare name ∷ Sign sign.OpenParenthesis ∷ ts) k os ks c = cc
+plain_term_level (Bare name ∷ t ∷ ts) k os ks c = refl
+plain_term_level (t ∷ ts) k os ks c = refl
+
+-- if_not_exists before a parenthesis, where a level is left
+pub call_if_not_exists : (ts : List Word) (j : ℕ) (name : List ℕ) (os : List Owed) (ks : List Kept) → opens ts ≡ true → function_of name ≡ function.IfNotExists
+    → reads ts (NamedTerm (suc j) name ∷ os) ks
+    ≡ reads ts (ASign sign.OpenParenthesis ∷ APath ∷ ASign sign.Comma ∷ ATerm j ∷ ASign sign.CloseParenthesis ∷ Do MakeOrElse ∷ os) ks
+call_if_not_exists [] j name os ks o f = cc
+call_if_not_exists (Sign sign.OpenParenthesis ∷ ts) j name os ks o f = rw f
+call_if_not_exists (t ∷ ts) j name os ks o f = cc
+
+-- list_append before a parenthesis, where a level is left
+pub call_list_append : (ts : List Word) (j : ℕ) (name : List ℕ) (os : List Owed) (ks : List Kept) → opens ts ≡ true → function_of name ≡ function.ListAppend
+    → reads ts (NamedTerm (suc j) name ∷ os) ks
+    ≡ reads ts (ASign sign.OpenParenthesis ∷ ATerm j ∷ ASign sign.Comma ∷ ATerm j ∷ ASign sign.CloseParenthesis ∷ Do MakeAppended ∷ os) ks
+call_list_append [] j name os ks o f = cc
+call_list_append (Sign sign.OpenParenthesis ∷ ts) j name os ks o f = rw f
+call_list_append (t ∷ ts) j name os ks o f = cc
+
+-- a function before a parenthesis, as a term
+pub ruleset known_term_calls = (call_if_not_exists, call_list_append)

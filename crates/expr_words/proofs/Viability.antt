@@ -5,13 +5,13 @@ use Rattle.expr_lexer.specs.declared.token.TokenKind.TheVariants as sign
 use Rattle.expr_words.specs.declared.tree.Comparison.TheVariants as comparison
 use Rattle.expr_words.specs.declared.tree.Operand.{Operand}
 use Rattle.expr_words.specs.declared.tree.Operand.TheVariants as operand
-use Rattle.expr_words.specs.Trees.{Compared, Choice}
+use Rattle.expr_words.specs.Trees.{Compared, Choice, Located, OfValue, Alone, Removes}
 use Rattle.expr_words.specs.Words.{Word, Bare, Held, Number, Sign, Barred}
-use Rattle.expr_words.specs.Grammar.{written, no_step, IsOperand, a_path, a_value, no_operand, equals, IsFlat, a_comparison, tail_ends, IsPart, no_path}
-use Rattle.expr_words.specs.Machine.{Kept, Whole, Side, Sides, Steps, Place, Listed, Owed, ACondition, AConjunction, APart, MoreOr, MoreAnd, ARest, AnOperand, NamedPart, NamedOperand, MoreChoices, APath, MoreSteps, AField, AnIndex, AValue, MorePaths, AnOpen, AClose, ACloseBracket, AnAnd, AComma, ABar, Do, Action, Take, Pass, Refuse, act, apply, path_of, named, Point, after, next, ended, closing, going, reads}
+use Rattle.expr_words.specs.Grammar.{written, no_step, IsOperand, a_path, a_value, equals, IsFlat, a_comparison, tail_ends, IsPart, no_more, located, valued, IsSum, alone, IsSection, removes, no_section}
+use Rattle.expr_words.specs.Machine.{Kept, Whole, Side, Sides, Steps, Place, Listed, Termed, Summed, Assigned, Paired, Sections, Owed, ACondition, AConjunction, APart, MoreOr, MoreAnd, ARest, AnOperand, NamedPart, NamedOperand, MoreChoices, APath, MoreSteps, AField, AnIndex, AValue, MorePaths, ATerm, NamedTerm, ASum, MoreSum, MoreSets, MorePairs, ASection, MoreSections, ASign, ABar, Do, Action, Take, Pass, Refuse, act, apply, path_of, named, Point, after, next, ended, closing, going, reads}
 use Rattle.expr_words.specs.Faults.{Stops, IsFault}
 use Rattle.expr_words.proofs.Owing.{Then, After, AllAfter, split, closed}
-use Rattle.expr_words.proofs.Sound.{Sound, sound, SoundEnd, sound_end, flat_part, bare_path}
+use Rattle.expr_words.proofs.Sound.{Sound, sound, SoundEnd, sound_end, flat_part, bare_path, plain_term}
 
 -- P is met by some words, whatever is kept
 abbrev pub Reaches : Then → Type 0
@@ -25,6 +25,23 @@ value_part k = flat_part k (a_comparison (Held 0 ∷ []) (Held 0 ∷ []) (Sign s
 compared : (k : ℕ) (front : List Word) (x : Operand) → IsOperand k front x
     → IsFlat k (front ++ Sign sign.Equal ∷ Held 0 ∷ []) (Compared comparison.Equal x (operand.Value 0))
 compared k front x s = a_comparison front (Held 0 ∷ []) (Sign sign.Equal) comparison.Equal x (operand.Value 0) s equals (a_value 0 refl refl) refl refl
+
+-- a sum, and a clause of an update, of few words
+value_sum : (k : ℕ) → IsSum k (Held 0 ∷ []) (Alone (OfValue 0))
+value_sum k =
+    record { front = Held 0 ∷ []; more = []; first = OfValue 0; is_first = plain_term k (valued 0 refl refl); is_end = alone refl refl; spelled = refl }
+
+a_removal : (k : ℕ) → IsSection k (Sign sign.Remove ∷ Bare (codes "a") ∷ []) (Removes (path_of (named (codes "a")) ∷ []))
+a_removal k = removes (Bare (codes "a") ∷ []) (path_of (named (codes "a")) ∷ []) (record {
+  front = Bare (codes "a") ∷ [];
+  more = [];
+  first = path_of (named (codes "a"));
+  others = [];
+  is_first = bare_path (codes "a") [] [] no_step;
+  are_more = no_more;
+  spelled = refl;
+  listed = refl;
+}) refl refl
 
 -- whatever is owed can be spelled
 fill : (o : Owed) (ks : List Kept) (P : Then) → Reaches P → (ts : List Word) × After o ks ts P
@@ -93,7 +110,7 @@ fill (NamedOperand k name) ks P r =
     (n.0, (x, [], n.0, a_path (path_of (named name)) (bare_path name [] [] no_step) refl, refl, n.1))
 fill (MoreChoices k left) (Sides ys ∷ Side x ∷ ks) P r =
     let n = r (Whole (Choice x (ys ++ [])) ∷ ks) in
-    (Sign sign.CloseParenthesis ∷ n.0, ([], Sign sign.CloseParenthesis ∷ [], n.0, closed [] no_operand (omega arith) refl, refl, n.1))
+    (Sign sign.CloseParenthesis ∷ n.0, ([], Sign sign.CloseParenthesis ∷ [], n.0, closed [] no_more (omega arith) refl, refl, n.1))
 fill APath ks P r =
     let n = r (Steps (named (codes "a")) ∷ ks) in
     (Bare (codes "a") ∷ n.0, (named (codes "a"), Bare (codes "a") ∷ [], n.0, bare_path (codes "a") [] [] no_step, refl, n.1))
@@ -103,12 +120,23 @@ fill AField (Steps p ∷ ks) P r =
     (Bare (codes "a") ∷ n.0, (codes "a", Bare (codes "a"), n.0, written, refl, n.1))
 fill AnIndex (Steps p ∷ ks) P r = let n = r (Steps (p ++ step.Index 0 ∷ []) ∷ ks) in (Number 0 ∷ n.0, (0, n.0, refl, n.1))
 fill AValue ks P r = let n = r (Place 0 ∷ ks) in (Held 0 ∷ n.0, (0, n.0, refl, n.1))
-fill MorePaths (Listed ps ∷ ks) P r = let n = r (Listed (ps ++ []) ∷ ks) in (n.0, ([], [], n.0, no_path, refl, n.1))
-fill AnOpen ks P r = let n = r ks in (Sign sign.OpenParenthesis ∷ n.0, (n.0, refl, n.1))
-fill AClose ks P r = let n = r ks in (Sign sign.CloseParenthesis ∷ n.0, (n.0, refl, n.1))
-fill ACloseBracket ks P r = let n = r ks in (Sign sign.CloseBracket ∷ n.0, (n.0, refl, n.1))
-fill AnAnd ks P r = let n = r ks in (Sign sign.And ∷ n.0, (n.0, refl, n.1))
-fill AComma ks P r = let n = r ks in (Sign sign.Comma ∷ n.0, (n.0, refl, n.1))
+fill MorePaths (Listed ps ∷ ks) P r = let n = r (Listed (ps ++ []) ∷ ks) in (n.0, ([], [], n.0, no_more, refl, n.1))
+fill (ATerm k) ks P r =
+    let n = r (Termed (OfValue 0) ∷ ks) in (Held 0 ∷ n.0, (OfValue 0, Held 0 ∷ [], n.0, plain_term k (valued 0 refl refl), refl, n.1))
+fill (NamedTerm k name) ks P r =
+    let t = Located (path_of (named name)) in
+    let n = r (Termed t ∷ ks) in
+    (n.0, (t, [], n.0, plain_term k (located (path_of (named name)) (bare_path name [] [] no_step) refl), refl, n.1))
+fill (ASum k) ks P r = let n = r (Summed (Alone (OfValue 0)) ∷ ks) in (Held 0 ∷ n.0, (Alone (OfValue 0), Held 0 ∷ [], n.0, value_sum k, refl, n.1))
+fill (MoreSum k) (Termed t ∷ ks) P r = let n = r (Summed (Alone t) ∷ ks) in (n.0, (Alone t, [], n.0, alone refl refl, refl, n.1))
+fill (MoreSets k) (Assigned xs ∷ ks) P r = let n = r (Assigned (xs ++ []) ∷ ks) in (n.0, ([], [], n.0, no_more, refl, n.1))
+fill MorePairs (Paired xs ∷ ks) P r = let n = r (Paired (xs ++ []) ∷ ks) in (n.0, ([], [], n.0, no_more, refl, n.1))
+fill (ASection k) (Sections cs ∷ ks) P r =
+    let c = Removes (path_of (named (codes "a")) ∷ []) in
+    let n = r (Sections (cs ++ c ∷ []) ∷ ks) in
+    (Sign sign.Remove ∷ Bare (codes "a") ∷ n.0, (c, Sign sign.Remove ∷ Bare (codes "a") ∷ [], n.0, a_removal k, refl, n.1))
+fill (MoreSections k) (Sections cs ∷ ks) P r = let n = r (Sections (cs ++ []) ∷ ks) in (n.0, ([], [], n.0, no_section, refl, n.1))
+fill (ASign s) ks P r = let n = r ks in (Sign s ∷ n.0, (n.0, refl, n.1))
 fill ABar ks P r = let n = r ks in (Barred ∷ n.0, (n.0, refl, n.1))
 fill (Do effect) ks P r = r (apply effect ks)
 fill o ks P r = ([], tt)

@@ -1,5 +1,5 @@
 -- What stands at the front of words, and what the parser's steps over it answer.
-use Rattle.std.specs.Prelude.{◌≡◌, ℕ, Bool, true, false, List, ◌∷◌, Option, Some, None, Result, Ok, Err}
+use Rattle.std.specs.Prelude.{◌≡◌, ◌<◌, ℕ, length, Bool, true, false, List, ◌∷◌, Option, Some, None, Result, Ok, Err}
 use Rattle.base_types.specs.declared.path.Step.{Step}
 use Rattle.expr_words.specs.declared.stop.Stop.{Stop}
 use Rattle.expr_words.specs.declared.stop.Stop.TheVariants as stop

@@ -1,7 +1,7 @@
 -- The functions by their names, which are written exactly.
 use Rattle.std.specs.Prelude.{ℕ, List, codes, bytes_eq, if◌then◌else◌}
 use Rattle.expr_words.specs.declared.function.Function.{Function}
-use Rattle.expr_words.specs.declared.function.Function.TheVariants.{Size, Exists, NotExists, HasType, BeginsWith, Contains, Unknown}
+use Rattle.expr_words.specs.declared.function.Function.TheVariants.{Size, Exists, NotExists, HasType, BeginsWith, Contains, IfNotExists, ListAppend, Unknown}
 
 abbrev pub function_of : List ℕ → Function
 function_of name =
@@ -11,4 +11,6 @@ function_of name =
     else (if bytes_eq name (codes "attribute_type") then HasType
     else (if bytes_eq name (codes "begins_with") then BeginsWith
     else (if bytes_eq name (codes "contains") then Contains
-    else Unknown)))))
+    else (if bytes_eq name (codes "if_not_exists") then IfNotExists
+    else (if bytes_eq name (codes "list_append") then ListAppend
+    else Unknown)))))))

@@ -1,5 +1,5 @@
--- The grammar of conditions and projections (DynamoDB Developer Guide, "Comparison operator and function reference",
--- "Projection expressions"). Each relation says which words spell which tree; k is the number of levels of parentheses and
+-- The grammar of conditions, projections and updates (DynamoDB Developer Guide, "Comparison operator and function
+-- reference", "Projection expressions", "Update expressions"). Each relation says which words spell which tree; k is the number of levels of parentheses and
 -- NOT that may still be opened.
 use Rattle.std.specs.Prelude.{◌≡◌, ◌≤◌, ◌⊎◌, ℕ, zero, suc, List, [], ◌∷◌, ◌++◌, length, codes}
 use Rattle.base_types.specs.declared.path.DocPath.{DocPath}
@@ -10,7 +10,8 @@ use Rattle.expr_words.specs.declared.tree.Comparison.{Comparison}
 use Rattle.expr_words.specs.declared.tree.Comparison.TheVariants as comparison
 use Rattle.expr_words.specs.declared.tree.Operand.{Operand}
 use Rattle.expr_words.specs.declared.tree.Operand.TheVariants as operand
-use Rattle.expr_words.specs.Trees.{Tree, Disjunction, Conjunction, Negation, Compared, Range, Choice, Presence, Absence, KindTest, FrontTest, PartTest}
+use Rattle.expr_words.specs.Trees.{Tree, Disjunction, Conjunction, Negation, Compared, Range, Choice, Presence, Absence, KindTest, FrontTest, PartTest, TermTree, Located, OfValue, OrElse, Appended, SumTree, Alone, Plus, Minus, SetTree, SectionTree, Sets, Removes, Adds, Deletes}
+use Rattle.expr_words.specs.declared.tree.PathValue.{PathValue}
 use Rattle.expr_words.specs.Words.{Word, Bare, Placed, Held, Number, Sign, Barred}
 
 -- the most choices of an IN, and the most levels of parentheses and NOT
@@ -19,6 +20,22 @@ most_choices = 100
 
 abbrev pub most_levels : ℕ
 most_levels = 128
+
+-- { "," item }
+pub data AreMore {X : Type 0} (P : List Word → X → Type 0) : List Word → List X → Type 0 where
+  no_more : AreMore P [] []
+  one_more : {a ts : List Word} {x : X} {xs : List X} → P a x → AreMore P ts xs → AreMore P (Sign sign.Comma ∷ (a ++ ts)) (x ∷ xs)
+
+-- item { "," item }
+pub record AreListed {X : Type 0} (P : List Word → X → Type 0) (ts : List Word) (xs : List X) : Type 0 where
+  pub front : List Word
+  pub more : List Word
+  pub first : X
+  pub others : List X
+  pub is_first : P front first
+  pub are_more : AreMore P more others
+  pub spelled : ts ≡ front ++ more
+  pub listed : xs ≡ first ∷ others
 
 -- step = name | #placeholder
 pub data IsName : Word → List ℕ → Type 0 where
@@ -61,12 +78,6 @@ pub data IsComparison : Word → Comparison → Type 0 where
   is_more_than : IsComparison (Sign sign.More) comparison.More
   is_at_least : IsComparison (Sign sign.AtLeast) comparison.AtLeast
 
--- { "," operand }
-pub data AreMoreOperands (k : ℕ) : List Word → List Operand → Type 0 where
-  no_operand : AreMoreOperands k [] []
-  an_operand : {a ts : List Word} {x : Operand} {xs : List Operand} → IsOperand k a x → AreMoreOperands k ts xs
-      → AreMoreOperands k (Sign sign.Comma ∷ (a ++ ts)) (x ∷ xs)
-
 -- the functions of one path
 pub data IsPathTest : List ℕ → (DocPath → Tree) → Type 0 where
   exists : IsPathTest (codes "attribute_exists") Presence
@@ -87,7 +98,7 @@ pub data IsFlat (k : ℕ) (ts : List Word) (t : Tree) : Type 0 where
       → ts ≡ a ++ Sign sign.Between ∷ (b ++ Sign sign.And ∷ c) → t ≡ Range x y z → IsFlat k ts t
   -- operand IN "(" operand { "," operand } ")"
   a_choice : (a b more : List Word) (x y : Operand) (ys : List Operand) (j : ℕ) → k ≡ suc j → IsOperand k a x → IsOperand j b y
-      → AreMoreOperands j more ys → length (y ∷ ys) ≤ most_choices
+      → AreMore (IsOperand j) more ys → length (y ∷ ys) ≤ most_choices
       → ts ≡ a ++ Sign sign.In ∷ Sign sign.OpenParenthesis ∷ (b ++ (more ++ Sign sign.CloseParenthesis ∷ []))
       → t ≡ Choice x (y ∷ ys) → IsFlat k ts t
   -- attribute_exists "(" path ")" | attribute_not_exists "(" path ")"
@@ -107,7 +118,7 @@ pub data IsFlat (k : ℕ) (ts : List Word) (t : Tree) : Type 0 where
       → t ≡ Choice x [] → IsFlat k ts t
   -- the most choices, and a comma
   a_barred_choice : (a b more : List Word) (x y : Operand) (ys : List Operand) (j : ℕ) → k ≡ suc j → IsOperand k a x → IsOperand j b y
-      → AreMoreOperands j more ys → length (y ∷ ys) ≡ most_choices
+      → AreMore (IsOperand j) more ys → length (y ∷ ys) ≡ most_choices
       → ts ≡ a ++ Sign sign.In ∷ Sign sign.OpenParenthesis ∷ (b ++ (more ++ Sign sign.Comma ∷ Barred ∷ []))
       → t ≡ Choice x (y ∷ ys) → IsFlat k ts t
 
@@ -155,19 +166,77 @@ IsConjunction k = IsChain (IsPart k) (Sign sign.And) Conjunction
 abbrev pub IsCondition : ℕ → List Word → Tree → Type 0
 IsCondition k = IsJoined (IsPart k)
 
--- { "," path }
-pub data AreMorePaths : List Word → List DocPath → Type 0 where
-  no_path : AreMorePaths [] []
-  another_path : {a ts : List Word} {path : DocPath} {paths : List DocPath} → IsPath a path → AreMorePaths ts paths
-      → AreMorePaths (Sign sign.Comma ∷ (a ++ ts)) (path ∷ paths)
-
 -- paths = path { "," path }
-pub record ArePaths (ts : List Word) (paths : List DocPath) : Type 0 where
+abbrev pub ArePaths : List Word → List DocPath → Type 0
+ArePaths = AreListed IsPath
+
+-- path | :placeholder
+pub data IsPlainTerm (ts : List Word) (t : TermTree) : Type 0 where
+  located : (path : DocPath) → IsPath ts path → t ≡ Located path → IsPlainTerm ts t
+  valued : (value : ℕ) → ts ≡ Held value ∷ [] → t ≡ OfValue value → IsPlainTerm ts t
+
+-- if_not_exists "(" path "," term ")" | list_append "(" term "," term ")"
+pub data IsTermCall (P : List Word → TermTree → Type 0) (ts : List Word) (t : TermTree) : Type 0 where
+  an_or_else : (a b : List Word) (path : DocPath) (other : TermTree) → IsPath a path → P b other
+      → ts ≡ Bare (codes "if_not_exists") ∷ Sign sign.OpenParenthesis ∷ (a ++ Sign sign.Comma ∷ (b ++ Sign sign.CloseParenthesis ∷ []))
+      → t ≡ OrElse path other → IsTermCall P ts t
+  an_append : (a b : List Word) (x y : TermTree) → P a x → P b y
+      → ts ≡ Bare (codes "list_append") ∷ Sign sign.OpenParenthesis ∷ (a ++ Sign sign.Comma ∷ (b ++ Sign sign.CloseParenthesis ∷ []))
+      → t ≡ Appended x y → IsTermCall P ts t
+
+-- term; a function's parenthesis takes a level
+abbrev pub IsTerm : ℕ → List Word → TermTree → Type 0
+IsTerm zero ts t = IsPlainTerm ts t
+IsTerm (suc k) ts t = IsPlainTerm ts t ⊎ IsTermCall (IsTerm k) ts t
+
+-- what stands behind the first term of a sum: nothing, or a sign and a term
+pub data IsSumEnd (k : ℕ) (t : TermTree) (ts : List Word) (s : SumTree) : Type 0 where
+  alone : ts ≡ [] → s ≡ Alone t → IsSumEnd k t ts s
+  plus : (a : List Word) (u : TermTree) → IsTerm k a u → ts ≡ Sign sign.Plus ∷ a → s ≡ Plus t u → IsSumEnd k t ts s
+  minus : (a : List Word) (u : TermTree) → IsTerm k a u → ts ≡ Sign sign.Minus ∷ a → s ≡ Minus t u → IsSumEnd k t ts s
+
+-- sum = term | term "+" term | term "-" term
+pub record IsSum (k : ℕ) (ts : List Word) (s : SumTree) : Type 0 where
   pub front : List Word
   pub more : List Word
-  pub path : DocPath
-  pub others : List DocPath
-  pub is_first : IsPath front path
-  pub are_more : AreMorePaths more others
+  pub first : TermTree
+  pub is_first : IsTerm k front first
+  pub is_end : IsSumEnd k first more s
   pub spelled : ts ≡ front ++ more
-  pub paths_are : paths ≡ path ∷ others
+
+-- path "=" sum
+pub record IsSet (k : ℕ) (ts : List Word) (x : SetTree) : Type 0 where
+  pub front : List Word
+  pub more : List Word
+  pub is_path : IsPath front x.path
+  pub is_sum : IsSum k more x.sum
+  pub spelled : ts ≡ front ++ Sign sign.Equal ∷ more
+
+-- path :placeholder
+pub record IsPair (ts : List Word) (x : PathValue) : Type 0 where
+  pub front : List Word
+  pub is_path : IsPath front x.path
+  pub spelled : ts ≡ front ++ Held x.value ∷ []
+
+-- a clause: its keyword, and what it lists
+pub data IsSection (k : ℕ) (ts : List Word) (c : SectionTree) : Type 0 where
+  sets : (inner : List Word) (xs : List SetTree) → AreListed (IsSet k) inner xs → ts ≡ Sign sign.Set ∷ inner → c ≡ Sets xs → IsSection k ts c
+  removes : (inner : List Word) (xs : List DocPath) → ArePaths inner xs → ts ≡ Sign sign.Remove ∷ inner → c ≡ Removes xs → IsSection k ts c
+  adds : (inner : List Word) (xs : List PathValue) → AreListed IsPair inner xs → ts ≡ Sign sign.Add ∷ inner → c ≡ Adds xs → IsSection k ts c
+  deletes : (inner : List Word) (xs : List PathValue) → AreListed IsPair inner xs → ts ≡ Sign sign.Delete ∷ inner → c ≡ Deletes xs → IsSection k ts c
+
+-- { clause }
+pub data AreSections (k : ℕ) : List Word → List SectionTree → Type 0 where
+  no_section : AreSections k [] []
+  a_section : {a ts : List Word} {c : SectionTree} {cs : List SectionTree} → IsSection k a c → AreSections k ts cs → AreSections k (a ++ ts) (c ∷ cs)
+
+-- update = clause { clause }
+pub record IsUpdate (k : ℕ) (ts : List Word) (cs : List SectionTree) : Type 0 where
+  pub front : List Word
+  pub more : List Word
+  pub first : SectionTree
+  pub others : List SectionTree
+  pub is_first : IsSection k front first
+  pub are_more : AreSections k more others
+  pub spelled : ts ≡ front ++ more
+  pub listed : cs ≡ first ∷ others

@@ -13,7 +13,9 @@ use Rattle.expr_words.specs.declared.function.Function.{Function}
 use Rattle.expr_words.specs.declared.function.Function.TheVariants as function
 use Rattle.expr_words.specs.declared.stop.Stop.{Stop}
 use Rattle.expr_words.specs.declared.stop.Stop.TheVariants as stop
-use Rattle.expr_words.specs.Trees.{Tree, Disjunction, Conjunction, Negation, Compared, Range, Choice, Presence, Absence, KindTest, FrontTest, PartTest}
+use Rattle.expr_words.specs.Trees.{Tree, Disjunction, Conjunction, Negation, Compared, Range, Choice, Presence, Absence, KindTest, FrontTest, PartTest, TermTree, Located, OfValue, OrElse, Appended, SumTree, Alone, Plus, Minus, SetTree, SectionTree, Sets, Removes, Adds, Deletes}
+use Rattle.expr_words.specs.declared.tree.PathValue.{PathValue}
+use Rattle.expr_lexer.specs.declared.token.TokenKind.{TokenKind}
 use Rattle.expr_words.specs.Words.{Word, Bare, Placed, Held, Number, Sign, Barred}
 use Rattle.expr_words.specs.Functions.{function_of}
 
@@ -25,6 +27,11 @@ pub data Kept : Type 0 where
   Steps : List Step → Kept
   Place : ℕ → Kept
   Listed : List DocPath → Kept
+  Termed : TermTree → Kept
+  Summed : SumTree → Kept
+  Assigned : List SetTree → Kept
+  Paired : List PathValue → Kept
+  Sections : List SectionTree → Kept
 
 -- what is made of the latest that are kept
 pub data Effect : Type 0 where
@@ -37,6 +44,12 @@ pub data Effect : Type 0 where
   FirstChoice NextChoice MakeChoice : Effect
   MakeKindTest : Effect
   FirstPath NextPath : Effect
+  MakeTerm MakeOrElse MakeAppended : Effect
+  OfTerms : (TermTree → TermTree → SumTree) → Effect
+  NextSet NextPair : Effect
+  -- nothing of an update is read yet; a clause more is
+  NoSections EndSets EndRemoves : Effect
+  EndPairs : (List PathValue → SectionTree) → Effect
 
 -- what has to come; where a number k stands first, it is the levels that are left
 pub data Owed : Type 0 where
@@ -49,7 +62,13 @@ pub data Owed : Type 0 where
   -- further choices of an IN, at most so many
   MoreChoices : ℕ → ℕ → Owed
   APath MoreSteps AField AnIndex AValue MorePaths : Owed
-  AnOpen AClose ACloseBracket AnAnd AComma ABar : Owed
+  ATerm ASum MoreSum MoreSets ASection MoreSections : ℕ → Owed
+  -- the rest of a term that begins with this bare name
+  NamedTerm : ℕ → List ℕ → Owed
+  MorePairs : Owed
+  -- this sign, and nothing else; what no text has
+  ASign : TokenKind → Owed
+  ABar : Owed
   Do : Effect → Owed
 
 abbrev pub path_of : List Step → DocPath
@@ -96,6 +115,55 @@ abbrev pub next_path : List Kept → List Kept
 next_path (Steps p ∷ Listed paths ∷ ks) = Listed (paths ++ path_of p ∷ []) ∷ ks
 next_path ks = ks
 
+abbrev pub else_term : List Kept → List Kept
+else_term (Termed t ∷ Steps p ∷ ks) = Termed (OrElse (path_of p) t) ∷ ks
+else_term ks = ks
+
+abbrev pub append_terms : List Kept → List Kept
+append_terms (Termed back ∷ Termed front ∷ ks) = Termed (Appended front back) ∷ ks
+append_terms ks = ks
+
+-- a term by itself is a sum
+abbrev pub sole_term : List Kept → List Kept
+sole_term (Termed t ∷ ks) = Summed (Alone t) ∷ ks
+sole_term ks = ks
+
+abbrev pub of_terms : (TermTree → TermTree → SumTree) → List Kept → List Kept
+of_terms make (Termed u ∷ Termed t ∷ ks) = Summed (make t u) ∷ ks
+of_terms make ks = ks
+
+-- the assignment of a sum to a path, and a path with a value
+abbrev pub set_to : List Step → SumTree → SetTree
+set_to p s = record { path = path_of p; sum = s }
+
+abbrev pub pair_of : List Step → ℕ → PathValue
+pair_of p value = record { path = path_of p; value = value }
+
+abbrev pub next_set : List Kept → List Kept
+next_set (Summed s ∷ Steps p ∷ Assigned xs ∷ ks) = Assigned (xs ++ set_to p s ∷ []) ∷ ks
+next_set ks = ks
+
+abbrev pub next_pair : List Kept → List Kept
+next_pair (Place value ∷ Steps p ∷ Paired xs ∷ ks) = Paired (xs ++ pair_of p value ∷ []) ∷ ks
+next_pair ks = ks
+
+-- a clause more
+abbrev pub add_section : SectionTree → List Kept → List Kept
+add_section c (Sections cs ∷ ks) = Sections (cs ++ c ∷ []) ∷ ks
+add_section c ks = ks
+
+abbrev pub end_sets : List Kept → List Kept
+end_sets (Assigned xs ∷ ks) = add_section (Sets xs) ks
+end_sets ks = ks
+
+abbrev pub end_removes : List Kept → List Kept
+end_removes (Listed xs ∷ ks) = add_section (Removes xs) ks
+end_removes ks = ks
+
+abbrev pub end_pairs : (List PathValue → SectionTree) → List Kept → List Kept
+end_pairs make (Paired xs ∷ ks) = add_section (make xs) ks
+end_pairs make ks = ks
+
 abbrev pub apply : Effect → List Kept → List Kept
 apply (Joins join) = joined join
 apply Negates = negated
@@ -110,6 +178,16 @@ apply MakeChoice = choice
 apply MakeKindTest = kind_test
 apply FirstPath = of_path (λ path. Listed (path ∷ []))
 apply NextPath = next_path
+apply MakeTerm = of_path (λ path. Termed (Located path))
+apply MakeOrElse = else_term
+apply MakeAppended = append_terms
+apply (OfTerms make) = of_terms make
+apply NextSet = next_set
+apply NextPair = next_pair
+apply NoSections = λ ks. Sections [] ∷ ks
+apply EndSets = end_sets
+apply EndRemoves = end_removes
+apply (EndPairs make) = end_pairs make
 
 -- a step more of the latest path
 abbrev pub add_step : Step → List Kept → List Kept
@@ -141,26 +219,26 @@ on_rest k ks (Some (Sign sign.Less)) = Take (AnOperand k ∷ Do (OfSides (Compar
 on_rest k ks (Some (Sign sign.AtMost)) = Take (AnOperand k ∷ Do (OfSides (Compared comparison.AtMost)) ∷ []) ks
 on_rest k ks (Some (Sign sign.More)) = Take (AnOperand k ∷ Do (OfSides (Compared comparison.More)) ∷ []) ks
 on_rest k ks (Some (Sign sign.AtLeast)) = Take (AnOperand k ∷ Do (OfSides (Compared comparison.AtLeast)) ∷ []) ks
-on_rest k ks (Some (Sign sign.Between)) = Take (AnOperand k ∷ AnAnd ∷ AnOperand k ∷ Do MakeRange ∷ []) ks
-on_rest (suc k) ks (Some (Sign sign.In)) = Take (AnOpen ∷ AnOperand k ∷ Do FirstChoice ∷ MoreChoices k 99 ∷ []) ks
+on_rest k ks (Some (Sign sign.Between)) = Take (AnOperand k ∷ ASign sign.And ∷ AnOperand k ∷ Do MakeRange ∷ []) ks
+on_rest (suc k) ks (Some (Sign sign.In)) = Take (ASign sign.OpenParenthesis ∷ AnOperand k ∷ Do FirstChoice ∷ MoreChoices k 99 ∷ []) ks
 on_rest zero ks (Some (Sign sign.In)) = Take (ABar ∷ Do MakeChoice ∷ []) (Sides [] ∷ ks)
 on_rest k ks o = Refuse
 
 -- the parenthesis of a function, as the first of a part
 abbrev pub on_call : Function → ℕ → List Kept → Action
-on_call function.Size (suc k) ks = Take (APath ∷ AClose ∷ Do MakeSize ∷ ARest (suc k) ∷ []) ks
-on_call function.Exists (suc k) ks = Take (APath ∷ AClose ∷ Do (OfPath Presence) ∷ []) ks
-on_call function.NotExists (suc k) ks = Take (APath ∷ AClose ∷ Do (OfPath Absence) ∷ []) ks
-on_call function.HasType (suc k) ks = Take (APath ∷ AComma ∷ AValue ∷ AClose ∷ Do MakeKindTest ∷ []) ks
-on_call function.BeginsWith (suc k) ks = Take (AnOperand k ∷ AComma ∷ AnOperand k ∷ AClose ∷ Do (OfSides FrontTest) ∷ []) ks
-on_call function.Contains (suc k) ks = Take (AnOperand k ∷ AComma ∷ AnOperand k ∷ AClose ∷ Do (OfSides PartTest) ∷ []) ks
+on_call function.Size (suc k) ks = Take (APath ∷ ASign sign.CloseParenthesis ∷ Do MakeSize ∷ ARest (suc k) ∷ []) ks
+on_call function.Exists (suc k) ks = Take (APath ∷ ASign sign.CloseParenthesis ∷ Do (OfPath Presence) ∷ []) ks
+on_call function.NotExists (suc k) ks = Take (APath ∷ ASign sign.CloseParenthesis ∷ Do (OfPath Absence) ∷ []) ks
+on_call function.HasType (suc k) ks = Take (APath ∷ ASign sign.Comma ∷ AValue ∷ ASign sign.CloseParenthesis ∷ Do MakeKindTest ∷ []) ks
+on_call function.BeginsWith (suc k) ks = Take (AnOperand k ∷ ASign sign.Comma ∷ AnOperand k ∷ ASign sign.CloseParenthesis ∷ Do (OfSides FrontTest) ∷ []) ks
+on_call function.Contains (suc k) ks = Take (AnOperand k ∷ ASign sign.Comma ∷ AnOperand k ∷ ASign sign.CloseParenthesis ∷ Do (OfSides PartTest) ∷ []) ks
 on_call f k ks = Refuse
 
 abbrev pub on_named_part : ℕ → List ℕ → List Kept → Option Word → Action
 on_named_part k name ks (Some (Sign sign.OpenParenthesis)) = on_call (function_of name) k ks
 on_named_part k name ks (Some (Sign sign.Dot)) = Take (AField ∷ MoreSteps ∷ Do MakePath ∷ ARest k ∷ []) (Steps (named name) ∷ ks)
 on_named_part k name ks (Some (Sign sign.OpenBracket)) =
-    Take (AnIndex ∷ ACloseBracket ∷ MoreSteps ∷ Do MakePath ∷ ARest k ∷ []) (Steps (named name) ∷ ks)
+    Take (AnIndex ∷ ASign sign.CloseBracket ∷ MoreSteps ∷ Do MakePath ∷ ARest k ∷ []) (Steps (named name) ∷ ks)
 on_named_part k name ks o = on_rest k (Side (operand.Path (path_of (named name))) ∷ ks) o
 
 abbrev pub on_part : ℕ → List Kept → Option Word → Action
@@ -168,7 +246,7 @@ on_part k ks (Some (Bare name)) = Take (NamedPart k name ∷ []) ks
 on_part k ks (Some (Placed name)) = Take (MoreSteps ∷ Do MakePath ∷ ARest k ∷ []) (Steps (named name) ∷ ks)
 on_part k ks (Some (Held value)) = Take (ARest k ∷ []) (Side (operand.Value value) ∷ ks)
 on_part (suc k) ks (Some (Sign sign.Not)) = Take (APart k ∷ Do Negates ∷ []) ks
-on_part (suc k) ks (Some (Sign sign.OpenParenthesis)) = Take (ACondition k ∷ AClose ∷ []) ks
+on_part (suc k) ks (Some (Sign sign.OpenParenthesis)) = Take (ACondition k ∷ ASign sign.CloseParenthesis ∷ []) ks
 on_part k ks o = Refuse
 
 abbrev pub on_more_and : ℕ → List Kept → Option Word → Action
@@ -181,14 +259,14 @@ on_more_or k ks o = Pass ks
 
 -- the parenthesis of a function within an operand: size alone
 abbrev pub on_operand_call : Function → ℕ → List Kept → Action
-on_operand_call function.Size (suc k) ks = Take (APath ∷ AClose ∷ Do MakeSize ∷ []) ks
+on_operand_call function.Size (suc k) ks = Take (APath ∷ ASign sign.CloseParenthesis ∷ Do MakeSize ∷ []) ks
 on_operand_call f k ks = Refuse
 
 abbrev pub on_named_operand : ℕ → List ℕ → List Kept → Option Word → Action
 on_named_operand k name ks (Some (Sign sign.OpenParenthesis)) = on_operand_call (function_of name) k ks
 on_named_operand k name ks (Some (Sign sign.Dot)) = Take (AField ∷ MoreSteps ∷ Do MakePath ∷ []) (Steps (named name) ∷ ks)
 on_named_operand k name ks (Some (Sign sign.OpenBracket)) =
-    Take (AnIndex ∷ ACloseBracket ∷ MoreSteps ∷ Do MakePath ∷ []) (Steps (named name) ∷ ks)
+    Take (AnIndex ∷ ASign sign.CloseBracket ∷ MoreSteps ∷ Do MakePath ∷ []) (Steps (named name) ∷ ks)
 on_named_operand k name ks o = Pass (Side (operand.Path (path_of (named name))) ∷ ks)
 
 abbrev pub on_operand : ℕ → List Kept → Option Word → Action
@@ -214,7 +292,7 @@ on_path ks o = Refuse
 
 abbrev pub on_steps : List Kept → Option Word → Action
 on_steps ks (Some (Sign sign.Dot)) = Take (AField ∷ MoreSteps ∷ []) ks
-on_steps ks (Some (Sign sign.OpenBracket)) = Take (AnIndex ∷ ACloseBracket ∷ MoreSteps ∷ []) ks
+on_steps ks (Some (Sign sign.OpenBracket)) = Take (AnIndex ∷ ASign sign.CloseBracket ∷ MoreSteps ∷ []) ks
 on_steps ks o = Pass ks
 
 abbrev pub on_field : List Kept → Option Word → Action
@@ -234,25 +312,80 @@ abbrev pub on_more_paths : List Kept → Option Word → Action
 on_more_paths ks (Some (Sign sign.Comma)) = Take (APath ∷ Do NextPath ∷ MorePaths ∷ []) ks
 on_more_paths ks o = Pass ks
 
-abbrev pub on_open : List Kept → Option Word → Action
-on_open ks (Some (Sign sign.OpenParenthesis)) = Take [] ks
-on_open ks o = Refuse
+-- the parenthesis of a function within a term
+abbrev pub on_term_call : Function → ℕ → List Kept → Action
+on_term_call function.IfNotExists (suc k) ks =
+    Take (APath ∷ ASign sign.Comma ∷ ATerm k ∷ ASign sign.CloseParenthesis ∷ Do MakeOrElse ∷ []) ks
+on_term_call function.ListAppend (suc k) ks =
+    Take (ATerm k ∷ ASign sign.Comma ∷ ATerm k ∷ ASign sign.CloseParenthesis ∷ Do MakeAppended ∷ []) ks
+on_term_call f k ks = Refuse
 
-abbrev pub on_close : List Kept → Option Word → Action
-on_close ks (Some (Sign sign.CloseParenthesis)) = Take [] ks
-on_close ks o = Refuse
+abbrev pub on_named_term : ℕ → List ℕ → List Kept → Option Word → Action
+on_named_term k name ks (Some (Sign sign.OpenParenthesis)) = on_term_call (function_of name) k ks
+on_named_term k name ks (Some (Sign sign.Dot)) = Take (AField ∷ MoreSteps ∷ Do MakeTerm ∷ []) (Steps (named name) ∷ ks)
+on_named_term k name ks (Some (Sign sign.OpenBracket)) =
+    Take (AnIndex ∷ ASign sign.CloseBracket ∷ MoreSteps ∷ Do MakeTerm ∷ []) (Steps (named name) ∷ ks)
+on_named_term k name ks o = Pass (Termed (Located (path_of (named name))) ∷ ks)
 
-abbrev pub on_close_bracket : List Kept → Option Word → Action
-on_close_bracket ks (Some (Sign sign.CloseBracket)) = Take [] ks
-on_close_bracket ks o = Refuse
+abbrev pub on_term : ℕ → List Kept → Option Word → Action
+on_term k ks (Some (Bare name)) = Take (NamedTerm k name ∷ []) ks
+on_term k ks (Some (Placed name)) = Take (MoreSteps ∷ Do MakeTerm ∷ []) (Steps (named name) ∷ ks)
+on_term k ks (Some (Held value)) = Take [] (Termed (OfValue value) ∷ ks)
+on_term k ks o = Refuse
 
-abbrev pub on_and : List Kept → Option Word → Action
-on_and ks (Some (Sign sign.And)) = Take [] ks
-on_and ks o = Refuse
+abbrev pub on_more_sum : ℕ → List Kept → Option Word → Action
+on_more_sum k ks (Some (Sign sign.Plus)) = Take (ATerm k ∷ Do (OfTerms Plus) ∷ []) ks
+on_more_sum k ks (Some (Sign sign.Minus)) = Take (ATerm k ∷ Do (OfTerms Minus) ∷ []) ks
+on_more_sum k ks o = Pass (sole_term ks)
 
-abbrev pub on_comma : List Kept → Option Word → Action
-on_comma ks (Some (Sign sign.Comma)) = Take [] ks
-on_comma ks o = Refuse
+-- an assignment, and a path with a value, with what may follow it
+abbrev pub a_set : ℕ → List Owed
+a_set k = APath ∷ ASign sign.Equal ∷ ASum k ∷ Do NextSet ∷ MoreSets k ∷ []
+
+abbrev pub a_pair : List Owed
+a_pair = APath ∷ AValue ∷ Do NextPair ∷ MorePairs ∷ []
+
+abbrev pub on_more_sets : ℕ → List Kept → Option Word → Action
+on_more_sets k ks (Some (Sign sign.Comma)) = Take (a_set k) ks
+on_more_sets k ks o = Pass ks
+
+abbrev pub on_more_pairs : List Kept → Option Word → Action
+on_more_pairs ks (Some (Sign sign.Comma)) = Take a_pair ks
+on_more_pairs ks o = Pass ks
+
+-- all of an update
+abbrev pub an_update : ℕ → List Owed
+an_update k = Do NoSections ∷ ASection k ∷ MoreSections k ∷ []
+
+-- a clause of an update, by its keyword
+abbrev pub on_section : ℕ → List Kept → Option Word → Action
+on_section k ks (Some (Sign sign.Set)) = Take (a_set k ++ Do EndSets ∷ []) (Assigned [] ∷ ks)
+on_section k ks (Some (Sign sign.Remove)) = Take (APath ∷ Do FirstPath ∷ MorePaths ∷ Do EndRemoves ∷ []) ks
+on_section k ks (Some (Sign sign.Add)) = Take (a_pair ++ Do (EndPairs Adds) ∷ []) (Paired [] ∷ ks)
+on_section k ks (Some (Sign sign.Delete)) = Take (a_pair ++ Do (EndPairs Deletes) ∷ []) (Paired [] ∷ ks)
+on_section k ks o = Refuse
+
+-- what may do without the word at which an action refuses
+abbrev pub or_pass : List Kept → Action → Action
+or_pass ks Refuse = Pass ks
+or_pass ks a = a
+
+abbrev pub on_more_sections : ℕ → List Kept → Option Word → Action
+on_more_sections k ks o = or_pass ks (also (MoreSections k ∷ []) (on_section k ks o))
+
+-- the signs that may be owed by themselves, where the word is that sign
+abbrev pub on_same : TokenKind → TokenKind → List Kept → Action
+on_same sign.OpenParenthesis sign.OpenParenthesis ks = Take [] ks
+on_same sign.CloseParenthesis sign.CloseParenthesis ks = Take [] ks
+on_same sign.CloseBracket sign.CloseBracket ks = Take [] ks
+on_same sign.And sign.And ks = Take [] ks
+on_same sign.Comma sign.Comma ks = Take [] ks
+on_same sign.Equal sign.Equal ks = Take [] ks
+on_same s t ks = Refuse
+
+abbrev pub on_sign : TokenKind → List Kept → Option Word → Action
+on_sign s ks (Some (Sign t)) = on_same s t ks
+on_sign s ks o = Refuse
 
 abbrev pub on_bar : List Kept → Option Word → Action
 on_bar ks (Some Barred) = Take [] ks
@@ -275,11 +408,15 @@ act AField = on_field
 act AnIndex = on_index
 act AValue = on_value
 act MorePaths = on_more_paths
-act AnOpen = on_open
-act AClose = on_close
-act ACloseBracket = on_close_bracket
-act AnAnd = on_and
-act AComma = on_comma
+act (ATerm k) = on_term k
+act (NamedTerm k name) = on_named_term k name
+act (ASum k) = λ ks o. also (MoreSum k ∷ []) (on_term k ks o)
+act (MoreSum k) = on_more_sum k
+act (MoreSets k) = on_more_sets k
+act MorePairs = on_more_pairs
+act (ASection k) = on_section k
+act (MoreSections k) = on_more_sections k
+act (ASign s) = on_sign s
 act ABar = on_bar
 act (Do effect) = λ ks o. Pass (apply effect ks)
 

@@ -1,5 +1,5 @@
 -- Which placeholders were used.
-use Rattle.std.specs.Prelude.{◌≡◌, ◌++◌, ℕ, Bool, false, not, replicate, List, length, Option, None, slice_get, position, option_to_list, [], ◌∷◌, option_map, nat_eq, ◌||◌}
+use Rattle.std.specs.Prelude.{◌≡◌, ◌++◌, ℕ, Bool, true, false, not, replicate, List, length, Option, Some, None, slice_get, position, option_to_list, [], ◌∷◌, option_map, nat_eq, ◌||◌}
 use Rattle.std.specs.List.{list_any}
 use Rattle.expr_lexer.specs.declared.token.Token.{Token}
 use Rattle.expr_lexer.specs.declared.token.TokenKind.{TokenKind}
@@ -41,6 +41,14 @@ values_used given text (token ∷ tokens) = option_to_list (value_used given tok
 -- each mark is what it was, and is set where its place is among these
 abbrev pub Marks : List ℕ → List Bool → List Bool → Type 0
 Marks places old new = (k : ℕ) → slice_get new k ≡ option_map (λ was. was || list_any (nat_eq k) places) (slice_get old k)
+
+-- what was marked stays so
+abbrev pub Stays : List Bool → List Bool → Type 0
+Stays old new = (k : ℕ) → slice_get old k ≡ Some true → slice_get new k ≡ Some true
+
+pub record KeepsMarks (old new : Used) : Type 0 where
+  pub names : Stays old.names.items new.names.items
+  pub values : Stays old.values.items new.values.items
 
 -- the placeholders among these tokens are marked besides those that were
 pub record MarksAll (given : Given) (text : List ℕ) (tokens : List Token) (old new : Used) : Type 0 where

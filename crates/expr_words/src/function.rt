@@ -12,6 +12,8 @@ pub enum Function {
     HasType,
     BeginsWith,
     Contains,
+    IfNotExists,
+    ListAppend,
     Unknown,
 }
 
@@ -26,6 +28,8 @@ pub fn function_of(name: &str) -> Function
         "attribute_type" => Function::HasType,
         "begins_with" => Function::BeginsWith,
         "contains" => Function::Contains,
+        "if_not_exists" => Function::IfNotExists,
+        "list_append" => Function::ListAppend,
         _ => Function::Unknown,
     }
 }

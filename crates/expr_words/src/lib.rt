@@ -23,7 +23,9 @@ pub use given::{Given, NamePair, Used};
 pub use meaning::{Missing, Reading, words};
 pub use parse_end::{Clause, ParseEnd};
 pub use path::{document_path, path_list};
-pub use sign::{and, close_bracket, close_parenthesis, comma, open_parenthesis, stuck};
+pub use sign::{and, close_bracket, close_parenthesis, comma, equal, open_parenthesis, stuck};
 pub use stop::Stop;
-pub use tree::{Comparison, Condition, Operand, Paths};
+pub use tree::{
+    Comparison, Condition, Operand, PathValue, Paths, Section, SetTo, Sum, Term,
+};
 pub use word::Word;

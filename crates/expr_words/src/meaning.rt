@@ -8,7 +8,7 @@ ghost use Rattle.expr_lexer.specs.Spelling.{IsIndex, Spells, IsSpelled};
 ghost use Rattle.expr_words.specs.Given.{name_place, value_place};
 ghost use Rattle.expr_words.specs.Ascending.{AreAscending};
 ghost use Rattle.expr_words.specs.Words.{meant, meanings, meaning, missing, words, undefined, fault_of};
-ghost use Rattle.expr_words.specs.Marks.{IsMadeFor, Marks, name_used, value_used, MarksAll};
+ghost use Rattle.expr_words.specs.Marks.{IsMadeFor, Marks, KeepsMarks, name_used, value_used, MarksAll};
 
 use crate::given::{Ascending, Given, Used};
 use crate::word::Word;
@@ -128,6 +128,7 @@ fn meaning<'a>(
 }
 
 /// The words of the tokens of a text. The placeholders that are given count as used.
+#[tactic(auto, using(crate::proofs::Resolve::mark_laws))]
 pub fn words<'a>(
     alloc: Global,
     text: &'a str,
@@ -144,6 +145,7 @@ pub fn words<'a>(
     ensures undefined { IfOk result
         (λ r. option_map fault_of r.undefined ≡ undefined given.now text.now tokens.now) }
     ensures marks { OnOk result (MarksAll given.now text.now tokens.now used.old used.new) }
+    ensures keeps { KeepsMarks used.old used.new }
     ensures made_for { IsMadeFor given.now used.new }
 {
     let ascending = given.ascending();

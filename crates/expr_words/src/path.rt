@@ -6,7 +6,8 @@ ghost use Rattle.base_types.specs.declared.path.Step.{Step};
 ghost use Rattle.expr_words.specs.Words.{meanings};
 ghost use Rattle.expr_words.specs.Fronts.{StepsOn};
 ghost use Rattle.expr_words.specs.Parses.{Parses, Extends};
-ghost use Rattle.expr_words.specs.Machine.{Steps, Listed, APath, AField, AnIndex, ACloseBracket, MorePaths, Do, FirstPath, NextPath};
+ghost use Rattle.expr_lexer.specs.declared.token.TokenKind.TheVariants as sign;
+ghost use Rattle.expr_words.specs.Machine.{Steps, Listed, APath, AField, AnIndex, ASign, MorePaths, Do, FirstPath, NextPath};
 
 use crate::sign::{close_bracket, stuck};
 use crate::stop::Stop;
@@ -58,7 +59,7 @@ fn index<'t, 'a>(steps: &mut Seq<Step>, words: &'t [Word<'a>]) -> Result<&'t [Wo
 
 /// Adds the step behind an opening bracket.
 fn element<'t, 'a>(steps: &mut Seq<Step>, words: &'t [Word<'a>]) -> Result<&'t [Word<'a>], Stop>
-    ensures goes { Extends (AnIndex ∷ ACloseBracket ∷ [])
+    ensures goes { Extends (AnIndex ∷ ASign sign.CloseBracket ∷ [])
         (Steps steps.old) (Steps steps.new) words.now result }
     ensures shorter { IfOk result (λ x. length x.now < length words.now) }
 {
@@ -120,6 +121,7 @@ pub fn path_list<'t, 'a>(
     words: &'t [Word<'a>],
 ) -> Result<(Seq<DocPath>, &'t [Word<'a>]), Stop>
     ensures goes { Parses Listed (APath ∷ Do FirstPath ∷ MorePaths ∷ []) [] words.now result }
+    ensures shorter { IfOk result (λ x. length x.1.now < length words.now) }
 {
     let (first, after) = document_path(alloc, words)?;
     let mut paths = Seq::new(alloc);

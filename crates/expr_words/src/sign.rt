@@ -3,7 +3,8 @@
 ghost use Rattle.std.specs.Prelude.{◌≡◌, ◌<◌, length, IfOk};
 ghost use Rattle.expr_words.specs.Words.{meanings};
 ghost use Rattle.expr_words.specs.Parses.{Skips};
-ghost use Rattle.expr_words.specs.Machine.{AnOpen, AClose, ACloseBracket, AnAnd, AComma};
+ghost use Rattle.expr_lexer.specs.declared.token.TokenKind.TheVariants as sign;
+ghost use Rattle.expr_words.specs.Machine.{ASign};
 
 use crate::stop::Stop;
 use crate::word::Word;
@@ -19,7 +20,7 @@ pub fn stuck<'a>(words: &[Word<'a>]) -> Stop
 
 /// Behind an opening parenthesis.
 pub fn open_parenthesis<'t, 'a>(words: &'t [Word<'a>]) -> Result<&'t [Word<'a>], Stop>
-    ensures goes { Skips AnOpen words.now result }
+    ensures goes { Skips (ASign sign.OpenParenthesis) words.now result }
     ensures shorter { IfOk result (λ x. length x.now < length words.now) }
 {
     match words {
@@ -30,7 +31,7 @@ pub fn open_parenthesis<'t, 'a>(words: &'t [Word<'a>]) -> Result<&'t [Word<'a>],
 
 /// Behind a closing parenthesis.
 pub fn close_parenthesis<'t, 'a>(words: &'t [Word<'a>]) -> Result<&'t [Word<'a>], Stop>
-    ensures goes { Skips AClose words.now result }
+    ensures goes { Skips (ASign sign.CloseParenthesis) words.now result }
     ensures shorter { IfOk result (λ x. length x.now < length words.now) }
 {
     match words {
@@ -41,7 +42,7 @@ pub fn close_parenthesis<'t, 'a>(words: &'t [Word<'a>]) -> Result<&'t [Word<'a>]
 
 /// Behind a closing bracket.
 pub fn close_bracket<'t, 'a>(words: &'t [Word<'a>]) -> Result<&'t [Word<'a>], Stop>
-    ensures goes { Skips ACloseBracket words.now result }
+    ensures goes { Skips (ASign sign.CloseBracket) words.now result }
     ensures shorter { IfOk result (λ x. length x.now < length words.now) }
 {
     match words {
@@ -52,7 +53,7 @@ pub fn close_bracket<'t, 'a>(words: &'t [Word<'a>]) -> Result<&'t [Word<'a>], St
 
 /// Behind a comma.
 pub fn comma<'t, 'a>(words: &'t [Word<'a>]) -> Result<&'t [Word<'a>], Stop>
-    ensures goes { Skips AComma words.now result }
+    ensures goes { Skips (ASign sign.Comma) words.now result }
     ensures shorter { IfOk result (λ x. length x.now < length words.now) }
 {
     match words {
@@ -63,11 +64,22 @@ pub fn comma<'t, 'a>(words: &'t [Word<'a>]) -> Result<&'t [Word<'a>], Stop>
 
 /// Behind an AND.
 pub fn and<'t, 'a>(words: &'t [Word<'a>]) -> Result<&'t [Word<'a>], Stop>
-    ensures goes { Skips AnAnd words.now result }
+    ensures goes { Skips (ASign sign.And) words.now result }
     ensures shorter { IfOk result (λ x. length x.now < length words.now) }
 {
     match words {
         [Word::Sign(TokenKind::And), rest @ ..] => Ok(rest),
+        _ => Err(stuck(words)),
+    }
+}
+
+/// Behind an equals sign.
+pub fn equal<'t, 'a>(words: &'t [Word<'a>]) -> Result<&'t [Word<'a>], Stop>
+    ensures goes { Skips (ASign sign.Equal) words.now result }
+    ensures shorter { IfOk result (λ x. length x.now < length words.now) }
+{
+    match words {
+        [Word::Sign(TokenKind::Equal), rest @ ..] => Ok(rest),
         _ => Err(stuck(words)),
     }
 }

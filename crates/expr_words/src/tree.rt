@@ -1,5 +1,5 @@
 //! The trees that expressions stand for (DynamoDB Developer Guide, "Comparison operator and
-//! function reference" and "Projection expressions").
+//! function reference", "Projection expressions" and "Update expressions").
 
 use base_types::{DocPath, Seq};
 
@@ -70,4 +70,50 @@ pub enum Condition {
 #[derive(Debug, PartialEq, Eq, Drop)]
 pub struct Paths {
     pub paths: Seq<DocPath>,
+}
+
+/// A term of an update.
+#[derive(Debug, Drop)]
+pub enum Term {
+    /// What stands at a path of the item.
+    Path(DocPath),
+    /// A value, by its place among the value names that the parser was given, from 0.
+    Value(u32),
+    /// `if_not_exists (path, term)`.
+    IfNotExists(DocPath, Box<Term>),
+    /// `list_append (front, back)`.
+    Append(Box<Term>, Box<Term>),
+}
+
+/// What a path is set to.
+#[derive(Debug, Drop)]
+pub enum Sum {
+    One(Term),
+    /// `left + right`.
+    Plus(Term, Term),
+    /// `left - right`.
+    Minus(Term, Term),
+}
+
+/// `path = sum`, of a SET.
+#[derive(Debug, Drop)]
+pub struct SetTo {
+    pub path: DocPath,
+    pub sum: Sum,
+}
+
+/// `path :value`, of an ADD or a DELETE, the value by its place.
+#[derive(Debug, PartialEq, Eq, Drop)]
+pub struct PathValue {
+    pub path: DocPath,
+    pub value: u32,
+}
+
+/// A clause of an update, as it is written.
+#[derive(Debug, Drop)]
+pub enum Section {
+    Set(Seq<SetTo>),
+    Remove(Seq<DocPath>),
+    Add(Seq<PathValue>),
+    Delete(Seq<PathValue>),
 }
