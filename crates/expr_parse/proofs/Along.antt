@@ -50,12 +50,12 @@ paths_are ts paths e = go (ok_right ts (APath ∷ Do FirstPath ∷ MorePaths ∷
       record {
         front = a;
         more = a2;
-        path = path_of p;
+        first = path_of p;
         others = qs;
         is_first = s;
         are_more = are;
         spelled = e ∙ ap (λ l. a ++ l) (e2 ∙ ap (λ l. a2 ++ l) ends ∙ append-nil a2);
-        paths_are = sym (ap kept_listed kept);
+        listed = sym (ap kept_listed kept);
       }
 
 paths_settled : (ts : List Word) → AllAfter (APath ∷ Do FirstPath ∷ MorePaths ∷ []) [] ts (λ ks ts. ts ≡ []) → IsSentence ArePaths ts
@@ -64,12 +64,12 @@ paths_settled ts (p, a, b, s, e, (qs, a2, b2, are, e2, ends)) = (
   record {
     front = a;
     more = a2;
-    path = path_of p;
+    first = path_of p;
     others = qs;
     is_first = s;
     are_more = are;
     spelled = e ∙ ap (λ l. a ++ l) (e2 ∙ ap (λ l. a2 ++ l) ends ∙ append-nil a2);
-    paths_are = refl;
+    listed = refl;
   },
 )
 

@@ -2,3 +2,4 @@ pub mod Along
 pub mod Readings
 pub mod Agreement
 pub mod Answering
+pub mod Sections

@@ -8,7 +8,7 @@ ghost use Rattle.expr_words.specs.Trees.{Tree, tree};
 ghost use Rattle.expr_words.specs.Words.{meanings, fault_of};
 ghost use Rattle.expr_words.specs.Grammar.{IsCondition, ArePaths, most_levels};
 ghost use Rattle.expr_parse.specs.Reading.{ReadsTokens, ReadsCondition, ReadsPaths, ConditionFault, PathsFault, IsTold, IsTreeOr, place_of};
-ghost use Rattle.expr_words.specs.Marks.{IsMadeFor, IsMarked, MarksAll};
+ghost use Rattle.expr_words.specs.Marks.{IsMadeFor, IsMarked, MarksAll, KeepsMarks};
 ghost use Rattle.expr_parse.specs.Judged.{Ends, ReadsWhole, IsAnswer, IsFaultOr, IsGivenOr, AreFit, IsTokens, end_of};
 ghost use Rattle.expr_words.specs.Parses.{whole};
 ghost use Rattle.expr_words.specs.Machine.{Listed, ACondition, APath, MorePaths, Do, FirstPath};
@@ -155,6 +155,7 @@ fn condition_of(
         (ReadsTokens (IsCondition most_levels) ConditionFault given.now text.now tokens.now)
         result }
     ensures marks { OnOk result (MarksAll given.now text.now tokens.now used.old used.new) }
+    ensures keeps { KeepsMarks used.old used.new }
     ensures made_for { IsMadeFor given.now used.new }
 {
     let reading = match words(alloc, text, tokens, given, used) {
@@ -183,6 +184,7 @@ fn paths_of(
     ensures answer { IsAnswer (λ paths. paths)
         (ReadsTokens ArePaths PathsFault given.now text.now tokens.now) result }
     ensures marks { OnOk result (MarksAll given.now text.now tokens.now used.old used.new) }
+    ensures keeps { KeepsMarks used.old used.new }
     ensures made_for { IsMadeFor given.now used.new }
 {
     let reading = match words(alloc, text, tokens, given, used) {
@@ -196,7 +198,7 @@ fn paths_of(
 }
 
 /// Reads a condition from a text.
-#[tactic(auto, using(crate::proofs::Answering::condition_told))]
+#[tactic(auto, using(crate::proofs::Answering::condition_told, expr_words::proofs::Resolve::stays_same))]
 fn read_condition(
     alloc: Global,
     text: &str,
@@ -207,6 +209,7 @@ fn read_condition(
     requires few_values { length given.now.value_names < 2 ^ 32 }
     ensures answer { IsAnswer tree (ReadsCondition given.now text.now) result }
     ensures marks { OnOk result (IsMarked given.now text.now used.old used.new) }
+    ensures keeps { KeepsMarks used.old used.new }
     ensures made_for { IsMadeFor given.now used.new }
 {
     let tokens = text_tokens(alloc, text)?;
@@ -214,7 +217,7 @@ fn read_condition(
 }
 
 /// Reads paths from a text.
-#[tactic(auto, using(crate::proofs::Answering::paths_told))]
+#[tactic(auto, using(crate::proofs::Answering::paths_told, expr_words::proofs::Resolve::stays_same))]
 fn read_paths(
     alloc: Global,
     text: &str,
@@ -225,6 +228,7 @@ fn read_paths(
     requires few_values { length given.now.value_names < 2 ^ 32 }
     ensures answer { IsAnswer (λ paths. paths) (ReadsPaths given.now text.now) result }
     ensures marks { OnOk result (IsMarked given.now text.now used.old used.new) }
+    ensures keeps { KeepsMarks used.old used.new }
     ensures made_for { IsMadeFor given.now used.new }
 {
     let tokens = text_tokens(alloc, text)?;
@@ -233,7 +237,7 @@ fn read_paths(
 
 /// Reads a condition, as of ConditionExpression and FilterExpression (DynamoDB Developer Guide,
 /// "Condition expressions"). An operand names a value by its place in `given.value_names`. The
-/// placeholders of the text count as used; on a refusal some may.
+/// placeholders of the text count as used; on a refusal some may. What was used stays so.
 ///
 /// `used` has to be made for this `given`, which has fewer than 2^32 values. Answers, the first of
 /// these: TooLong above 4,096 bytes; Syntax where a byte begins no token; Syntax at the first token
@@ -253,6 +257,7 @@ pub fn condition(
     ensures sentence { (t : Tree)
         → ReadsCondition given.now text.now (Ok t) → IsTreeOr tree t result }
     ensures marks { OnOk result (IsMarked given.now text.now used.old used.new) }
+    ensures keeps { KeepsMarks used.old used.new }
     ensures made_for { IsMadeFor given.now used.new }
 {
     // Its clause, that a text reads in one way, gives the clause `sentence`; it does nothing.
@@ -261,7 +266,8 @@ pub fn condition(
 }
 
 /// Reads the paths of a projection, as of ProjectionExpression (DynamoDB Developer Guide,
-/// "Projection expressions"). The placeholders of the text count as used; on a refusal some may.
+/// "Projection expressions"). The placeholders of the text count as used; on a refusal some may. What was used
+/// stays so.
 ///
 /// `used` has to be made for this `given`, which has fewer than 2^32 values. Answers, the first of
 /// these: TooLong above 4,096 bytes; Syntax where a byte begins no token; Syntax at the first token
@@ -275,6 +281,7 @@ pub fn paths(alloc: Global, text: &str, given: &Given, used: &mut Used) -> Resul
     ensures sentence { (ps : List DocPath)
         → ReadsPaths given.now text.now (Ok ps) → IsTreeOr (λ p. p.paths) ps result }
     ensures marks { OnOk result (IsMarked given.now text.now used.old used.new) }
+    ensures keeps { KeepsMarks used.old used.new }
     ensures made_for { IsMadeFor given.now used.new }
 {
     // Its clause, that a text reads in one way, gives the clause `sentence`; it does nothing.

@@ -12,6 +12,8 @@ mod logic;
 mod operand;
 mod overlap;
 mod predicate;
+mod section;
+mod term;
 
 pub use expression::{condition, paths};
 pub use expr_words::{

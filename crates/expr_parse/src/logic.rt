@@ -6,7 +6,8 @@ ghost use Rattle.expr_words.specs.Trees.{tree, Conjunction, Disjunction};
 ghost use Rattle.expr_words.specs.Words.{meanings};
 ghost use Rattle.expr_parse.specs.Openings.{IsOpening, IsLess};
 ghost use Rattle.expr_words.specs.Parses.{Parses, whole};
-ghost use Rattle.expr_words.specs.Machine.{Whole, ACondition, AConjunction, APart, AClose, Do, Joins, Negates};
+ghost use Rattle.expr_lexer.specs.declared.token.TokenKind.TheVariants as sign;
+ghost use Rattle.expr_words.specs.Machine.{Whole, ACondition, AConjunction, APart, ASign, Do, Joins, Negates};
 
 use crate::predicate::flat;
 use expr_lexer::TokenKind;
@@ -57,7 +58,7 @@ fn group<'t, 'a>(
     words: &'t [Word<'a>],
     levels: usize,
 ) -> Result<(Condition, &'t [Word<'a>]), Stop>
-    ensures goes { Parses whole (ACondition levels ∷ AClose ∷ []) [] words.now result }
+    ensures goes { Parses whole (ACondition levels ∷ ASign sign.CloseParenthesis ∷ []) [] words.now result }
     ensures shorter { IfOk result (λ x. length x.1.now < length words.now) }
 {
     let (condition, rest) = disjunction(alloc, words, levels)?;

@@ -5,7 +5,8 @@ ghost use Rattle.std.specs.Prelude.{◌≡◌, ◌<◌, ◌∷◌, zero, suc, tr
 ghost use Rattle.expr_words.specs.Words.{meanings};
 ghost use Rattle.expr_words.specs.Fronts.{opens, calls, IsCall, IsValue};
 ghost use Rattle.expr_words.specs.Parses.{Parses};
-ghost use Rattle.expr_words.specs.Machine.{Side, APath, AnOperand, NamedOperand, AnOpen, AClose, Do, MakePath, MakeSize};
+ghost use Rattle.expr_lexer.specs.declared.token.TokenKind.TheVariants as sign;
+ghost use Rattle.expr_words.specs.Machine.{Side, APath, AnOperand, NamedOperand, ASign, Do, MakePath, MakeSize};
 
 use expr_lexer::TokenKind;
 use expr_words::{Function, Operand, Stop, Word, called, close_parenthesis, document_path, fewer, function_of, held, open_parenthesis, stuck};
@@ -17,7 +18,7 @@ pub(crate) fn size_of<'t, 'a>(
     alloc: Global,
     words: &'t [Word<'a>],
 ) -> Result<(Operand, &'t [Word<'a>]), Stop>
-    ensures goes { Parses Side (AnOpen ∷ APath ∷ AClose ∷ Do MakeSize ∷ []) [] words.now result }
+    ensures goes { Parses Side (ASign sign.OpenParenthesis ∷ APath ∷ ASign sign.CloseParenthesis ∷ Do MakeSize ∷ []) [] words.now result }
     ensures shorter { IfOk result (λ x. length x.1.now < length words.now) }
 {
     let rest = open_parenthesis(words)?;

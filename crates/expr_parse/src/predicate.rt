@@ -6,13 +6,14 @@ ghost use Rattle.expr_words.specs.Trees.{Compared, Presence, Absence, FrontTest,
 ghost use Rattle.expr_words.specs.Words.{meanings};
 ghost use Rattle.expr_words.specs.Fronts.{opens, calls, compares, is_deeper, IsComparing};
 ghost use Rattle.expr_words.specs.Parses.{Parses, whole};
-ghost use Rattle.expr_words.specs.Machine.{Goes, reads, Side, Steps, Place, APart, NamedPart, ARest, AnOperand, APath, AValue, AnOpen, AClose, AComma, AnAnd, Do, OfSides, OfPath, MakeRange, MakeSize, MakeKindTest};
+ghost use Rattle.expr_lexer.specs.declared.token.TokenKind.TheVariants as sign;
+ghost use Rattle.expr_words.specs.Machine.{Goes, reads, Side, Steps, Place, APart, NamedPart, ARest, AnOperand, APath, AValue, ASign, Do, OfSides, OfPath, MakeRange, MakeSize, MakeKindTest};
 
 use crate::choice::choice;
 use crate::operand::{operand, plain_operand, size_of};
 use base_types::DocPath;
 use expr_lexer::TokenKind;
-use expr_words::{Comparison, Condition, Function, Operand, Stop, Word, and, called, close_parenthesis, comma, document_path, fewer, function_of, open_parenthesis, stuck};
+use expr_words::{Comparison, Condition, Function, Operand, Stop, Word, and, called, close_parenthesis, comma, document_path, fewer, function_of, open_parenthesis, stuck, value};
 use std::alloc::Global;
 
 /// The comparison of an operand with the one that follows.
@@ -38,7 +39,7 @@ fn range<'t, 'a>(
     words: &'t [Word<'a>],
     levels: usize,
 ) -> Result<(Condition, &'t [Word<'a>]), Stop>
-    ensures goes { Parses whole (AnOperand levels ∷ AnAnd ∷ AnOperand levels ∷ Do MakeRange ∷ [])
+    ensures goes { Parses whole (AnOperand levels ∷ ASign sign.And ∷ AnOperand levels ∷ Do MakeRange ∷ [])
         (Side first ∷ []) words.now result }
     ensures shorter { IfOk result (λ x. length x.1.now < length words.now) }
 {
@@ -108,7 +109,7 @@ fn path_argument<'t, 'a>(
     alloc: Global,
     words: &'t [Word<'a>],
 ) -> Result<(DocPath, &'t [Word<'a>]), Stop>
-    ensures goes { Parses (λ path. Steps path.steps) (AnOpen ∷ APath ∷ AClose ∷ [])
+    ensures goes { Parses (λ path. Steps path.steps) (ASign sign.OpenParenthesis ∷ APath ∷ ASign sign.CloseParenthesis ∷ [])
         [] words.now result }
     ensures shorter { IfOk result (λ x. length x.1.now < length words.now) }
 {
@@ -120,7 +121,7 @@ fn path_argument<'t, 'a>(
 
 /// The argument of `attribute_exists`.
 fn exists<'t, 'a>(alloc: Global, words: &'t [Word<'a>]) -> Result<(Condition, &'t [Word<'a>]), Stop>
-    ensures goes { Parses whole (AnOpen ∷ APath ∷ AClose ∷ Do (OfPath Presence) ∷ [])
+    ensures goes { Parses whole (ASign sign.OpenParenthesis ∷ APath ∷ ASign sign.CloseParenthesis ∷ Do (OfPath Presence) ∷ [])
         [] words.now result }
     ensures shorter { IfOk result (λ x. length x.1.now < length words.now) }
 {
@@ -130,7 +131,7 @@ fn exists<'t, 'a>(alloc: Global, words: &'t [Word<'a>]) -> Result<(Condition, &'
 
 /// The argument of `attribute_not_exists`.
 fn absent<'t, 'a>(alloc: Global, words: &'t [Word<'a>]) -> Result<(Condition, &'t [Word<'a>]), Stop>
-    ensures goes { Parses whole (AnOpen ∷ APath ∷ AClose ∷ Do (OfPath Absence) ∷ [])
+    ensures goes { Parses whole (ASign sign.OpenParenthesis ∷ APath ∷ ASign sign.CloseParenthesis ∷ Do (OfPath Absence) ∷ [])
         [] words.now result }
     ensures shorter { IfOk result (λ x. length x.1.now < length words.now) }
 {
@@ -138,23 +139,12 @@ fn absent<'t, 'a>(alloc: Global, words: &'t [Word<'a>]) -> Result<(Condition, &'
     Ok((Condition::Absent(path), rest))
 }
 
-/// A value, by its place.
-fn value<'t, 'a>(words: &'t [Word<'a>]) -> Result<(u32, &'t [Word<'a>]), Stop>
-    ensures goes { Parses Place (AValue ∷ []) [] words.now result }
-    ensures shorter { IfOk result (λ x. length x.1.now < length words.now) }
-{
-    match words {
-        [Word::Held(place), rest @ ..] => Ok((*place, rest)),
-        _ => Err(stuck(words)),
-    }
-}
-
 /// The arguments of `attribute_type`.
 fn of_kind<'t, 'a>(
     alloc: Global,
     words: &'t [Word<'a>],
 ) -> Result<(Condition, &'t [Word<'a>]), Stop>
-    ensures goes { Parses whole (AnOpen ∷ APath ∷ AComma ∷ AValue ∷ AClose ∷ Do MakeKindTest ∷ [])
+    ensures goes { Parses whole (ASign sign.OpenParenthesis ∷ APath ∷ ASign sign.Comma ∷ AValue ∷ ASign sign.CloseParenthesis ∷ Do MakeKindTest ∷ [])
         [] words.now result }
     ensures shorter { IfOk result (λ x. length x.1.now < length words.now) }
 {
@@ -174,7 +164,7 @@ fn two_operands<'t, 'a>(
 ) -> Result<(Operand, Operand, &'t [Word<'a>]), Stop>
     ensures goes { Goes
         (λ os ks. reads (meanings words.now)
-        (AnOpen ∷ AnOperand levels ∷ AComma ∷ AnOperand levels ∷ AClose ∷ os) ks)
+        (ASign sign.OpenParenthesis ∷ AnOperand levels ∷ ASign sign.Comma ∷ AnOperand levels ∷ ASign sign.CloseParenthesis ∷ os) ks)
         (λ x ks. Side x.1 ∷ Side x.0 ∷ ks) (λ x. meanings x.2.now) result }
     ensures shorter { IfOk result (λ x. length x.2.now < length words.now) }
 {
@@ -193,7 +183,7 @@ fn begins<'t, 'a>(
     levels: usize,
 ) -> Result<(Condition, &'t [Word<'a>]), Stop>
     ensures goes { Parses whole
-        (AnOpen ∷ AnOperand levels ∷ AComma ∷ AnOperand levels ∷ AClose
+        (ASign sign.OpenParenthesis ∷ AnOperand levels ∷ ASign sign.Comma ∷ AnOperand levels ∷ ASign sign.CloseParenthesis
         ∷ Do (OfSides FrontTest) ∷ [])
         [] words.now result }
     ensures shorter { IfOk result (λ x. length x.1.now < length words.now) }
@@ -209,7 +199,7 @@ fn contains<'t, 'a>(
     levels: usize,
 ) -> Result<(Condition, &'t [Word<'a>]), Stop>
     ensures goes { Parses whole
-        (AnOpen ∷ AnOperand levels ∷ AComma ∷ AnOperand levels ∷ AClose
+        (ASign sign.OpenParenthesis ∷ AnOperand levels ∷ ASign sign.Comma ∷ AnOperand levels ∷ ASign sign.CloseParenthesis
         ∷ Do (OfSides PartTest) ∷ [])
         [] words.now result }
     ensures shorter { IfOk result (λ x. length x.1.now < length words.now) }
@@ -224,7 +214,7 @@ fn size_predicate<'t, 'a>(
     words: &'t [Word<'a>],
     levels: usize,
 ) -> Result<(Condition, &'t [Word<'a>]), Stop>
-    ensures goes { Parses whole (AnOpen ∷ APath ∷ AClose ∷ Do MakeSize ∷ ARest levels ∷ [])
+    ensures goes { Parses whole (ASign sign.OpenParenthesis ∷ APath ∷ ASign sign.CloseParenthesis ∷ Do MakeSize ∷ ARest levels ∷ [])
         [] words.now result }
     ensures shorter { IfOk result (λ x. length x.1.now < length words.now) }
 {

@@ -10,7 +10,7 @@ use Rattle.expr_words.specs.declared.function.Function.TheVariants as function
 use Rattle.expr_words.specs.declared.stop.Stop.{Stop}
 use Rattle.expr_words.specs.declared.stop.Stop.TheVariants as stop
 use Rattle.expr_words.specs.Functions.{function_of}
-use Rattle.expr_words.specs.Fronts.{opens, calls, has_comma, is_held, is_deeper}
+use Rattle.expr_words.specs.Fronts.{begins_section, opens, calls, has_comma, is_held, is_deeper}
 use Rattle.expr_words.specs.declared.tree.Operand.{Operand}
 
 -- there are as many meanings as words
@@ -225,3 +225,22 @@ call_list_append (t ∷ ts) j name os ks o f = cc
 
 -- a function before a parenthesis, as a term
 pub ruleset known_term_calls = (call_if_not_exists, call_list_append)
+
+-- before the keyword of a clause there is a clause more, and before other words none
+pub section_next : (ts : List Word) (k : ℕ) (os : List Owed) (ks : List Kept) → begins_section ts ≡ true
+    → reads ts (MoreSections k ∷ os) ks ≡ reads ts (ASection k ∷ MoreSections k ∷ os) ks
+section_next [] k os ks e = cc
+section_next (Sign sign.Set ∷ ts) k os ks e = refl
+section_next (Sign sign.Remove ∷ ts) k os ks e = refl
+section_next (Sign sign.Add ∷ ts) k os ks e = refl
+section_next (Sign sign.Delete ∷ ts) k os ks e = refl
+section_next (t ∷ ts) k os ks e = cc
+
+pub section_last : (ts : List Word) (k : ℕ) (os : List Owed) (ks : List Kept) → begins_section ts ≡ false
+    → reads ts (MoreSections k ∷ os) ks ≡ reads ts os ks
+section_last [] k os ks e = refl
+section_last (Sign sign.Set ∷ ts) k os ks e = cc
+section_last (Sign sign.Remove ∷ ts) k os ks e = cc
+section_last (Sign sign.Add ∷ ts) k os ks e = cc
+section_last (Sign sign.Delete ∷ ts) k os ks e = cc
+section_last (t ∷ ts) k os ks e = refl

@@ -45,6 +45,14 @@ compares (Sign sign.More ∷ ts) = true
 compares (Sign sign.AtLeast ∷ ts) = true
 compares ts = false
 
+-- the keyword of a clause of an update is first
+abbrev pub begins_section : List Word → Bool
+begins_section (Sign sign.Set ∷ ts) = true
+begins_section (Sign sign.Remove ∷ ts) = true
+begins_section (Sign sign.Add ∷ ts) = true
+begins_section (Sign sign.Delete ∷ ts) = true
+begins_section ts = false
+
 -- the comparison that is first, and what is behind it; or there is none
 abbrev pub IsComparing : {X : Type 0} → (X → Comparison) → (X → List Word) → List Word → Option X → Type 0
 IsComparing op rest ts None = compares ts ≡ false

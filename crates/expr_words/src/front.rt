@@ -1,10 +1,14 @@
 //! What stands first, where that decides how the parser goes on.
 #![tactic(auto)]
 
-ghost use Rattle.std.specs.Prelude.{◌≡◌, ◌<◌, length, IfSome, MatchOption, zero, suc};
+ghost use Rattle.std.specs.Prelude.{◌≡◌, ◌<◌, ◌∷◌, [], length, IfOk, IfSome, MatchOption, zero, suc};
 ghost use Rattle.expr_words.specs.Words.{meanings};
+ghost use Rattle.expr_words.specs.Parses.{Parses};
+ghost use Rattle.expr_words.specs.Machine.{Place, AValue};
 ghost use Rattle.expr_words.specs.Fronts.{opens, IsCall, IsValue, IsBehindComma};
 
+use crate::sign::stuck;
+use crate::stop::Stop;
 use crate::word::Word;
 use expr_lexer::TokenKind;
 
@@ -56,3 +60,13 @@ pub fn behind_comma<'t, 'a>(words: &'t [Word<'a>]) -> Option<&'t [Word<'a>]>
     }
 }
 
+/// A value, by its place.
+pub fn value<'t, 'a>(words: &'t [Word<'a>]) -> Result<(u32, &'t [Word<'a>]), Stop>
+    ensures goes { Parses Place (AValue ∷ []) [] words.now result }
+    ensures shorter { IfOk result (λ x. length x.1.now < length words.now) }
+{
+    match words {
+        [Word::Held(place), rest @ ..] => Ok((*place, rest)),
+        _ => Err(stuck(words)),
+    }
+}

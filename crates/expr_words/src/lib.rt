@@ -17,7 +17,7 @@ mod stop;
 mod tree;
 mod word;
 
-pub use front::{behind_comma, called, fewer, held};
+pub use front::{behind_comma, called, fewer, held, value};
 pub use function::{Function, function_of};
 pub use given::{Given, NamePair, Used};
 pub use meaning::{Missing, Reading, words};

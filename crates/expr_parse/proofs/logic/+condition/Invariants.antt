@@ -8,7 +8,7 @@ abbrev pub decreases-part : goal.decreases-part
 decreases-part l = 6 * l.levels
 
 abbrev pub decreases-negation : goal.decreases-negation
-decreases-negation l = 6 * l.levels + 1
+decreases-negation l = 6 * l.levels + 5
 
 abbrev pub decreases-and_part : goal.decreases-and_part
 decreases-and_part l = 6 * l.levels + 1
