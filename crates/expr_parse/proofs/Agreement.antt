@@ -4,7 +4,7 @@ use Rattle.std.proofs.Common.{◌+◌, ◌-◌, Any, Some, slice_get, get_or, ge
 use Rattle.base_types.specs.declared.path.DocPath.{DocPath}
 use Rattle.base_types.specs.declared.path.Step.{Step}
 use Rattle.expr_parse.specs.Agreement.{Agree}
-use Rattle.expr_parse.specs.Reading.{Overlap, HaveOverlap}
+use Rattle.expr_parse.specs.Overlaps.{Overlap, HaveOverlap}
 
 begins_either : (p q : List Step) → Agree p q → ((more : List Step) × (p ++ more ≡ q)) ⊎ ((more : List Step) × (q ++ more ≡ p))
 begins_either [] q h = inl (q, refl)

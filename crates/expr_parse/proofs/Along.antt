@@ -1,15 +1,15 @@
--- From what the machine answers to the grammar: for conditions and for lists of paths.
+-- From what the machine answers to the grammar: for conditions, lists of paths and updates.
 use Rattle.std.proofs.Common.{◌≡◌, ℕ, List, [], ◌∷◌, ◌++◌, Result, Ok, Err, refl, sym, ap, subst, ◌∙◌, append-nil}
 use Rattle.base_types.specs.declared.path.DocPath.{DocPath}
-use Rattle.expr_words.specs.Trees.{Tree}
+use Rattle.expr_words.specs.Trees.{Tree, SectionTree}
 use Rattle.expr_words.specs.Words.{Word}
-use Rattle.expr_words.specs.Grammar.{IsCondition, ArePaths}
+use Rattle.expr_words.specs.Grammar.{IsCondition, ArePaths, IsUpdate}
 use Rattle.expr_words.specs.Faults.{IsFault}
 use Rattle.expr_parse.specs.Reading.{IsSentence}
-use Rattle.expr_words.specs.Machine.{Kept, Whole, Listed, ACondition, APath, MorePaths, Do, FirstPath, path_of, reads}
+use Rattle.expr_words.specs.Machine.{Kept, Whole, Listed, Sections, an_update, ASection, MoreSections, NoSections, ACondition, APath, MorePaths, Do, FirstPath, path_of, reads}
 use Rattle.expr_words.proofs.Owing.{AllAfter}
 use Rattle.expr_words.proofs.Viability.{ok_right, is_fault}
-use Rattle.expr_words.proofs.Complete.{condition_reads, paths_read, kept_tree, kept_paths}
+use Rattle.expr_words.proofs.Complete.{condition_reads, paths_read, update_reads, kept_tree, kept_paths, kept_sections}
 
 -- the tree that is kept
 abbrev kept_whole : Tree → List Kept → Tree
@@ -19,6 +19,10 @@ kept_whole d ks = d
 abbrev kept_listed : List Kept → List DocPath
 kept_listed (Listed paths ∷ ks) = paths
 kept_listed ks = []
+
+abbrev kept_clauses : List Kept → List SectionTree
+kept_clauses (Sections cs ∷ ks) = cs
+kept_clauses ks = []
 
 abbrev kept_in : Result (List Kept) ℕ → List Kept
 kept_in (Ok ks) = ks
@@ -78,3 +82,39 @@ paths_fault = is_fault (IsSentence ArePaths) (APath ∷ Do FirstPath ∷ MorePat
 
 pub one_list : (ts : List Word) (ps qs : List DocPath) → ArePaths ts ps → ArePaths ts qs → ps ≡ qs
 one_list ts ps qs s r = ap (λ x. kept_listed (kept_in x)) (sym (paths_read ts ps s) ∙ paths_read ts qs r)
+
+pub update_is : (k : ℕ) (ts : List Word) (cs : List SectionTree) → reads ts (an_update k) [] ≡ kept_sections cs → IsUpdate k ts cs
+update_is k ts cs e = go (ok_right ts (an_update k) [] (Sections cs ∷ []) e) where
+  go : AllAfter (an_update k) [] ts (λ ks ts. (ts ≡ []) × (ks ≡ Sections cs ∷ [])) → IsUpdate k ts cs
+  go (c, a, b, s, e, (ds, a2, b2, are, e2, (ends, kept))) =
+      record {
+        front = a;
+        more = a2;
+        first = c;
+        others = ds;
+        is_first = s;
+        are_more = are;
+        spelled = e ∙ ap (λ l. a ++ l) (e2 ∙ ap (λ l. a2 ++ l) ends ∙ append-nil a2);
+        listed = sym (ap kept_clauses kept);
+      }
+
+update_settled : (k : ℕ) (ts : List Word) → AllAfter (an_update k) [] ts (λ ks ts. ts ≡ []) → IsSentence (IsUpdate k) ts
+update_settled k ts (c, a, b, s, e, (ds, a2, b2, are, e2, ends)) = (
+  c ∷ ds,
+  record {
+    front = a;
+    more = a2;
+    first = c;
+    others = ds;
+    is_first = s;
+    are_more = are;
+    spelled = e ∙ ap (λ l. a ++ l) (e2 ∙ ap (λ l. a2 ++ l) ends ∙ append-nil a2);
+    listed = refl;
+  },
+)
+
+pub update_fault : (k : ℕ) (ts : List Word) (left : ℕ) → reads ts (an_update k) [] ≡ Err left → IsFault (IsSentence (IsUpdate k)) ts left
+update_fault k = is_fault (IsSentence (IsUpdate k)) (an_update k) (update_settled k) (λ ts s. (Sections s.0 ∷ [], update_reads k ts s.0 s.1))
+
+pub one_update : (k : ℕ) (ts : List Word) (cs ds : List SectionTree) → IsUpdate k ts cs → IsUpdate k ts ds → cs ≡ ds
+one_update k ts cs ds s r = ap (λ x. kept_clauses (kept_in x)) (sym (update_reads k ts cs s) ∙ update_reads k ts ds r)

@@ -3,3 +3,7 @@ pub mod Readings
 pub mod Agreement
 pub mod Answering
 pub mod Sections
+pub mod Twice
+pub mod Drafts
+pub mod Ordered
+pub mod Permuted

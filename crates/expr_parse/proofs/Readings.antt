@@ -4,14 +4,15 @@ use Rattle.base_types.specs.declared.path.DocPath.{DocPath}
 use Rattle.expr_lexer.specs.declared.token.Token.{Token}
 use Rattle.expr_words.specs.declared.given.Given.{Given}
 use Rattle.expr_words.specs.declared.parse_end.ParseEnd.{ParseEnd}
-use Rattle.expr_words.specs.declared.parse_end.ParseEnd.TheVariants.{Syntax, Overlap}
-use Rattle.expr_words.specs.Trees.{Tree}
-use Rattle.expr_words.specs.Words.{Word, words}
-use Rattle.expr_words.specs.Grammar.{IsCondition, ArePaths, most_levels}
+use Rattle.expr_words.specs.declared.parse_end.ParseEnd.TheVariants.{Syntax, Overlap, TooManyOperators}
+use Rattle.expr_words.specs.Trees.{Tree, SectionTree}
+use Rattle.expr_words.specs.Words.{Word, words, undefined}
+use Rattle.expr_words.specs.Grammar.{IsCondition, ArePaths, IsUpdate, most_levels}
 use Rattle.expr_words.specs.Faults.{Stops, IsFault}
 use Rattle.expr_lexer.specs.Lexes.{Lexes}
-use Rattle.expr_parse.specs.Reading.{IsSentence, place_of, ReadsTokens, no_sentence, not_given, at_fault, sentence, Reads, too_long, no_token, lexed, ConditionFault, ReadsCondition, PathsFault, ReadsPaths}
-use Rattle.expr_parse.proofs.Along.{one_condition, one_list}
+use Rattle.expr_parse.specs.Reading.{IsSentence, place_of, IsVerdict, early, not_given, late, fit, ReadsTokens, no_sentence, spelled, Reads, too_long, no_token, lexed, NoFault, ReadsCondition, PathsFault, ReadsPaths, TwiceFault, UpdateFault, ClausesFault, ReadsClauses, ReadsUpdate}
+use Rattle.expr_parse.specs.UpdateTree.{UpdateTree, update_of}
+use Rattle.expr_parse.proofs.Along.{one_condition, one_list, one_update}
 
 abbrev first_or : Word → List Word → Word
 first_or t [] = t
@@ -69,40 +70,47 @@ abbrev fault_or : ParseEnd → Option ParseEnd → ParseEnd
 fault_or d None = d
 fault_or d (Some fault) = fault
 
-module _ {T : Type 0} (Spells : List Word → T → Type 0) (FaultOf : T → Option ParseEnd → Type 0) (one_tree : IsUnambiguous Spells)
-    (single : IsSingle FaultOf) (given : Given) (text : List ℕ) where
+module _ {T : Type 0} (Spells : List Word → T → Type 0) (Early Late : T → Option ParseEnd → Type 0) (one_tree : IsUnambiguous Spells)
+    (single_early : IsSingle Early) (single_late : IsSingle Late) (given : Given) (text : List ℕ) where
   abbrev Reading : Type 0
   Reading = Result T ParseEnd
 
   abbrev refused : ParseEnd → Reading
   refused fault = Err fault
 
-  abbrev answered : T → Reading
-  answered t = Ok t
+  -- no fault and a fault exclude each other
+  no_early : (t : T) (fault : ParseEnd) → Early t None → Early t (Some fault) → ⊥
+  no_early t fault e f = let same : None ≡ Some fault = single_early t None (Some fault) e f in cc
 
-  one_judgement : (tokens : List Token) (r s : Reading) → ReadsTokens Spells FaultOf given text tokens r → ReadsTokens Spells FaultOf given text tokens s → r ≡ s
+  no_late : (t : T) (fault : ParseEnd) → Late t None → Late t (Some fault) → ⊥
+  no_late t fault e f = let same : None ≡ Some fault = single_late t None (Some fault) e f in cc
+
+  one_verdict : (m : Option ParseEnd) (t : T) (r s : Reading) → IsVerdict Early Late m t r → IsVerdict Early Late m t s → r ≡ s
+  one_verdict m t _ _ (early {fault = a} e) (early {fault = b} f) = ap (λ o. refused (fault_or a o)) (single_early t (Some a) (Some b) e f)
+  one_verdict m t _ _ (early {fault = a} e) (not_given f u) = absurd (no_early t a f e)
+  one_verdict m t _ _ (early {fault = a} e) (late f u w) = absurd (no_early t a f e)
+  one_verdict m t _ _ (early {fault = a} e) (fit f u w) = absurd (no_early t a f e)
+  one_verdict m t _ _ (not_given f u) (early {fault = a} e) = absurd (no_early t a f e)
+  one_verdict m t _ _ (late f u w) (early {fault = a} e) = absurd (no_early t a f e)
+  one_verdict m t _ _ (fit f u w) (early {fault = a} e) = absurd (no_early t a f e)
+  one_verdict m t _ _ (not_given {fault = a} e u) (not_given {fault = b} f v) = ap (λ o. refused (fault_or a o)) (sym u ∙ v)
+  one_verdict m t _ _ (not_given e u) (late f v w) = let h : ⊥ = cc in absurd h
+  one_verdict m t _ _ (not_given e u) (fit f v w) = let h : ⊥ = cc in absurd h
+  one_verdict m t _ _ (late e u w) (not_given f v) = let h : ⊥ = cc in absurd h
+  one_verdict m t _ _ (fit e u w) (not_given f v) = let h : ⊥ = cc in absurd h
+  one_verdict m t _ _ (late {fault = a} e u w) (late {fault = b} f v x) = ap (λ o. refused (fault_or a o)) (single_late t (Some a) (Some b) w x)
+  one_verdict m t _ _ (late {fault = a} e u w) (fit f v x) = absurd (no_late t a x w)
+  one_verdict m t _ _ (fit e u w) (late {fault = a} f v x) = absurd (no_late t a w x)
+  one_verdict m t _ _ (fit e u w) (fit f v x) = refl
+
+  one_judgement : (tokens : List Token) (r s : Reading) → ReadsTokens Spells Early Late given text tokens r → ReadsTokens Spells Early Late given text tokens s → r ≡ s
   one_judgement tokens _ _ (no_sentence {left = m} f) (no_sentence {left = n} g) =
       ap (λ left. refused (Syntax (place_of text tokens left))) (one_fault (IsSentence Spells) (words given text tokens) m n f g)
-  one_judgement tokens _ _ (no_sentence {left = m} f) (not_given {t = t} s u) = absurd (no_fault (IsSentence Spells) (words given text tokens) m (t, s) f)
-  one_judgement tokens _ _ (no_sentence {left = m} f) (at_fault {t = t} s u w) = absurd (no_fault (IsSentence Spells) (words given text tokens) m (t, s) f)
-  one_judgement tokens _ _ (no_sentence {left = m} f) (sentence {t = t} s u w) = absurd (no_fault (IsSentence Spells) (words given text tokens) m (t, s) f)
-  one_judgement tokens _ _ (not_given {t = t} s u) (no_sentence {left = m} f) = absurd (no_fault (IsSentence Spells) (words given text tokens) m (t, s) f)
-  one_judgement tokens _ _ (at_fault {t = t} s u w) (no_sentence {left = m} f) = absurd (no_fault (IsSentence Spells) (words given text tokens) m (t, s) f)
-  one_judgement tokens _ _ (sentence {t = t} s u w) (no_sentence {left = m} f) = absurd (no_fault (IsSentence Spells) (words given text tokens) m (t, s) f)
-  one_judgement tokens _ _ (not_given {fault = a} s u) (not_given {fault = b} s' u') = ap (λ o. refused (fault_or a o)) (sym u ∙ u')
-  one_judgement tokens _ _ (not_given s u) (at_fault s' u' w) = let h : ⊥ = cc in absurd h
-  one_judgement tokens _ _ (not_given s u) (sentence s' u' w) = let h : ⊥ = cc in absurd h
-  one_judgement tokens _ _ (at_fault s u w) (not_given s' u') = let h : ⊥ = cc in absurd h
-  one_judgement tokens _ _ (sentence s u w) (not_given s' u') = let h : ⊥ = cc in absurd h
-  one_judgement tokens _ _ (at_fault {t = t} {fault = a} s u w) (at_fault {t = t'} {fault = b} s' u' w') =
-      ap (λ o. refused (fault_or a o)) (single t (Some a) (Some b) w (subst (λ v. FaultOf v (Some b)) (one_tree (words given text tokens) t' t s' s) w'))
-  one_judgement tokens _ _ (at_fault {t = t} {fault = a} s u w) (sentence {t = t'} s' u' w') =
-      let e : Some a ≡ None = single t (Some a) None w (subst (λ v. FaultOf v None) (one_tree (words given text tokens) t' t s' s) w') in
-      let h : ⊥ = cc in absurd h
-  one_judgement tokens _ _ (sentence {t = t} s u w) (at_fault {t = t'} {fault = a} s' u' w') =
-      let e : Some a ≡ None = single t (Some a) None (subst (λ v. FaultOf v (Some a)) (one_tree (words given text tokens) t' t s' s) w') w in
-      let h : ⊥ = cc in absurd h
-  one_judgement tokens _ _ (sentence {t = t} s u w) (sentence {t = t'} s' u' w') = ap answered (one_tree (words given text tokens) t t' s s')
+  one_judgement tokens _ _ (no_sentence {left = m} f) (spelled {t = t} s v) = absurd (no_fault (IsSentence Spells) (words given text tokens) m (t, s) f)
+  one_judgement tokens _ _ (spelled {t = t} s v) (no_sentence {left = m} f) = absurd (no_fault (IsSentence Spells) (words given text tokens) m (t, s) f)
+  one_judgement tokens _ _ (spelled {t = t} {verdict = r} s v) (spelled {t = t'} {verdict = r'} s' v') =
+      one_verdict (undefined given text tokens) t r r' v
+      (subst (λ x. IsVerdict Early Late (undefined given text tokens) x r') (one_tree (words given text tokens) t' t s' s) v')
 
   abbrev Lexing : Type 0
   Lexing = Result (List Token) ℕ
@@ -116,7 +124,7 @@ module _ {T : Type 0} (Spells : List Word → T → Type 0) (FaultOf : T → Opt
   place_in (Err place) = place
 
   one_reading : ((r s : Lexing) → Lexes 0 text r → Lexes 0 text s → r ≡ s)
-      → (r s : Reading) → Reads Spells FaultOf given text r → Reads Spells FaultOf given text s → r ≡ s
+      → (r s : Reading) → Reads Spells Early Late given text r → Reads Spells Early Late given text s → r ≡ s
   one_reading one_lexing _ _ (too_long l) (too_long l') = refl
   one_reading one_lexing _ _ (too_long l) (no_token room x) = let h : ⊥ = omega (arith, l, room) in absurd h
   one_reading one_lexing _ _ (too_long l) (lexed room x y) = let h : ⊥ = omega (arith, l, room) in absurd h
@@ -126,14 +134,14 @@ module _ {T : Type 0} (Spells : List Word → T → Type 0) (FaultOf : T → Opt
   one_reading one_lexing _ _ (no_token room x) (lexed room' x' y) = let e = one_lexing _ _ x x' in let h : ⊥ = cc in absurd h
   one_reading one_lexing _ _ (lexed room x y) (no_token room' x') = let e = one_lexing _ _ x x' in let h : ⊥ = cc in absurd h
   one_reading one_lexing _ _ (lexed {tokens = a} {reading = r} room x y) (lexed {tokens = b} {reading = s} room' x' y') =
-      one_judgement a r s y (subst (λ l. ReadsTokens Spells FaultOf given text l s) (sym (ap tokens_in (one_lexing _ _ x x'))) y')
+      one_judgement a r s y (subst (λ l. ReadsTokens Spells Early Late given text l s) (sym (ap tokens_in (one_lexing _ _ x x'))) y')
 
 -- lists of words, and conditions, have one reading where texts have one lexing
 abbrev pub LexesOnce : Type 0
 LexesOnce = (text : List ℕ) (r s : Result (List Token) ℕ) → Lexes 0 text r → Lexes 0 text s → r ≡ s
 
-single_condition : IsSingle ConditionFault
-single_condition t m n e e' = e ∙ sym e'
+single_none : {T : Type 0} (t : T) (m n : Option ParseEnd) → NoFault t m → NoFault t n → m ≡ n
+single_none t m n e e' = e ∙ sym e'
 
 single_paths : IsSingle PathsFault
 single_paths t None None a b = refl
@@ -145,9 +153,52 @@ single_paths t (Some fault) None a b = absurd a
 single_paths t (Some Overlap) (Some fault) a b = absurd b
 single_paths t (Some fault) n a b = absurd a
 
+single_twice : IsSingle TwiceFault
+single_twice cs m n e e' = e ∙ sym e'
+
+single_update : IsSingle UpdateFault
+single_update u None None a b = refl
+single_update u (Some TooManyOperators) (Some TooManyOperators) a b = refl
+single_update u (Some Overlap) (Some Overlap) a b = refl
+single_update u None (Some Overlap) (few, apart) (f, overlap) = absurd (apart overlap)
+single_update u (Some Overlap) None (f, overlap) (few, apart) = absurd (apart overlap)
+single_update u None (Some TooManyOperators) (few, apart) many = let h : ⊥ = omega (arith, few, many) in absurd h
+single_update u (Some TooManyOperators) None many (few, apart) = let h : ⊥ = omega (arith, few, many) in absurd h
+single_update u (Some Overlap) (Some TooManyOperators) (few, overlap) many = let h : ⊥ = omega (arith, few, many) in absurd h
+single_update u (Some TooManyOperators) (Some Overlap) many (few, overlap) = let h : ⊥ = omega (arith, few, many) in absurd h
+single_update u None (Some fault) a b = absurd b
+single_update u (Some Overlap) (Some fault) a b = absurd b
+single_update u (Some TooManyOperators) (Some fault) a b = absurd b
+single_update u (Some fault) n a b = absurd a
+
 pub condition_once : LexesOnce → (given : Given) (text : List ℕ) (r s : Result Tree ParseEnd) → ReadsCondition given text r → ReadsCondition given text s → r ≡ s
 condition_once lexing given text =
-    one_reading (IsCondition most_levels) ConditionFault (one_condition most_levels) single_condition given text (lexing text)
+    one_reading (IsCondition most_levels) NoFault NoFault (one_condition most_levels) single_none single_none given text (lexing text)
 
 pub paths_once : LexesOnce → (given : Given) (text : List ℕ) (r s : Result (List DocPath) ParseEnd) → ReadsPaths given text r → ReadsPaths given text s → r ≡ s
-paths_once lexing given text = one_reading ArePaths PathsFault one_list single_paths given text (lexing text)
+paths_once lexing given text = one_reading ArePaths NoFault PathsFault one_list single_none single_paths given text (lexing text)
+
+clauses_once : LexesOnce → (given : Given) (text : List ℕ) (r s : Result (List SectionTree) ParseEnd) → ReadsClauses given text r → ReadsClauses given text s → r ≡ s
+clauses_once lexing given text =
+    one_reading (IsUpdate most_levels) TwiceFault ClausesFault (one_update most_levels) single_twice (λ cs. single_update (update_of cs)) given text (lexing text)
+
+abbrev clauses_in : Result (List SectionTree) ParseEnd → List SectionTree
+clauses_in (Ok cs) = cs
+clauses_in (Err fault) = []
+
+abbrev fault_in : Result (List SectionTree) ParseEnd → ParseEnd → ParseEnd
+fault_in (Ok cs) d = d
+fault_in (Err fault) d = fault
+
+abbrev update_read : UpdateTree → Result UpdateTree ParseEnd
+update_read u = Ok u
+
+abbrev update_refused : ParseEnd → Result UpdateTree ParseEnd
+update_refused fault = Err fault
+
+pub update_once : LexesOnce → (given : Given) (text : List ℕ) (r s : Result UpdateTree ParseEnd) → ReadsUpdate given text r → ReadsUpdate given text s → r ≡ s
+update_once lexing given text (Ok u) (Ok v) (cs, a, e) (ds, b, f) =
+    ap update_read (sym e ∙ ap (λ x. update_of (clauses_in x)) (clauses_once lexing given text _ _ a b) ∙ f)
+update_once lexing given text (Ok u) (Err fault) (cs, a, e) b = let same = clauses_once lexing given text _ _ a b in let h : ⊥ = cc in absurd h
+update_once lexing given text (Err fault) (Ok v) a (ds, b, f) = let same = clauses_once lexing given text _ _ a b in let h : ⊥ = cc in absurd h
+update_once lexing given text (Err fault) (Err other) a b = ap (λ x. update_refused (fault_in x fault)) (clauses_once lexing given text _ _ a b)

@@ -12,7 +12,8 @@ use Rattle.expr_words.specs.declared.stop.Stop.TheVariants as stop
 use Rattle.expr_words.specs.declared.meaning.Missing.{Missing}
 use Rattle.expr_words.specs.Words.{Word, fault_of}
 use Rattle.expr_words.specs.Machine.{Kept, Owed, reads}
-use Rattle.expr_parse.specs.Reading.{IsTold, HaveOverlap, place_of, most_bytes}
+use Rattle.expr_parse.specs.Reading.{IsTold, place_of, most_bytes}
+use Rattle.expr_parse.specs.Overlaps.{HaveOverlap}
 
 -- nothing may follow: the whole, if these words are none
 abbrev pub Ends : {C : Type 0} → C → List Word → Result C Stop → Type 0
@@ -60,7 +61,9 @@ IsGivenOr whole (Some missing) (Err fault) = IsFaultOr (fault_of missing) fault
 -- the paths, if no placeholder is missing and none of them overlap
 abbrev pub AreFit : List DocPath → Option Missing → Result (List DocPath) ParseEnd → Type 0
 AreFit whole None (Ok paths) = (paths ≡ whole) × (¬ HaveOverlap whole)
-AreFit whole None (Err fault) = (fault ≡ Overlap) × HaveOverlap whole
+AreFit whole None (Err Overlap) = HaveOverlap whole
+AreFit whole None (Err NoMemory) = Unit {0}
+AreFit whole None (Err fault) = ⊥
 AreFit whole (Some missing) (Ok paths) = ⊥
 AreFit whole (Some missing) (Err fault) = IsFaultOr (fault_of missing) fault
 

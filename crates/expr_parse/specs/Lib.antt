@@ -1,4 +1,9 @@
+pub mod Overlaps
+pub mod UpdateTree
 pub mod Reading
 pub mod Agreement
 pub mod Judged
+pub mod Update
+pub mod Draft
+pub mod Met
 pub mod Openings

@@ -1,13 +1,14 @@
 //! The calls that read an expression.
 
-ghost use Rattle.std.specs.Prelude.{◌≡◌, ◌<◌, ◌^◌, List, [], ◌∷◌, Ok, All, length, IfOk, IfErr, OnOk};
+ghost use Rattle.std.specs.Prelude.{◌≡◌, ◌↔◌, ◌<◌, ◌^◌, IsTrue, List, [], ◌∷◌, Ok, All, length, IfOk, IfErr, OnOk};
 ghost use Rattle.base_types.specs.declared.path.DocPath.{DocPath};
 ghost use Rattle.expr_lexer.specs.Spans.{IsPart};
 ghost use Rattle.expr_lexer.specs.Spelling.{IsSpelled};
 ghost use Rattle.expr_words.specs.Trees.{Tree, tree};
 ghost use Rattle.expr_words.specs.Words.{meanings, fault_of};
 ghost use Rattle.expr_words.specs.Grammar.{IsCondition, ArePaths, most_levels};
-ghost use Rattle.expr_parse.specs.Reading.{ReadsTokens, ReadsCondition, ReadsPaths, ConditionFault, PathsFault, IsTold, IsTreeOr, place_of};
+ghost use Rattle.expr_parse.specs.Reading.{ReadsTokens, ReadsCondition, ReadsPaths, NoFault, PathsFault, IsTold, IsTreeOr, place_of};
+ghost use Rattle.expr_parse.specs.Overlaps.{HaveOverlap};
 ghost use Rattle.expr_words.specs.Marks.{IsMadeFor, IsMarked, MarksAll, KeepsMarks};
 ghost use Rattle.expr_parse.specs.Judged.{Ends, ReadsWhole, IsAnswer, IsFaultOr, IsGivenOr, AreFit, IsTokens, end_of};
 ghost use Rattle.expr_words.specs.Parses.{whole};
@@ -15,20 +16,20 @@ ghost use Rattle.expr_words.specs.Machine.{Listed, ACondition, APath, MorePaths,
 
 use crate::laws::one_reading;
 use crate::logic::disjunction;
-use crate::overlap::overlap;
+use crate::overlap::{lend_paths, overlap};
 use base_types::{DocPath, Seq, Text};
 use expr_lexer::{LexEnd, Token, tokens};
 use expr_words::{Condition, Given, Missing, ParseEnd, Paths, Stop, Used, Word, path_list, stuck, words};
-use std::alloc::Global;
+use std::alloc::{AllocError as NoMemory, Global};
 
 /// The most bytes of an expression.
 const MOST_BYTES: usize = 4096;
 
 /// The most levels of parentheses and NOT.
-const MOST_LEVELS: usize = 128;
+pub(crate) const MOST_LEVELS: usize = 128;
 
 /// The tokens of a text that is not too long.
-fn text_tokens(alloc: Global, text: &str) -> Result<Seq<Token>, ParseEnd>
+pub(crate) fn text_tokens(alloc: Global, text: &str) -> Result<Seq<Token>, ParseEnd>
     ensures { IsTokens text.now result }
 {
     if text.len() > MOST_BYTES {
@@ -43,7 +44,7 @@ fn text_tokens(alloc: Global, text: &str) -> Result<Seq<Token>, ParseEnd>
 
 /// What was parsed, if no word is left behind it.
 #[tactic(auto, using(expr_words::proofs::Steps::none_owed))]
-fn end<'a, T: Drop>(parsed: T, words: &[Word<'a>]) -> Result<T, Stop>
+pub(crate) fn end<'a, T: Drop>(parsed: T, words: &[Word<'a>]) -> Result<T, Stop>
     ensures { Ends parsed (meanings words.now) result }
 {
     match words {
@@ -81,7 +82,7 @@ fn place(text: &str, tokens: &[Token], left: usize) -> u32
 }
 
 /// What a stop of the parser means for the text.
-fn told(stop: Stop, text: &str, tokens: &[Token]) -> ParseEnd
+pub(crate) fn told(stop: Stop, text: &str, tokens: &[Token]) -> ParseEnd
     requires { length text.now < 2 ^ 32 }
     ensures { result ≡ end_of text.now tokens.now stop }
 {
@@ -110,7 +111,7 @@ fn undefined<'a>(alloc: Global, missing: Missing<'a>) -> ParseEnd
 }
 
 /// What was parsed, if no placeholder is missing.
-fn with_given<'a, T: Drop>(
+pub(crate) fn with_given<'a, T: Drop>(
     alloc: Global,
     parsed: T,
     first_missing: Option<Missing<'a>>,
@@ -123,6 +124,15 @@ fn with_given<'a, T: Drop>(
     }
 }
 
+/// Whether two of the paths overlap.
+fn have_overlap(alloc: Global, paths: &[DocPath]) -> Result<bool, NoMemory>
+    ensures { IfOk result (λ overlap. IsTrue overlap ↔ HaveOverlap paths.now) }
+{
+    let mut lent = Vec::with_capacity(alloc, paths.len())?;
+    lend_paths(paths, &mut lent)?;
+    Ok(overlap(lent.as_mut_slice()))
+}
+
 /// The paths, if no placeholder is missing and no two of them overlap.
 fn fit<'a>(
     alloc: Global,
@@ -132,10 +142,11 @@ fn fit<'a>(
     ensures { AreFit parsed first_missing.entry result }
 {
     let paths = with_given(alloc, parsed, first_missing)?;
-    if overlap(paths.as_slice()) {
-        return Err(ParseEnd::Overlap);
+    match have_overlap(alloc, paths.as_slice()) {
+        Ok(false) => Ok(paths),
+        Ok(true) => Err(ParseEnd::Overlap),
+        Err(_) => Err(ParseEnd::NoMemory),
     }
-    Ok(paths)
 }
 
 /// Reads a condition from a text's tokens.
@@ -152,7 +163,7 @@ fn condition_of(
     requires made_for { IsMadeFor given.now used.old }
     requires few_values { length given.now.value_names < 2 ^ 32 }
     ensures answer { IsAnswer tree
-        (ReadsTokens (IsCondition most_levels) ConditionFault given.now text.now tokens.now)
+        (ReadsTokens (IsCondition most_levels) NoFault NoFault given.now text.now tokens.now)
         result }
     ensures marks { OnOk result (MarksAll given.now text.now tokens.now used.old used.new) }
     ensures keeps { KeepsMarks used.old used.new }
@@ -182,7 +193,7 @@ fn paths_of(
     requires made_for { IsMadeFor given.now used.old }
     requires few_values { length given.now.value_names < 2 ^ 32 }
     ensures answer { IsAnswer (λ paths. paths)
-        (ReadsTokens ArePaths PathsFault given.now text.now tokens.now) result }
+        (ReadsTokens ArePaths NoFault PathsFault given.now text.now tokens.now) result }
     ensures marks { OnOk result (MarksAll given.now text.now tokens.now used.old used.new) }
     ensures keeps { KeepsMarks used.old used.new }
     ensures made_for { IsMadeFor given.now used.new }
