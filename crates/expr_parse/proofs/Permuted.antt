@@ -170,6 +170,6 @@ in_order paths sorted i j p q less first second =
     let q_is = same_path q (get_or paths j d).now (sym second ∙ pointee_at paths j d within) in
     let far = sorted_far lt (ranks_by (lists_total step_total) (λ (x : Bor DocPath). x.now.steps)) paths by i j d less within in
     let below : is_gt (steps_cmp (get_or paths i d).now.steps (get_or paths j d).now.steps) ≡ false =
-        not_above (steps_cmp (get_or paths i d).now.steps (get_or paths j d).now.steps)
-        (subst (λ o. is_lt o ≡ false) ((lists_total step_total).antisymm (get_or paths j d).now.steps (get_or paths i d).now.steps) far) in
+    not_above (steps_cmp (get_or paths i d).now.steps (get_or paths j d).now.steps)
+    (subst (λ o. is_lt o ≡ false) ((lists_total step_total).antisymm (get_or paths j d).now.steps (get_or paths i d).now.steps) far) in
     subst (λ x. is_gt (steps_cmp x.steps q.steps) ≡ false) (sym p_is) (subst (λ x. is_gt (steps_cmp (get_or paths i d).now.steps x.steps) ≡ false) (sym q_is) below)

@@ -12,7 +12,9 @@ ghost use Rattle.expr_words.specs.Machine.{Goes, reads, choice, Whole, Side, Sid
 use crate::operand::operand;
 use base_types::Seq;
 use expr_lexer::TokenKind;
-use expr_words::{Condition, Operand, Stop, Word, behind_comma, close_parenthesis, fewer, open_parenthesis, stuck};
+use expr_words::{
+    Condition, Operand, Stop, Word, behind_comma, close_parenthesis, fewer, open_parenthesis, stuck,
+};
 use std::alloc::Global;
 
 /// The most choices of an IN behind the first.

@@ -19,7 +19,9 @@ use crate::logic::disjunction;
 use crate::overlap::{lend_paths, overlap};
 use base_types::{DocPath, Seq, Text};
 use expr_lexer::{LexEnd, Token, tokens};
-use expr_words::{Condition, Given, Missing, ParseEnd, Paths, Stop, Used, Word, path_list, stuck, words};
+use expr_words::{
+    Condition, Given, Missing, ParseEnd, Paths, Stop, Used, Word, path_list, stuck, words,
+};
 use std::alloc::{AllocError as NoMemory, Global};
 
 /// The most bytes of an expression.

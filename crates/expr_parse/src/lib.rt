@@ -19,13 +19,16 @@ mod term;
 mod tree;
 mod update_expression;
 
-pub use expression::{condition, paths};
 pub use expr_words::{
-    Clause, Comparison, Condition, Given, NamePair, Operand, ParseEnd, PathValue, Paths, SetTo, Sum, Term, Used,
+    Clause, Comparison, Condition, Given, NamePair, Operand, ParseEnd, PathValue, Paths, SetTo,
+    Sum, Term, Used,
 };
+pub use expression::{condition, paths};
 pub use laws::{one_reading, one_tree};
 pub use tree::Update;
 pub use update_expression::update;
 
 #[cfg(test)]
 mod tests;
+#[cfg(test)]
+mod update_tests;

@@ -9,7 +9,10 @@ ghost use Rattle.expr_lexer.specs.declared.token.TokenKind.TheVariants as sign;
 ghost use Rattle.expr_words.specs.Machine.{Side, APath, AnOperand, NamedOperand, ASign, Do, MakePath, MakeSize};
 
 use expr_lexer::TokenKind;
-use expr_words::{Function, Operand, Stop, Word, called, close_parenthesis, document_path, fewer, function_of, held, open_parenthesis, stuck};
+use expr_words::{
+    Function, Operand, Stop, Word, called, close_parenthesis, document_path, fewer, function_of,
+    held, open_parenthesis, stuck,
+};
 use std::alloc::Global;
 
 /// The size of what stands at the path in parentheses.

@@ -26,7 +26,7 @@ fn left_of_terms(one: &Term, other: &Term, left: usize) -> Option<usize>
     ensures { MatchOption result
         (left < term_operators (term_tree one.now) + term_operators (term_tree other.now))
         (λ rest. rest + (term_operators (term_tree one.now) + term_operators (term_tree other.now))
-            ≡ left) }
+        ≡ left) }
 {
     left_of_term(other, left_of_term(one, left)?)
 }

@@ -13,7 +13,10 @@ use crate::choice::choice;
 use crate::operand::{operand, plain_operand, size_of};
 use base_types::DocPath;
 use expr_lexer::TokenKind;
-use expr_words::{Comparison, Condition, Function, Operand, Stop, Word, and, called, close_parenthesis, comma, document_path, fewer, function_of, open_parenthesis, stuck, value};
+use expr_words::{
+    Comparison, Condition, Function, Operand, Stop, Word, and, called, close_parenthesis, comma,
+    document_path, fewer, function_of, open_parenthesis, stuck, value,
+};
 use std::alloc::Global;
 
 /// The comparison of an operand with the one that follows.

@@ -18,10 +18,7 @@ use expr_words::{
 use std::alloc::Global;
 
 /// What stands at a path.
-fn path_term<'t, 'a>(
-    alloc: Global,
-    words: &'t [Word<'a>],
-) -> Result<(Term, &'t [Word<'a>]), Stop>
+fn path_term<'t, 'a>(alloc: Global, words: &'t [Word<'a>]) -> Result<(Term, &'t [Word<'a>]), Stop>
     ensures goes { Parses termed (APath ∷ Do MakeTerm ∷ []) [] words.now result }
     ensures shorter { IfOk result (λ x. length x.1.now < length words.now) }
 {
@@ -30,10 +27,7 @@ fn path_term<'t, 'a>(
 }
 
 /// A value or a path, where no function is called.
-fn plain_term<'t, 'a>(
-    alloc: Global,
-    words: &'t [Word<'a>],
-) -> Result<(Term, &'t [Word<'a>]), Stop>
+fn plain_term<'t, 'a>(alloc: Global, words: &'t [Word<'a>]) -> Result<(Term, &'t [Word<'a>]), Stop>
     requires { calls (meanings words.now) ≡ false }
     ensures goes { Parses termed (ATerm 0 ∷ []) [] words.now result }
     ensures shorter { IfOk result (λ x. length x.1.now < length words.now) }

@@ -2,17 +2,18 @@ ghost use Rattle.std.specs.Prelude.{◌<◌, ◌^◌, length, IfOk};
 ghost use Rattle.expr_words.specs.Marks.{IsMadeFor};
 
 use super::{
-    Comparison, Condition, Given, NamePair, Operand, ParseEnd, Paths, Used, condition, paths,
+    Clause, Comparison, Condition, Given, NamePair, Operand, ParseEnd, Paths, Used, condition,
+    paths,
 };
 use base_types::{DocPath, Seq, Step, Text};
 use std::alloc::{AllocError, Global};
 use std::test::Fail;
 
 /// Placeholders of names, with their names.
-const NAMES: [(&str, &str); 3] = [("#n", "name"), ("#k", "and"), ("#s", "size")];
+pub(crate) const NAMES: [(&str, &str); 3] = [("#n", "name"), ("#k", "and"), ("#s", "size")];
 
 /// Placeholders of values, whose places are 0, 1 and 2.
-const VALUES: [&str; 3] = [":v", ":w", ":x"];
+pub(crate) const VALUES: [&str; 3] = [":v", ":w", ":x"];
 
 /// Conditions, and their trees or faults.
 const CONDITIONS: [(&str, &str); 120] = [
@@ -201,7 +202,11 @@ const PROJECTIONS: [(&str, &str); 26] = [
     ("a, a, #q", "undefined name #q"),
 ];
 
-fn given(alloc: Global, names: &[(&str, &str)], values: &[&str]) -> Result<Given, AllocError>
+pub(crate) fn given(
+    alloc: Global,
+    names: &[(&str, &str)],
+    values: &[&str],
+) -> Result<Given, AllocError>
     requires { length values.now < 2 ^ 32 }
     ensures { IfOk result (λ given. length given.value_names < 2 ^ 32) }
 {
@@ -222,7 +227,7 @@ fn given(alloc: Global, names: &[(&str, &str)], values: &[&str]) -> Result<Given
     })
 }
 
-fn path_text(alloc: Global, path: &DocPath) -> Result<String, AllocError> {
+pub(crate) fn path_text(alloc: Global, path: &DocPath) -> Result<String, AllocError> {
     let mut out = String::new(alloc);
     for step in path.steps.iter() {
         match step {
@@ -335,14 +340,25 @@ fn tree_text(alloc: Global, condition: &Condition) -> Result<String, AllocError>
     }
 }
 
-fn fault_text(alloc: Global, end: &ParseEnd) -> Result<String, AllocError> {
+fn clause_name(clause: Clause) -> &'static str {
+    match clause {
+        Clause::Set => "set",
+        Clause::Remove => "remove",
+        Clause::Add => "add",
+        Clause::Delete => "delete",
+    }
+}
+
+pub(crate) fn fault_text(alloc: Global, end: &ParseEnd) -> Result<String, AllocError> {
     match end {
         ParseEnd::Syntax { place } => format!(in alloc; "syntax {place}"),
         ParseEnd::UndefinedName { name } => format!(in alloc; "undefined name {name}"),
         ParseEnd::UndefinedValue { name } => format!(in alloc; "undefined value {name}"),
         ParseEnd::TooLong => String::from_str(alloc, "too long"),
         ParseEnd::Overlap => String::from_str(alloc, "overlap"),
-        _ => String::from_str(alloc, "another fault"),
+        ParseEnd::TooManyOperators => String::from_str(alloc, "too many operators"),
+        ParseEnd::ClauseTwice { clause } => { format!(in alloc; "twice {}", clause_name(*clause)) }
+        ParseEnd::NoMemory => String::from_str(alloc, "no memory"),
     }
 }
 

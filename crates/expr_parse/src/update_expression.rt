@@ -48,10 +48,7 @@ fn lend_set_paths<'p>(sets: &'p [SetTo], lent: &mut Vec<&'p DocPath>) -> Result<
 }
 
 /// Adds the paths of pairs to those that are lent.
-fn lend_pair_paths<'p>(
-    pairs: &'p [PathValue],
-    lent: &mut Vec<&'p DocPath>,
-) -> Result<(), NoMemory>
+fn lend_pair_paths<'p>(pairs: &'p [PathValue], lent: &mut Vec<&'p DocPath>) -> Result<(), NoMemory>
     ensures { OnOk result
         (pointees lent.new.items ≡ pointees lent.old.items ++ map (λ pair. pair.path) pairs.now) }
 {
@@ -115,7 +112,7 @@ fn judged<'a>(
 ) -> Result<Update, ParseEnd>
     ensures { IsAnswer update_tree
         (AsUpdate (IsVerdict TwiceFault ClausesFault (option_map fault_of first_missing.entry)
-            (map section_tree sections)))
+        (map section_tree sections)))
         result }
 {
     if let Some(clause) = first_twice(sections.as_slice()) {
@@ -140,7 +137,7 @@ fn update_of(
     requires few_values { length given.now.value_names < 2 ^ 32 }
     ensures answer { IsAnswer update_tree
         (AsUpdate (ReadsTokens (IsUpdate most_levels) TwiceFault ClausesFault
-            given.now text.now tokens.now))
+        given.now text.now tokens.now))
         result }
     ensures marks { OnOk result (MarksAll given.now text.now tokens.now used.old used.new) }
     ensures keeps { KeepsMarks used.old used.new }
@@ -185,12 +182,7 @@ fn read_update(
 /// UndefinedValue for the first placeholder that is not given; TooManyOperators above 300 of `+`, `-`, `if_not_exists`
 /// and `list_append` together; Overlap where the steps of one written path begin another's. NoMemory where memory is
 /// refused.
-pub fn update(
-    alloc: Global,
-    text: &str,
-    given: &Given,
-    used: &mut Used,
-) -> Result<Update, ParseEnd>
+pub fn update(alloc: Global, text: &str, given: &Given, used: &mut Used) -> Result<Update, ParseEnd>
     requires made_for { IsMadeFor given.now used.old }
     requires few_values { length given.now.value_names < 2 ^ 32 }
     ensures tree { IfOk result (λ u. ReadsUpdate given.now text.now (Ok (update_tree u))) }

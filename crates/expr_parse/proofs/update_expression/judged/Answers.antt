@@ -17,13 +17,13 @@ pub returns-in_err-sections : goal.returns-in_err-sections
 returns-in_err-sections c =
     let p = err_from_is_err_and c.from_residual.result c.from_residual.ensures.1 in
     let once : TwiceFault (map section_tree c.args.sections) None =
-        ap (option_map (λ clause. ClauseTwice clause)) (sym c.in_default.is ∙ c.first_twice.ensures ∙ ap (λ l. first_twice [] (map section_tree l)) c.as_slice.ensures) in
+    ap (option_map (λ clause. ClauseTwice clause)) (sym c.in_default.is ∙ c.first_twice.ensures ∙ ap (λ l. first_twice [] (map section_tree l)) c.as_slice.ensures) in
     rw (p.1, p.2) (missing_update c.args.sections c.args.first_missing c.in_err-sections.field-0.0 once c.in_err-sections.ensures)
 
 pub returns : goal.returns
 returns c =
     let once : TwiceFault (map section_tree c.args.sections) None =
-        ap (option_map (λ clause. ClauseTwice clause)) (sym c.in_default.is ∙ c.first_twice.ensures ∙ ap (λ l. first_twice [] (map section_tree l)) c.as_slice.ensures) in
+    ap (option_map (λ clause. ClauseTwice clause)) (sym c.in_default.is ∙ c.first_twice.ensures ∙ ap (λ l. first_twice [] (map section_tree l)) c.as_slice.ensures) in
     let g = all_given c.args.sections c.in_ok-sections.sections c.args.first_missing c.in_ok-sections.ensures in
     bounded_update (map section_tree c.args.sections) (draft_tree c.of.result) (option_map fault_of c.args.first_missing) c.bounded.result once g.1
     (c.of.ensures ∙ ap (λ l. update_of (map section_tree l)) g.0) c.bounded.ensures
