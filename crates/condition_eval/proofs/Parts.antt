@@ -1,5 +1,5 @@
 -- Substrings, elements and counts.
-use Rattle.std.proofs.Common.{◌≡◌, ℕ, zero, suc, ◌+◌, ◌<◌, ◌≤◌, List, [], ◌∷◌, length, Bool, true, false, ◌||◌, Option, Some, None, take, drop, refl, sym, ap, ◌∙◌, arith, rules}
+use Rattle.std.proofs.Common.{◌≡◌, ℕ, zero, suc, ◌+◌, ◌≤◌, List, [], ◌∷◌, length, Bool, true, false, ◌||◌, Option, Some, None, take, drop, refl, sym, ap, ◌∙◌, arith}
 use Rattle.std.proofs.Common.{◌++◌, ◌-◌, ◌==◌, is_some, ⊎_elim, length-append, length-drop}
 use Rattle.std.proofs.lemmas.Bool.{or_left, or_right, or_cases}
 use Rattle.std.proofs.lemmas.Bool.Decides.{Decides-eqb}
@@ -14,8 +14,6 @@ use Rattle.ordered_set.specs.Sets.{has}
 use Rattle.std.specs.List.{list_any}
 use Rattle.memchr.specs.Find.{OccursAt, FindsNeedle}
 use Rattle.memchr.proofs.lemmas.MatchLemmas.{OccursAt-split, OccursAt-from_part}
-use Rattle.attr_value.specs.Tree as tree
-use Rattle.attr_value.specs.Tree.{Tree}
 use Rattle.attr_value.specs.Equality.{same}
 use Rattle.attr_value.specs.Sizes.{count}
 use Rattle.attr_value.specs.View.{tree_of, trees_of}

@@ -1,10 +1,9 @@
 -- When a condition is true of an item.
-use Rattle.std.specs.Prelude.{ℕ, ◌*◌, ◌^◌, ℤ, pos, Bool, true, false, ◌&&◌, ◌||◌, not, ◌==◌, List, [], ◌∷◌, length, slice_get, bytes_eq, codes}
+use Rattle.std.specs.Prelude.{ℕ, ◌*◌, ◌^◌, pos, Bool, false, ◌&&◌, ◌||◌, not, ◌==◌, List, [], ◌∷◌, length, slice_get, bytes_eq, codes}
 use Rattle.std.specs.Prelude.{Option, Some, None, option_map, option_and_then, is_some}
 use Rattle.std.specs.List.{list_any, starts_with}
 use Rattle.std.specs.Ordering.{int_eq, is_lt, is_le, is_gt, is_ge, is_eq, is_ne}
 use Rattle.std.specs.declared.cmp.Ordering.{Ordering}
-use Rattle.base_types.specs.declared.path.DocPath.{DocPath}
 use Rattle.attr_value.specs.Tree as tree
 use Rattle.attr_value.specs.Tree.{Tree, Trees, Attributes, text, number, binary, boolean, null, list, map, text_set, number_set, binary_set}
 use Rattle.attr_value.specs.Equality.{same, order}

@@ -1,7 +1,6 @@
 use Rattle.std.proofs.Common.{◌∙◌, ap}
-use Rattle.attr_value.specs.Equality.{same}
 use Rattle.attr_value.specs.View.{tree_of}
-use Rattle.condition_eval.specs.Truth.{holds_part, has_element}
+use Rattle.condition_eval.specs.Truth.{has_element}
 use Rattle.condition_eval.proofs.Parts.{has_bytes, has_element_any}
 use Rattle.condition_eval.proofs.compare.holds_part.Goals as goal
 
