@@ -6,3 +6,4 @@ pub mod Viability
 pub mod Complete
 pub mod Resolve
 pub mod Ascending
+pub mod Mentions

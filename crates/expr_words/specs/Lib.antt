@@ -9,3 +9,6 @@ pub mod Functions
 pub mod Machine
 pub mod Parses
 pub mod Fronts
+pub mod Equality
+pub mod EqualityLaws
+pub mod Mentions

@@ -6,10 +6,13 @@
 //! parts, here and in `expr_parse`, each say what they read in the machine's terms (`specs/Parses.antt`).
 #![tactic(auto)]
 
+mod copy;
+mod equality;
 mod front;
 mod function;
 mod given;
 mod meaning;
+mod mention;
 mod parse_end;
 mod path;
 mod sign;
@@ -21,11 +24,10 @@ pub use front::{behind_comma, called, fewer, held, value};
 pub use function::{Function, function_of};
 pub use given::{Given, NamePair, Used};
 pub use meaning::{Missing, Reading, words};
+pub use mention::Mention;
 pub use parse_end::{Clause, ParseEnd};
 pub use path::{document_path, path_list};
 pub use sign::{and, close_bracket, close_parenthesis, comma, equal, open_parenthesis, stuck};
 pub use stop::Stop;
-pub use tree::{
-    Comparison, Condition, Operand, PathValue, Paths, Section, SetTo, Sum, Term,
-};
+pub use tree::{Comparison, Condition, Operand, PathValue, Paths, Section, SetTo, Sum, Term};
 pub use word::Word;

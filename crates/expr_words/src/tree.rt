@@ -86,7 +86,7 @@ pub enum Term {
 }
 
 /// What a path is set to.
-#[derive(Debug, Drop)]
+#[derive(Debug, PartialEq, Eq, Drop)]
 pub enum Sum {
     One(Term),
     /// `left + right`.
@@ -96,7 +96,7 @@ pub enum Sum {
 }
 
 /// `path = sum`, of a SET.
-#[derive(Debug, Drop)]
+#[derive(Debug, PartialEq, Eq, Drop)]
 pub struct SetTo {
     pub path: DocPath,
     pub sum: Sum,

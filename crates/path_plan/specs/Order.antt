@@ -1,0 +1,38 @@
+-- The order of paths, and of a path's first step beside a step that is looked for.
+use Rattle.std.specs.Prelude.{◌≡◌, ℕ, List, [], ◌∷◌, ⊤, false}
+use Rattle.std.specs.Cmp.Lexicographic.{slice_cmp}
+use Rattle.std.specs.List.{AllByRecursion}
+use Rattle.std.specs.Ordering.{nat_cmp, is_gt}
+use Rattle.std.specs.declared.cmp.Ordering.{Ordering}
+use Rattle.std.specs.declared.cmp.Ordering.TheVariants.{Less, Equal, Greater}
+use Rattle.base_types.specs.declared.path.Step.{Step}
+use Rattle.base_types.specs.declared.path.Step.TheVariants as step
+use Rattle.path_plan.specs.declared.key.Key.{Key}
+use Rattle.path_plan.specs.declared.key.Key.TheVariants.{Name, Place}
+
+-- names by their bytes, and then places by number
+abbrev pub step_order : Step → Step → Ordering
+step_order (step.Name a) (step.Name b) = slice_cmp nat_cmp a b
+step_order (step.Name a) (step.Index j) = Less
+step_order (step.Index i) (step.Name b) = Greater
+step_order (step.Index i) (step.Index j) = nat_cmp i j
+
+-- by the first different step, a proper front first
+abbrev pub path_order : List Step → List Step → Ordering
+path_order = slice_cmp step_order
+
+abbrev pub step_key_order : Key → Step → Ordering
+step_key_order (Name name) (step.Name here) = slice_cmp nat_cmp here name.now
+step_key_order (Name name) (step.Index here) = Greater
+step_key_order (Place place) (step.Name here) = Less
+step_key_order (Place place) (step.Index here) = nat_cmp here place
+
+-- a path's first step beside the one that is looked for; no step is below
+abbrev pub key_order : Key → List Step → Ordering
+key_order key [] = Less
+key_order key (first ∷ steps) = step_key_order key first
+
+-- no path is above a later one
+abbrev pub AreInOrder : {A : Type 0} → List (List Step × A) → Type 0
+AreInOrder [] = ⊤
+AreInOrder (e ∷ es) = AllByRecursion (λ f. is_gt (path_order e.0 f.0) ≡ false) es × AreInOrder es
