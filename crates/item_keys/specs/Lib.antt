@@ -3,3 +3,7 @@ pub mod Place
 pub mod Order
 pub mod OrderLaws
 pub mod ScanOrder
+pub mod FaultName
+pub mod ItemKey
+pub mod Part
+pub mod Row

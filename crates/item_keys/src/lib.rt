@@ -11,12 +11,19 @@
 //! Contracts see a text as the list of its bytes and a number as one whole number, as in the crates below.
 #![tactic(auto)]
 
+mod fault;
+mod item_key;
 mod key;
+mod part;
 mod places;
+mod row;
 mod value;
 
+pub use fault::{KeyEnd, KeyFault};
+pub use item_key::{key_of, key_only};
 pub use key::{Key, PlacedKey};
 pub use places::{PlaceRange, cell_of, place, segment_places};
+pub use row::project;
 pub use value::KeyValue;
 
 #[cfg(test)]

@@ -1,6 +1,8 @@
 pub mod Name
 pub mod NameSet
+pub mod Kind
 pub mod Key
+pub mod KeyName
 pub mod Index
 pub mod Rule
 pub mod Fault

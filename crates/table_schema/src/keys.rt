@@ -1,5 +1,6 @@
 ghost use Rattle.std.specs.Prelude.{◌≡◌, IfOk, IsTrue, ◌↔◌};
 ghost use Rattle.table_schema.specs.Key.{Names, IsKeySchema, IsLocalTo, elements_of};
+ghost use Rattle.table_schema.specs.KeyName.{is_key_name};
 
 use base_types::Text;
 use std::alloc::AllocError as NoMemory;
@@ -26,8 +27,9 @@ impl KeyNames {
     }
 
     /// Whether the attribute is a part of the key.
-    pub(crate) fn names(&self, name: &Text) -> bool
-        ensures { IsTrue result ↔ Names (elements_of self.now) name.now }
+    pub fn names(&self, name: &Text) -> bool
+        ensures value { result ≡ is_key_name self.now name.now }
+        ensures names { IsTrue result ↔ Names (elements_of self.now) name.now }
     {
         if self.partition == *name {
             return true;

@@ -1,6 +1,7 @@
 ghost use Rattle.std.specs.Prelude.{◌≡◌, IfOk};
+ghost use Rattle.table_schema.specs.Kind.{kind_of};
 
-use crate::definition::Definition;
+use crate::definition::{Definition, KeyKind};
 use crate::index::{GlobalIndex, LocalIndex};
 use crate::keys::KeyNames;
 use base_types::{Seq, Text};
@@ -25,6 +26,18 @@ pub struct Schema {
 }
 
 impl Schema {
+    /// The type of the attribute of this name, where it is defined.
+    pub fn kind_of(&self, name: &Text) -> Option<KeyKind>
+        ensures { result ≡ kind_of name.now self.now.definitions }
+    {
+        for definition in self.definitions.as_slice() {
+            if definition.name == *name {
+                return Some(definition.kind);
+            }
+        }
+        None
+    }
+
     /// An equal schema.
     pub fn try_clone(&self) -> Result<Schema, NoMemory>
         ensures { IfOk result (λ copy. copy ≡ self.now) }
