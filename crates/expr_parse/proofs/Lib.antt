@@ -7,3 +7,4 @@ pub mod Twice
 pub mod Drafts
 pub mod Ordered
 pub mod Permuted
+pub mod Copies

@@ -5,14 +5,32 @@ ghost use Rattle.expr_parse.specs.UpdateTree.{tree_of, written};
 
 use base_types::{DocPath, Seq};
 use expr_words::{PathValue, SetTo};
+use std::alloc::AllocError as NoMemory;
 
 /// An update of an item (DynamoDB Developer Guide, "Update expressions"): what its clauses list. Of two paths that it
 /// writes the steps of none begin the other's.
-#[derive(Debug, Drop)]
+#[derive(Debug, PartialEq, Eq, Drop)]
 pub struct Update {
     pub sets: Seq<SetTo>,
     pub removes: Seq<DocPath>,
     pub adds: Seq<PathValue>,
     pub deletes: Seq<PathValue>,
     ghost apart: { ¬ HaveOverlap (written (tree_of sets removes adds deletes)) },
+}
+
+impl Update {
+    ghost use Rattle.std.specs.Prelude.{◌≡◌, IfOk};
+    ghost use Rattle.expr_parse.specs.Update.{update_tree};
+
+    /// An equal update.
+    pub fn try_clone(&self) -> Result<Update, NoMemory>
+        ensures { IfOk result (λ copy. update_tree copy ≡ update_tree self.now) }
+    {
+        Ok(Update {
+            sets: self.sets.try_clone()?,
+            removes: self.removes.try_clone()?,
+            adds: self.adds.try_clone()?,
+            deletes: self.deletes.try_clone()?,
+        })
+    }
 }
