@@ -20,8 +20,8 @@ mod tree;
 mod update_expression;
 
 pub use expr_words::{
-    Clause, Comparison, Condition, Given, NamePair, Operand, ParseEnd, PathValue, Paths, SetTo,
-    Sum, Term, Used,
+    Clause, Comparison, Condition, Given, Mention, NamePair, Operand, ParseEnd, PathValue, Paths,
+    SetTo, Sum, Term, Used,
 };
 pub use expression::{condition, paths};
 pub use laws::{one_reading, one_tree};

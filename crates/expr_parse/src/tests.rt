@@ -2,8 +2,8 @@ ghost use Rattle.std.specs.Prelude.{◌<◌, ◌^◌, length, IfOk};
 ghost use Rattle.expr_words.specs.Marks.{IsMadeFor};
 
 use super::{
-    Clause, Comparison, Condition, Given, NamePair, Operand, ParseEnd, Paths, Used, condition,
-    paths,
+    Clause, Comparison, Condition, Given, Mention, NamePair, Operand, ParseEnd, Paths, Used,
+    condition, paths,
 };
 use base_types::{DocPath, Seq, Step, Text};
 use std::alloc::{AllocError, Global};
@@ -556,5 +556,88 @@ fn placeholder_given_twice(rt: HostRuntime) -> Result<(), Fail> {
     let paths = paths(alloc, "#n.c", &given, &mut used)?;
     assert_eq!(rt; paths_list_text(alloc, &paths)?.as_str(), "a.c");
     assert_eq!(rt; used.unused(&given), Some(1));
+    Ok(())
+}
+
+/// Two conditions, and whether they are equal.
+const PAIRS: [(&str, &str, bool); 14] = [
+    ("a = :v", "a=:v", true),
+    ("#n = :v", "name = :v", true),
+    ("a = b AND c = d", "((a = b) AND (c = d))", true),
+    ("a IN (:v, size(b))", "a in (:v,size(b))", true),
+    ("attribute_type(a, :v)", "attribute_type (a, :v)", true),
+    ("a = :v", "a = :w", false),
+    ("a = b", "a <> b", false),
+    ("a = b", "b = a", false),
+    ("a = b AND c = d", "c = d AND a = b", false),
+    ("a = b AND c = d", "a = b OR c = d", false),
+    ("a IN (:v, :w)", "a IN (:v)", false),
+    ("a[1] = b", "a[2] = b", false),
+    ("size(a) = b", "a = b", false),
+    ("attribute_exists(a)", "attribute_not_exists(a)", false),
+];
+
+fn read(alloc: Global, text: &str) -> Result<Condition, ParseEnd> {
+    let given = given(alloc, &NAMES, &VALUES).map_err(|_| ParseEnd::NoMemory)?;
+    let mut used = Used::make(alloc, &given).map_err(|_| ParseEnd::NoMemory)?;
+    condition(alloc, text, &given, &mut used)
+}
+
+#[test]
+fn equality(rt: HostRuntime) -> Result<(), Fail> {
+    let alloc = rt.alloc();
+    for (text, other, equal) in PAIRS.iter() {
+        let condition = read(alloc, text)?;
+        assert_eq!(rt;
+            condition == read(alloc, other)?,
+            *equal,
+            "{text:?} {other:?}"
+        );
+        assert!(rt; condition.try_clone()? == condition, "{text:?}");
+    }
+    Ok(())
+}
+
+/// Conditions, and what they mention.
+const MENTIONS: [(&str, &str); 6] = [
+    ("a = :v", "a :0"),
+    (":w < size(a.b) AND NOT attribute_exists(c)", ":1 a.b c"),
+    (
+        "attribute_type(b, :w) OR a = :v AND b = c",
+        "b kind:1 a :0 b c",
+    ),
+    ("a IN (:v, b, size(c))", "a :0 b c"),
+    ("(a BETWEEN :x AND b) OR contains(c, :v)", "a :2 b c :0"),
+    ("begins_with(a, b) OR attribute_not_exists(#n)", "a b name"),
+];
+
+fn mention_text(alloc: Global, mention: &Mention) -> Result<String, AllocError> {
+    match mention {
+        Mention::Path(path) => path_text(alloc, path),
+        Mention::Value(place) => format!(in alloc; ":{place}"),
+        Mention::Kind(place) => format!(in alloc; "kind:{place}"),
+    }
+}
+
+fn mentions_text(alloc: Global, condition: &Condition) -> Result<String, AllocError> {
+    let mut out = String::new(alloc);
+    for mention in condition.mentions(alloc)?.iter() {
+        if !out.is_empty() {
+            out.push_str(" ")?;
+        }
+        let mention = mention_text(alloc, mention)?;
+        out.push_str(mention.as_str())?;
+    }
+    Ok(out)
+}
+
+#[test]
+fn mentions(rt: HostRuntime) -> Result<(), Fail> {
+    let alloc = rt.alloc();
+    for (text, expected) in MENTIONS.iter() {
+        let condition = read(alloc, text)?;
+        let told = mentions_text(alloc, &condition)?;
+        assert_eq!(rt; told.as_str(), *expected, "{text:?}");
+    }
     Ok(())
 }

@@ -1,7 +1,7 @@
 //! Updates from their text, case by case.
 
 use crate::tests::{NAMES, VALUES, fault_text, given, path_text};
-use crate::{PathValue, SetTo, Sum, Term, Update, Used, update};
+use crate::{ParseEnd, PathValue, SetTo, Sum, Term, Update, Used, update};
 use std::alloc::{AllocError, Global};
 use std::test::Fail;
 
@@ -363,6 +363,45 @@ fn most_operators(rt: HostRuntime) -> Result<(), Fail> {
         let text = sums_text(alloc, *count, last)?;
         let told = told(alloc, text.as_str())?;
         assert_eq!(rt; told.as_str(), *expected, "{count} {last}");
+    }
+    Ok(())
+}
+
+/// Two updates, and whether they are equal.
+const PAIRS: [(&str, &str, bool); 10] = [
+    ("SET a = :v REMOVE b", "REMOVE b SET a = :v", true),
+    ("SET #n = :v", "set name=:v", true),
+    (
+        "SET a = list_append(b, if_not_exists(c, :v))",
+        "SET a = list_append(b,if_not_exists(c,:v))",
+        true,
+    ),
+    ("ADD n :v DELETE s :w", "DELETE s :w ADD n :v", true),
+    ("SET a = :v", "SET a = :w", false),
+    ("SET a = b + c", "SET a = b - c", false),
+    ("SET a = b, c = d", "SET c = d, a = b", false),
+    (
+        "SET a = list_append(b, c)",
+        "SET a = list_append(c, b)",
+        false,
+    ),
+    ("ADD n :v", "DELETE n :v", false),
+    ("REMOVE a, b", "REMOVE a", false),
+];
+
+fn read(alloc: Global, text: &str) -> Result<Update, ParseEnd> {
+    let given = given(alloc, &NAMES, &VALUES).map_err(|_| ParseEnd::NoMemory)?;
+    let mut used = Used::make(alloc, &given).map_err(|_| ParseEnd::NoMemory)?;
+    update(alloc, text, &given, &mut used)
+}
+
+#[test]
+fn equal_updates(rt: HostRuntime) -> Result<(), Fail> {
+    let alloc = rt.alloc();
+    for (text, other, equal) in PAIRS.iter() {
+        let update = read(alloc, text)?;
+        assert_eq!(rt; update == read(alloc, other)?, *equal, "{text:?} {other:?}");
+        assert!(rt; update.try_clone()? == update, "{text:?}");
     }
     Ok(())
 }

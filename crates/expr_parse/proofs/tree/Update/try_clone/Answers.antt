@@ -8,9 +8,11 @@ pub invariant_of-result : goal.invariant_of-result
 invariant_of-result c =
     let u = c.args.self.now in
     let P : UpdateTree → Type 0 = λ t. ¬ HaveOverlap (written t) in
-    record { apart = subst P (sym (copied_tree u.sets c.in_ok-try_clone.field-0 u.removes c.in_ok-try_clone-2.field-0 u.adds c.in_ok-try_clone-3.field-0
-    u.deletes c.in_ok-try_clone-4.field-0 c.in_ok-try_clone.ensures c.in_ok-try_clone-2.ensures c.in_ok-try_clone-3.ensures c.in_ok-try_clone-4.ensures))
-    u.apart }
+    record {
+      apart = subst P (sym (copied_tree u.sets c.in_ok-try_clone.field-0 u.removes c.in_ok-try_clone-2.field-0 u.adds c.in_ok-try_clone-3.field-0
+          u.deletes c.in_ok-try_clone-4.field-0 c.in_ok-try_clone.ensures c.in_ok-try_clone-2.ensures c.in_ok-try_clone-3.ensures c.in_ok-try_clone-4.ensures))
+          u.apart;
+    }
 
 pub returns : goal.returns
 returns c =
