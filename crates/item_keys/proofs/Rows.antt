@@ -37,7 +37,7 @@ module _ (name : List ℕ) (value : Tree) (rest : Attributes) where
   put_last no_attributes order = refl
   put_last (attribute n t row) order =
       let above : slice_cmp nat_cmp name n ≡ Greater =
-          nat_list_cmp_total.antisymm name n ∙ ap ordering_reverse (below_name n row order.0) in
+      nat_list_cmp_total.antisymm name n ∙ ap ordering_reverse (below_name n row order.0) in
       ap (λ o. match_ordering o (attribute name value (attribute n t row)) (attribute n value row) (attribute n t (put name value row))) above
       ∙ ap (attribute n t) (put_last row order.1)
 

@@ -1,8 +1,13 @@
-use super::{Key, KeyValue, PlaceRange, PlacedKey, cell_of, place, segment_places};
-use base_types::{Bytes, Text};
+use super::{
+    Key, KeyEnd, KeyValue, PlaceRange, PlacedKey, cell_of, key_of, key_only, place, project,
+    segment_places,
+};
+use attr_value::{Item, Value};
+use base_types::{Bytes, Seq, Text};
 use std::alloc::Global;
 use std::process::Abort;
 use std::test::Fail;
+use table_schema::{Definition, GlobalIndex, KeyKind, KeyNames, Projection, Schema};
 
 fn text(alloc: Global, from: &str) -> Result<KeyValue, Fail> {
     Ok(KeyValue::S(Text::copied(alloc, from)?))
@@ -135,5 +140,207 @@ fn values(rt: HostRuntime) -> Result<(), Fail> {
         sort: Some(number),
     };
     assert!(rt; key == key.clone()?);
+    Ok(())
+}
+
+/// An item of attributes that are written as `name=S:text`, `N:number` or `B:bytes`; `S:a*3` is `aaa`.
+fn item(alloc: Global, text: &str) -> Result<Item, Fail> {
+    let mut item = Item::new(alloc);
+    for word in text.split_whitespace() {
+        let (name, value) = word.split_once('=').ok_or("no name")?;
+        item.put(Text::copied(alloc, name)?, value_of(alloc, value)?)?;
+    }
+    Ok(item)
+}
+
+fn value_of(alloc: Global, text: &str) -> Result<Value, Fail> {
+    let (kind, written) = text.split_once(':').ok_or("no type")?;
+    let content = repeated(alloc, written)?;
+    Ok(match kind {
+        "N" => Value::N(number38::parse(content.as_str()).ok().ok_or("no number")?),
+        "B" => Value::B(Bytes::copied(alloc, content.as_str().as_bytes())?),
+        _ => Value::S(content),
+    })
+}
+
+fn repeated(alloc: Global, text: &str) -> Result<Text, Fail> {
+    let Some((part, count)) = text.split_once('*') else {
+        return Ok(Text::copied(alloc, text)?);
+    };
+    let mut all = String::new(alloc);
+    for _ in 0..count.parse::<u32>()? {
+        all.push_str(part)?;
+    }
+    Ok(Text::from(all))
+}
+
+fn names(alloc: Global, partition: &str, sort: Option<&str>) -> Result<KeyNames, Fail> {
+    let sort = match sort {
+        Some(name) => Some(Text::copied(alloc, name)?),
+        None => None,
+    };
+    let partition = Text::copied(alloc, partition)?;
+    Ok(KeyNames { partition, sort })
+}
+
+/// A table `Orders` of items by `id` (S), in which `state` (S), `at` (N) and `tag` (B) may serve in keys.
+fn orders(alloc: Global) -> Result<Schema, Fail> {
+    let mut definitions = Seq::new(alloc);
+    for (name, kind) in [
+        ("id", KeyKind::S),
+        ("state", KeyKind::S),
+        ("at", KeyKind::N),
+        ("tag", KeyKind::B),
+    ] {
+        let name = Text::copied(alloc, name)?;
+        definitions.push(Definition { name, kind })?;
+    }
+    Ok(Schema {
+        name: Text::copied(alloc, "Orders")?,
+        definitions,
+        keys: names(alloc, "id", None)?,
+        locals: Seq::new(alloc),
+        globals: Seq::new(alloc),
+        on_demand: true,
+        read_units: 0,
+        write_units: 0,
+        created: 0,
+    })
+}
+
+/// What a call answers for a key, as error texts show a fault.
+fn told(alloc: Global, answer: Result<Key, KeyEnd>) -> Result<String, Fail> {
+    match answer {
+        Ok(_) => Ok(String::from_str(alloc, "a key")?),
+        Err(KeyEnd::Fault(fault)) => Ok(format!(in alloc; "{fault}")?),
+        Err(KeyEnd::NoMemory) => Err(Fail::from("no memory")),
+    }
+}
+
+/// The partition key and the sort key, an item, and what `key_of` and `key_only` answer.
+static KEYS: [(&str, Option<&str>, &str, &str, &str); 21] = [
+    ("id", None, "id=S:o1", "a key", "a key"),
+    ("id", None, "id=S:o1 sum=N:9", "a key", "Extra"),
+    ("id", None, "", "Missing", "Missing"),
+    ("id", None, "ID=S:o1", "Missing", "Missing"),
+    ("id", None, "id=N:1", "WrongType", "WrongType"),
+    ("id", None, "id=S:", "Empty", "Empty"),
+    ("id", None, "id=S:a*2048", "a key", "a key"),
+    ("id", None, "id=S:a*2049", "TooLong", "TooLong"),
+    ("id", None, "id=S:é*1024", "a key", "a key"),
+    ("id", None, "id=S:é*1025", "TooLong", "TooLong"),
+    ("tag", None, "tag=B:", "Empty", "Empty"),
+    ("tag", None, "tag=B:a*2048", "a key", "a key"),
+    ("tag", None, "tag=B:a*2049", "TooLong", "TooLong"),
+    ("id", Some("at"), "id=S:o1 at=N:1E-130", "a key", "a key"),
+    ("id", Some("at"), "id=S:o1", "Missing", "Missing"),
+    ("id", Some("at"), "id=S:o1 sum=N:9", "Missing", "Missing"),
+    ("id", Some("at"), "id=S: at=S:late", "Empty", "Empty"),
+    (
+        "id",
+        Some("at"),
+        "id=S:o1 at=S:late sum=N:9",
+        "WrongType",
+        "WrongType",
+    ),
+    (
+        "at",
+        Some("state"),
+        "at=N:5 state=S:a*1024",
+        "a key",
+        "a key",
+    ),
+    (
+        "at",
+        Some("state"),
+        "at=N:5 state=S:a*1025",
+        "TooLong",
+        "TooLong",
+    ),
+    (
+        "at",
+        Some("state"),
+        "at=N:5 state=S:new id=S:o1",
+        "a key",
+        "Extra",
+    ),
+];
+
+#[test]
+fn keys(rt: HostRuntime) -> Result<(), Fail> {
+    let alloc = rt.alloc();
+    let schema = orders(alloc)?;
+    for (partition, sort, text, of, only) in KEYS {
+        let names = names(alloc, partition, sort)?;
+        let item = item(alloc, text)?;
+        let of_answer = told(alloc, key_of(alloc, &schema, &names, &item))?;
+        assert_eq!(rt; of_answer.as_str(), of, "{text}");
+        let only_answer = told(alloc, key_only(alloc, &schema, &names, &item))?;
+        assert_eq!(rt; only_answer.as_str(), only, "{text}");
+    }
+    Ok(())
+}
+
+/// The projection of a row of an index by `state` and `at`: all, those of the keys, or those and the named ones.
+fn projection(alloc: Global, text: &str) -> Result<Projection, Fail> {
+    if text == "ALL" {
+        return Ok(Projection::All);
+    }
+    let mut names = Seq::new(alloc);
+    for name in text.split_whitespace() {
+        names.push(Text::copied(alloc, name)?)?;
+    }
+    if names.is_empty() {
+        return Ok(Projection::KeysOnly);
+    }
+    Ok(Projection::Include(names))
+}
+
+/// A projection, an item, and its row.
+static ROWS: [(&str, &str, Option<&str>); 9] = [
+    (
+        "",
+        "id=S:o1 state=S:new at=N:5 sum=N:9",
+        Some("id=S:o1 state=S:new at=N:5"),
+    ),
+    (
+        "sum",
+        "id=S:o1 state=S:new at=N:5 sum=N:9 by=S:me",
+        Some("id=S:o1 state=S:new at=N:5 sum=N:9"),
+    ),
+    (
+        "sum",
+        "id=S:o1 state=S:new at=N:5",
+        Some("id=S:o1 state=S:new at=N:5"),
+    ),
+    (
+        "ALL",
+        "id=S:o1 state=S:new at=N:5 sum=N:9",
+        Some("id=S:o1 state=S:new at=N:5 sum=N:9"),
+    ),
+    ("", "id=S:o1 at=N:5 sum=N:9", None),
+    ("", "id=S:o1 state=S:new", None),
+    ("ALL", "id=S:o1 state=S:new at=S:late", None),
+    ("ALL", "id=S:o1 state=S: at=N:5", None),
+    ("ALL", "id=S:o1 state=S:a*2049 at=N:5", None),
+];
+
+#[test]
+fn rows(rt: HostRuntime) -> Result<(), Fail> {
+    let alloc = rt.alloc();
+    let schema = orders(alloc)?;
+    for (text, from, expected) in ROWS {
+        let index = GlobalIndex {
+            name: Text::copied(alloc, "by_state")?,
+            keys: names(alloc, "state", Some("at"))?,
+            projection: projection(alloc, text)?,
+        };
+        let row = project(alloc, &schema, &index, &item(alloc, from)?)?;
+        let right = match expected {
+            Some(wanted) => row == Some(item(alloc, wanted)?),
+            None => row.is_none(),
+        };
+        assert!(rt; right, "{text} of {from}");
+    }
     Ok(())
 }

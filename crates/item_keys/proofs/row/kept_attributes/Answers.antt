@@ -14,13 +14,13 @@ loop-name-preserved-in_ok-put c =
     let rest = attributes_of c.next.new.self in
     let keeps = is_kept c.args.schema.now c.args.index.now in
     let pushed : c.put.new.self ≡ put name tree c.loop-name.row =
-        c.in_ok-put.ensures.ok
-        ∙ (λ i. put (c.in_ok-try_clone.ensures i) (tree_of (c.in_ok-try_clone-2.ensures i)) c.loop-name.row) in
+    c.in_ok-put.ensures.ok
+    ∙ (λ i. put (c.in_ok-try_clone.ensures i) (tree_of (c.in_ok-try_clone-2.ensures i)) c.loop-name.row) in
     let order = subst (λ left. AreInOrder (joined c.loop-name.row left)) next c.loop-name.invariant.order in record {
       made =
           ap (λ row. joined row (only keeps rest)) pushed
           ∙ kept name tree rest keeps c.loop-name.row (only keeps c.args.item.now) (sym c.is_kept.ensures ∙ c.if-is_kept.true) order
-              (subst (λ left. joined c.loop-name.row (only keeps left) ≡ only keeps c.args.item.now) next c.loop-name.invariant.made);
+          (subst (λ left. joined c.loop-name.row (only keeps left) ≡ only keeps c.args.item.now) next c.loop-name.invariant.made);
       order =
           subst (λ row. AreInOrder (joined row rest)) (sym pushed)
           (kept_order name tree rest keeps c.loop-name.row (only keeps c.args.item.now) order);
@@ -44,4 +44,4 @@ returns c =
     let keeps = is_kept c.args.schema.now c.args.index.now in
     sym (joined_none c.loop-name.row)
     ∙ subst (λ left. joined c.loop-name.row (only keeps left) ≡ only keeps c.args.item.now) (ap attributes_of c.in-None.ensures.steps.0)
-        c.loop-name.invariant.made
+    c.loop-name.invariant.made
