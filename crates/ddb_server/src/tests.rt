@@ -1,6 +1,6 @@
 use crate::run;
-use ddb_outside::{ListClock, MemSink, MemSource, StepClock};
 use base_types::{Bytes, Seq};
+use ddb_outside::{ListClock, MemSink, MemSource, StepClock};
 use std::alloc::Global;
 use std::test::Fail;
 

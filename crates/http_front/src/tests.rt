@@ -3,8 +3,8 @@ ghost use Rattle.http_front.specs.Replies.{IsReplyStatus};
 
 use super::{HttpFault, Message, NextEnd, Reader, one_reading, refuse, reply};
 use crate::head::{ROOM, find_head};
-use ddb_outside::{Failed, MemSink, MemSource};
 use base_types::{Bytes, Seq};
+use ddb_outside::{Failed, MemSink, MemSource};
 use httparse::spans::EMPTY_HEADER_SPAN;
 use std::alloc::Global;
 use std::test::Fail;

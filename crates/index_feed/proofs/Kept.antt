@@ -158,7 +158,7 @@ module _ {K V C : Type 0} (I : Indexed K V C) where
         let marked : (u : ℕ) → f.mark u i ≤ s = λ u. subst (λ n. f.mark u i ≤ n) (peek_top (f.sent i) (f.outbox i) (showing s c) now ∙ sym t) (k.marks u i) in
         record {
           listed = k.listed;
-        rows_listed = k.rows_listed;
+          rows_listed = k.rows_listed;
           due = λ g q sv.
               at_split f.outbox i cs (I.cell_of (I.item_of q)) (λ ys. overlay I ys g q (f.shown g q) ≡ due I f g q)
               (λ m. ap (λ y. overlay I cs g q y)

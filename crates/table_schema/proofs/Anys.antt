@@ -31,8 +31,8 @@ module _ {X : Type 0} (P : X → Type 0) where
   any_either [] ys any = inr any
   any_either (x ∷ xs) ys any =
       elim (any_from x (xs ++ ys) any) [
-        inl here ↦ inl (any_here x xs here)
-      | inr behind ↦ elim (any_either xs ys behind) [ inl left ↦ inl (any_behind x xs left) | inr right ↦ inr right ]
+        | inl here ↦ inl (any_here x xs here)
+        | inr behind ↦ elim (any_either xs ys behind) [ inl left ↦ inl (any_behind x xs left) | inr right ↦ inr right ]
       ]
 
 -- one of two tests

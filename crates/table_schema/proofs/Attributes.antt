@@ -31,28 +31,28 @@ module _ (n : List ℕ) where
   unfolding IsKeyAttribute
   attribute s table locals all is_table is_locals is_all =
       let keys : IsTrue table ↔ Names s.keys n =
-          subst (λ b. IsTrue b ↔ Names s.keys n) (sym (is_table ∙ table_only (has (map (λ e. e.name) s.keys) n))) (in_table s) in
+      subst (λ b. IsTrue b ↔ Names s.keys n) (sym (is_table ∙ table_only (has (map (λ e. e.name) s.keys) n))) (in_table s) in
       let inner = either_tested (in_keys n s.locals) table (in_index s.locals) keys in
       let outer = either_tested (in_keys n s.globals) (in_keys n s.locals || table) (in_index s.globals) inner in
       let is : all ≡ (in_keys n s.globals || (in_keys n s.locals || table)) = is_all ∙ ap (λ b. in_keys n s.globals || b) is_locals in (
         λ passes.
             elim (outer.0 (sym is ∙ passes)) [
-              inl global ↦ inr (any_right (λ i. Names i.keys n) s.locals s.globals global)
-            | inr others ↦ elim others [
-                inl local ↦ inr (any_left (λ i. Names i.keys n) s.locals s.globals local)
-              | inr names ↦ inl names
+              | inl global ↦ inr (any_right (λ i. Names i.keys n) s.locals s.globals global)
+              | inr others ↦ elim others [
+                | inl local ↦ inr (any_left (λ i. Names i.keys n) s.locals s.globals local)
+                | inr names ↦ inl names
               ]
             ],
         λ names.
             is
             ∙ outer.1
-                (elim names [
-                  inl table ↦ inr (inr table)
-                | inr index ↦ elim (any_either (λ i. Names i.keys n) s.locals s.globals index) [
-                    inl local ↦ inr (inl local)
-                  | inr global ↦ inl global
-                  ]
-                ]),
+            (elim names [
+              | inl table ↦ inr (inr table)
+              | inr index ↦ elim (any_either (λ i. Names i.keys n) s.locals s.globals index) [
+                | inl local ↦ inr (inl local)
+                | inr global ↦ inl global
+              ]
+            ]),
       )
 
 -- the sets of the names that are defined, and of those that are in keys

@@ -16,8 +16,8 @@ names_both_ways keys name = (
   λ names. parts name keys.sort (any_from (λ e. e.name ≡ name) (hash keys) (range_of keys.sort) names),
   λ part.
       elim part [
-        inl is ↦ any_here (λ e. e.name ≡ name) (hash keys) (range_of keys.sort) is
-      | inr is ↦ any_behind (λ e. e.name ≡ name) (hash keys) (range_of keys.sort) (sort_named name keys.sort is)
+        | inl is ↦ any_here (λ e. e.name ≡ name) (hash keys) (range_of keys.sort) is
+        | inr is ↦ any_behind (λ e. e.name ≡ name) (hash keys) (range_of keys.sort) (sort_named name keys.sort is)
       ],
 )
   where

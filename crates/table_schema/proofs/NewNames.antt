@@ -71,11 +71,11 @@ module _ {T : Type 0} (name_of : T → List ℕ) where
   apart_new (x ∷ xs) seen unseen apart =
       ap (λ b. not b && are_new name_of (name_of x ∷ seen) xs) (All-head (λ y. has seen (name_of y) ≡ false) x xs unseen)
       ∙ apart_new xs (name_of x ∷ seen)
-          (λ k d within.
-              ap (λ b. b || has seen (name_of (get_or xs k d)))
-                  (differ (name_of (get_or xs k d)) (name_of x) (pairs_head (λ a b. name_of a ≢ name_of b) x xs apart k d within))
-              ∙ All-tail (λ y. has seen (name_of y) ≡ false) x xs unseen k d within)
-          (pairs_tail (λ a b. name_of a ≢ name_of b) x xs apart)
+      (λ k d within.
+      ap (λ b. b || has seen (name_of (get_or xs k d)))
+      (differ (name_of (get_or xs k d)) (name_of x) (pairs_head (λ a b. name_of a ≢ name_of b) x xs apart k d within))
+      ∙ All-tail (λ y. has seen (name_of y) ≡ false) x xs unseen k d within)
+      (pairs_tail (λ a b. name_of a ≢ name_of b) x xs apart)
 
   -- what a test of all items has found
   pub found_new : (items : List T) (r : Bool) → r ≡ are_new name_of [] items → IsTrue r ↔ AllPairs (λ a b. name_of a ≢ name_of b) items
@@ -90,9 +90,9 @@ module _ {T : Type 0} (name_of : T → List ℕ) where
   new_append (x ∷ xs) ys seen more after =
       and_assoc (not (has seen (name_of x))) (are_new name_of (name_of x ∷ seen) xs) (are_new name_of more ys)
       ∙ ap (λ b. not (has seen (name_of x)) && b)
-          (new_append xs ys (name_of x ∷ seen) more
-              (λ n. after n ∙ sym (or_assoc (is_same n (name_of x)) (has (map name_of xs) n) (has seen n))
-                  ∙ sym (behind (is_same n (name_of x)) (has (map name_of xs) n) (has seen n))))
+      (new_append xs ys (name_of x ∷ seen) more
+      (λ n. after n ∙ sym (or_assoc (is_same n (name_of x)) (has (map name_of xs) n) (has seen n))
+      ∙ sym (behind (is_same n (name_of x)) (has (map name_of xs) n) (has seen n))))
 
   -- what tests of two lists, one after the other, have found
   pub found_distinct : (xs ys : List T) (seen : List (List ℕ)) (first second : Bool) → first ≡ are_new name_of [] xs → ((n : List ℕ) → has seen n ≡ (has (map name_of xs) n || false)) → second ≡ are_new name_of seen ys → IsTrue (first && second) ↔ AllPairs (λ a b. name_of a ≢ name_of b) (xs ++ ys)

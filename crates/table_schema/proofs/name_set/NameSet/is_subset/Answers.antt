@@ -9,6 +9,6 @@ returns c =
     let xs = c.self.inside.names.keys in
     let ys = c.other.inside.names.keys in
     let both : IsTrue c.is_subset.result ↔ IsWithin (names_in c.self.inside.names) (names_in c.other.inside.names) =
-        (λ yes. within xs ys (c.is_subset.ensures.0 yes), λ all. c.is_subset.ensures.1 (each_within xs ys all)) in
+    (λ yes. within xs ys (c.is_subset.ensures.0 yes), λ all. c.is_subset.ensures.1 (each_within xs ys all)) in
     subst (λ names. IsTrue c.is_subset.result ↔ IsWithin names c.args.other.now) c.self.view_is
     (subst (λ names. IsTrue c.is_subset.result ↔ IsWithin (names_in c.self.inside.names) names) c.other.view_is both)
