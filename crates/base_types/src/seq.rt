@@ -1,4 +1,4 @@
-ghost use Rattle.std.specs.Prelude.{◌≡◌, ◌↔◌, ◌<◌, ◌≤◌, [], ◌∷◌, ◌++◌, length, insert, remove, slice_get, take, IfOk, IfErr, OnOk, OnErr, IsTrue};
+ghost use Rattle.std.specs.Prelude.{◌≡◌, ◌↔◌, ◌<◌, ◌≤◌, [], ◌∷◌, ◌++◌, length, insert, remove, slice_get, take, IfNone, IfOk, IfErr, OnOk, OnErr, IsTrue};
 ghost use Rattle.std.specs.Borrow.{sem};
 ghost use Rattle.std.specs.List.{AllZip};
 ghost use Rattle.std.specs.Option.{option_copied, option_copied_mut, option_to_list};
@@ -112,7 +112,8 @@ impl<T> Seq<T> {
 
     /// Takes out the last item, or answers that there is none.
     pub fn pop(&mut self) -> Option<T>
-        ensures { self.old ≡ self.new ++ option_to_list result }
+        ensures items { self.old ≡ self.new ++ option_to_list result }
+        ensures empty { IfNone result (self.old ≡ []) }
     {
         self.items.pop()
     }
