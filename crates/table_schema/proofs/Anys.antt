@@ -1,5 +1,5 @@
 -- `Any` one element at a time, and against a test of each element.
-use Rattle.std.proofs.Common.{◌≡◌, ℕ, ◌+◌, Bool, true, false, ◌||◌, zero, suc, List, [], ◌∷◌, ◌++◌, get_or, arith, refl, sym, subst, inl, inr, map}
+use Rattle.std.proofs.Common.{Bool, true, false, ◌||◌, zero, suc, List, [], ◌∷◌, ◌++◌, arith, refl, sym, subst, inl, inr, map}
 use Rattle.std.specs.Prelude.{Any, ◌↔◌, ◌⊎◌, IsTrue}
 use Rattle.std.specs.List.{list_any}
 

@@ -1,6 +1,6 @@
 -- The names in the keys of a stated schema, found in sets.
-use Rattle.std.proofs.Common.{◌≡◌, ℕ, Bool, true, false, ◌||◌, List, [], map, ap, sym, subst, ◌∙◌, inl, inr}
-use Rattle.std.specs.Prelude.{Any, IsTrue, ◌↔◌, ◌⊎◌}
+use Rattle.std.proofs.Common.{◌≡◌, ℕ, Bool, true, false, ◌||◌, List, map, ap, sym, subst, ◌∙◌, inl, inr}
+use Rattle.std.specs.Prelude.{Any, IsTrue, ◌↔◌}
 use Rattle.table_schema.specs.declared.stated.StatedIndex.{StatedIndex}
 use Rattle.table_schema.specs.declared.stated.StatedSchema.{StatedSchema}
 use Rattle.table_schema.specs.NameSet.{has, IsWithin}

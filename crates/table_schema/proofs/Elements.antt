@@ -1,5 +1,5 @@
 -- The elements of key names, one by one.
-use Rattle.std.proofs.Common.{◌≡◌, ℕ, List, [], ◌∷◌, Option, None, Some, zero, suc, ◌<◌, arith, refl, inl, inr, ap, subst, Bool}
+use Rattle.std.proofs.Common.{◌≡◌, ℕ, List, [], Option, None, Some, inl, inr, ap, subst, Bool}
 use Rattle.std.specs.Prelude.{◌⊎◌, ◌↔◌, IsTrue}
 use Rattle.table_schema.specs.declared.keys.KeyNames.{KeyNames}
 use Rattle.table_schema.specs.declared.stated.KeyElement.{KeyElement}

@@ -1,5 +1,5 @@
 -- Schemas and indexes as they are stated.
-use Rattle.std.specs.Prelude.{ℕ, ◌≤◌, List, length, map, ◌++◌}
+use Rattle.std.specs.Prelude.{◌≤◌, List, length, map, ◌++◌}
 use Rattle.table_schema.specs.declared.index.Projection.{Projection}
 use Rattle.table_schema.specs.declared.index.Projection.TheVariants.{KeysOnly, Include, All}
 use Rattle.table_schema.specs.declared.index.LocalIndex.{LocalIndex}

@@ -1,5 +1,5 @@
 -- Keys as they are stated: lists of attributes with their roles.
-use Rattle.std.specs.Prelude.{◌≡◌, ◌≢◌, ℕ, ◌⊎◌, List, [], ◌∷◌, Any, Option, None, Some}
+use Rattle.std.specs.Prelude.{◌≡◌, ◌≢◌, ℕ, List, [], ◌∷◌, Any, Option, None, Some}
 use Rattle.table_schema.specs.declared.keys.KeyNames.{KeyNames}
 use Rattle.table_schema.specs.declared.stated.KeyElement.{KeyElement}
 use Rattle.table_schema.specs.declared.stated.KeyRole.TheVariants.{Hash, Range}

@@ -1,8 +1,6 @@
 -- The rules of schemas, over schemas as they are stated.
 use Rattle.std.specs.Prelude.{◌≡◌, ◌≢◌, ℕ, ◌≤◌, ◌⊎◌, ◌↔◌, List, length, All, Any, AllPairs}
-use Rattle.table_schema.specs.declared.definition.Definition.{Definition}
 use Rattle.table_schema.specs.declared.stated.KeyElement.{KeyElement}
-use Rattle.table_schema.specs.declared.stated.StatedIndex.{StatedIndex}
 use Rattle.table_schema.specs.declared.stated.StatedSchema.{StatedSchema}
 use Rattle.table_schema.specs.declared.schema.Schema.{Schema}
 use Rattle.table_schema.specs.declared.fault.SchemaFault.{SchemaFault}

@@ -35,4 +35,6 @@ pub use schema::Schema;
 pub use stated::{KeyElement, KeyRole, StatedIndex, StatedSchema};
 
 #[cfg(test)]
+mod stated_tests;
+#[cfg(test)]
 mod tests;

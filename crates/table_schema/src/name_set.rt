@@ -50,13 +50,6 @@ impl<'a> NameSet<'a> {
         Ok(new)
     }
 
-    /// Whether the name is there.
-    pub fn contains(&self, name: &'a str) -> bool
-        ensures { result ≡ has self.now name.now }
-    {
-        self.names.contains(&name)
-    }
-
     /// Puts in the names of all items, and answers whether each was new: neither there before nor twice among them.
     pub fn insert_all<T: Named>(&mut self, items: &'a [T]) -> Result<bool, NoMemory>
         ensures new { IfOk result (λ new. new ≡ are_new T.name_of self.old items.now) }

@@ -1,3 +1,4 @@
+use super::stated_tests::statement_verdict;
 use super::{
     Definition, GlobalIndex, KeyKind, KeyNames, LocalIndex, Projection, Schema, check_schema,
 };
@@ -8,7 +9,7 @@ use std::test::Fail;
 
 /// A table `Music` with the parts that the text says: `table NAME`, `define NAME..`, `key HASH RANGE`,
 /// `local NAME HASH RANGE ATTRIBUTES` and `global` likewise, with `-` for no RANGE.
-fn schema_of(alloc: Global, text: &str) -> Result<Schema, Fail> {
+pub(super) fn schema_of(alloc: Global, text: &str) -> Result<Schema, Fail> {
     let mut schema = Schema {
         name: Text::copied(alloc, "Music")?,
         definitions: Seq::new(alloc),
@@ -73,7 +74,7 @@ fn index_of(
 }
 
 /// The word itself, or a text repeated, as `a*3` for `aaa`.
-fn name_of(alloc: Global, word: &str) -> Result<Text, Fail> {
+pub(super) fn name_of(alloc: Global, word: &str) -> Result<Text, Fail> {
     let Some((text, count)) = word.split_once('*') else {
         return Ok(Text::copied(alloc, word)?);
     };
@@ -141,7 +142,7 @@ fn verdict(alloc: Global, schema: &Schema) -> Result<String, Fail> {
     })
 }
 
-/// Schemas with what `check_schema` says of them.
+/// Schemas with what `check_schema` says of them, and `into_schema` of their statements.
 static VERDICTS: [(&str, &str); 53] = [
     ("define Artist", "valid"),
     ("define Artist Song, key Artist Song", "valid"),
@@ -263,12 +264,17 @@ fn verdicts(rt: HostRuntime) -> Result<(), Fail> {
     for (text, expected) in VERDICTS {
         let schema = schema_of(alloc, text)?;
         assert_eq!(rt; verdict(alloc, &schema)?.as_str(), expected, "{text}");
+        assert_eq!(rt;
+            statement_verdict(alloc, &schema)?.as_str(),
+            expected,
+            "{text}"
+        );
     }
     Ok(())
 }
 
-/// Further parts of a schema, how many local and global indexes it has besides, and what `check_schema`
-/// says.
+/// Further parts of a schema, how many local and global indexes it has besides, and what `check_schema` says, and
+/// `into_schema` of its statement.
 static COUNTS: [(&str, u32, u32, &str); 4] = [
     ("", 5, 20, "valid"),
     ("", 6, 0, "TooManyIndexes"),
@@ -287,6 +293,11 @@ fn counts_of_indexes(rt: HostRuntime) -> Result<(), Fail> {
         add_indexes(alloc, &mut schema, locals, globals)?;
         assert_eq!(rt;
             verdict(alloc, &schema)?.as_str(),
+            expected,
+            "{locals} and {globals}{text}"
+        );
+        assert_eq!(rt;
+            statement_verdict(alloc, &schema)?.as_str(),
             expected,
             "{locals} and {globals}{text}"
         );

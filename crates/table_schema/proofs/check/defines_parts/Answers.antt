@@ -1,4 +1,4 @@
-use Rattle.std.proofs.Common.{refl, inl, inr, subst, ap, ◌≡◌, Some}
+use Rattle.std.proofs.Common.{refl, inl, inr, subst, ◌≡◌}
 use Rattle.table_schema.specs.Index.{stated_of}
 use Rattle.table_schema.specs.Rule.{Defines}
 use Rattle.table_schema.proofs.Elements.{parts_defined, part_defined}

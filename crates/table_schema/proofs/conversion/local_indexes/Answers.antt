@@ -1,10 +1,7 @@
 use Rattle.std.specs.Vec.Iter.{into_iter_items}
-use Rattle.std.proofs.lemmas.List.Elements.{All-rest, All-tail}
-use Rattle.std.proofs.Common.{subst, List}
-use Rattle.std.specs.Prelude.{All}
+use Rattle.std.proofs.lemmas.List.Elements.{All-rest}
 use Rattle.table_schema.specs.Key.{IsKeySchema}
 use Rattle.table_schema.specs.Index.{of_local}
-use Rattle.table_schema.specs.declared.stated.StatedIndex.{StatedIndex}
 use Rattle.table_schema.proofs.Chains.{mapped_more}
 use Rattle.table_schema.proofs.conversion.local_indexes.Goals as goal
 
