@@ -22,6 +22,7 @@ mod value;
 pub use fault::{KeyEnd, KeyFault};
 pub use item_key::{key_of, key_only};
 pub use key::{Key, PlacedKey};
+pub use part::{MAX_PARTITION, MAX_SORT, key_value};
 pub use places::{PlaceRange, cell_of, place, segment_places};
 pub use row::project;
 pub use value::KeyValue;

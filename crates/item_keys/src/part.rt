@@ -2,10 +2,11 @@
 
 ghost use Rattle.std.specs.Prelude.{◌≡◌, IfOk, IfErr, OnOk, Ok, Err};
 ghost use Rattle.item_keys.specs.declared.value.KeyValue.{KeyValue};
-ghost use Rattle.item_keys.specs.ItemKey.{within, part_in, key_in};
+ghost use Rattle.attr_value.specs.View.{tree_of};
+ghost use Rattle.item_keys.specs.ItemKey.{within, typed, part_in, key_in, IfFault};
 ghost use Rattle.item_keys.specs.Part.{lent_value, lent_key};
 
-use crate::fault::KeyFault;
+use crate::fault::{KeyEnd, KeyFault};
 use crate::key::Key;
 use crate::value::KeyValue;
 use attr_value::{Item, Value};
@@ -15,10 +16,10 @@ use std::alloc::{AllocError as NoMemory, Global};
 use table_schema::{KeyKind, KeyNames, Schema};
 
 /// The most bytes of a partition key's value (Developer Guide: Quotas, Partition key length).
-const MAX_PARTITION: usize = 2048;
+pub const MAX_PARTITION: usize = 2048;
 
 /// The most bytes of a sort key's value (Developer Guide: Quotas, Sort key length).
-const MAX_SORT: usize = 1024;
+pub const MAX_SORT: usize = 1024;
 
 /// A key value, lent.
 #[derive(Clone, Copy)]
@@ -95,7 +96,19 @@ fn part<'a>(
     let Some(value) = item.attribute(name) else {
         return Err(KeyFault::Missing);
     };
-    match (schema.kind_of(name), value) {
+    typed(limit, schema.kind_of(name), value)
+}
+
+/// An attribute's value as a key value of the type that is defined, of at most `limit` bytes.
+fn typed<'a>(
+    limit: usize,
+    kind: Option<KeyKind>,
+    value: &'a Value,
+) -> Result<KeyPart<'a>, KeyFault>
+    ensures ok { IfOk result (λ part. typed limit kind (tree_of value.now) ≡ Ok (lent_value part)) }
+    ensures err { IfErr result (λ fault. typed limit kind (tree_of value.now) ≡ Err fault) }
+{
+    match (kind, value) {
         (Some(KeyKind::S), Value::S(text)) => {
             check_size(limit, text.len())?;
             Ok(KeyPart::S(text))
@@ -107,6 +120,22 @@ fn part<'a>(
         }
         _ => Err(KeyFault::WrongType),
     }
+}
+
+/// An attribute's value as a key value of its own, where it is of the type that is defined and, a string or a binary,
+/// has from 1 to `limit` bytes: [`MAX_PARTITION`] or [`MAX_SORT`].
+///
+/// The fault is WrongType, also where no type is defined, Empty or TooLong.
+pub fn key_value(
+    alloc: Global,
+    limit: usize,
+    kind: Option<KeyKind>,
+    value: &Value,
+) -> Result<KeyValue, KeyEnd>
+    ensures ok { IfOk result (λ key. typed limit kind (tree_of value.now) ≡ Ok key) }
+    ensures err { IfErr result (λ end. IfFault end (λ fault. typed limit kind (tree_of value.now) ≡ Err fault)) }
+{
+    Ok(typed(limit, kind, value)?.copied(alloc)?)
 }
 
 /// `Ok` for a number of bytes from 1 to `limit`.
