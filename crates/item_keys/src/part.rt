@@ -100,11 +100,7 @@ fn part<'a>(
 }
 
 /// An attribute's value as a key value of the type that is defined, of at most `limit` bytes.
-fn typed<'a>(
-    limit: usize,
-    kind: Option<KeyKind>,
-    value: &'a Value,
-) -> Result<KeyPart<'a>, KeyFault>
+fn typed<'a>(limit: usize, kind: Option<KeyKind>, value: &'a Value) -> Result<KeyPart<'a>, KeyFault>
     ensures ok { IfOk result (λ part. typed limit kind (tree_of value.now) ≡ Ok (lent_value part)) }
     ensures err { IfErr result (λ fault. typed limit kind (tree_of value.now) ≡ Err fault) }
 {
