@@ -1,0 +1,13 @@
+//! An item with all writes of an update made at once (DynamoDB Developer Guide, "Update expressions").
+//!
+//! A write is a path with what will stand there, or with nothing where what is there goes. [`write_all`] goes over the old
+//! item once and asks at each attribute and at each element which writes lead on below it: no write sees another, no
+//! place of a list moves before all are made, and a list with many removals is one pass. What is written is lent until
+//! then ([`NewValue`]), so that what would be too large is told ([`extent`]) before anything of it is made.
+#![tactic(auto)]
+
+mod edit;
+mod new_value;
+
+pub use edit::write_all;
+pub use new_value::NewValue;

@@ -1,0 +1,74 @@
+//! What is written at a path: nothing of it is copied before the new item is made.
+
+ghost use Rattle.std.specs.Prelude.{◌≡◌, IfOk, OnOk};
+ghost use Rattle.attr_value.specs.Tree.{Trees};
+ghost use Rattle.attr_value.specs.View.{tree_of, trees_of};
+ghost use Rattle.item_writes.specs.Lists.{onto};
+ghost use Rattle.item_writes.specs.NewTree.{new_tree, joined};
+
+use attr_value::{Elements, Value};
+use base_types::{Bytes, Seq, Text};
+use number38::Number;
+use ordered_set::OrderedSet;
+use std::alloc::{AllocError as NoMemory, Global};
+
+/// What will stand at a path.
+#[derive(Drop)]
+pub enum NewValue<'v> {
+    /// A value of the old item, or one that came with the update.
+    Lent(&'v Value),
+    /// A value that was computed.
+    Made(Value),
+    /// The elements of these lists, one list behind the other.
+    Joined(Seq<&'v Elements>),
+    /// The texts of both sets.
+    Texts(&'v OrderedSet<Text>, &'v OrderedSet<Text>),
+    /// The numbers of both sets.
+    Numbers(&'v OrderedSet<Number>, &'v OrderedSet<Number>),
+    /// The binaries of both sets.
+    Binaries(&'v OrderedSet<Bytes>, &'v OrderedSet<Bytes>),
+}
+
+impl NewValue<'_> {
+    /// A value of its own.
+    pub(crate) fn build(&self, alloc: Global) -> Result<Value, NoMemory>
+        ensures { IfOk result (λ value. tree_of value ≡ new_tree self.now) }
+    {
+        match self {
+            NewValue::Lent(value) => value.try_clone(),
+            NewValue::Made(value) => value.try_clone(),
+            NewValue::Joined(lists) => Ok(Value::L(joined(alloc, lists.as_slice())?)),
+            NewValue::Texts(set, more) => {
+                Ok(Value::Ss(set.try_clone()?.union(more.try_clone()?)?))
+            }
+            NewValue::Numbers(set, more) => {
+                Ok(Value::Ns(set.try_clone()?.union(more.try_clone()?)?))
+            }
+            NewValue::Binaries(set, more) => {
+                Ok(Value::Bs(set.try_clone()?.union(more.try_clone()?)?))
+            }
+        }
+    }
+}
+
+/// One list of the elements of all.
+fn joined(alloc: Global, lists: &[&Elements]) -> Result<Elements, NoMemory>
+    ensures { IfOk result (λ list. list ≡ joined lists.now) }
+{
+    let mut all = Seq::new(alloc);
+    for list in lists {
+        push_copies(list, &mut all)?;
+    }
+    Ok(Elements::from(all))
+}
+
+/// Adds copies of the elements.
+fn push_copies(list: &Elements, all: &mut Seq<Value>) -> Result<(), NoMemory>
+    ensures { OnOk result ((rest : Trees) → onto (trees_of all.new) rest
+        ≡ onto (trees_of all.old) (onto list.now rest)) }
+{
+    for value in list.as_slice() {
+        all.push(value.try_clone()?)?;
+    }
+    Ok(())
+}
