@@ -1,0 +1,235 @@
+-- The faults of a body, in their one order.
+use Rattle.std.specs.Prelude.{ℕ, ◌+◌, List, [], ◌∷◌, ◌++◌, Bool, true, false, nat_le, nat_lt, nat_eq, if◌then◌else◌, Option, Some, None, option_and_then, bytes_eq}
+use Rattle.std.specs.Option.{is_some}
+use Rattle.serde_json.specs.Data.{Data, null, boolean, number, string, array, object, Items, no_items, item, Members, no_members, member, unsigned, negative}
+use Rattle.serde_json.specs.Find.{get_member, as_number, as_u64}
+use Rattle.api_form.specs.declared.form.Form.{Form}
+use Rattle.api_form.specs.declared.form.Need.{Need}
+use Rattle.api_form.specs.declared.form.Need.TheVariants as need
+use Rattle.api_form.specs.declared.form.Rule.{Rule}
+use Rattle.api_form.specs.declared.form.Rule.TheVariants as rule
+use Rattle.api_form.specs.declared.form.Member.{Member}
+use Rattle.api_form.specs.declared.name.Name.{Name}
+use Rattle.api_form.specs.declared.name.Name.TheVariants as name
+use Rattle.api_form.specs.declared.spelling.Spelling.{Spelling}
+use Rattle.api_form.specs.declared.spelling.Spelling.TheVariants as spelling
+use Rattle.api_form.specs.declared.fault.Stage.{Stage}
+use Rattle.api_form.specs.declared.fault.Stage.TheVariants as stage
+use Rattle.api_form.specs.declared.fault.Fault.{Fault}
+use Rattle.api_form.specs.declared.fault.Fault.TheVariants as fault
+use Rattle.api_form.specs.declared.value.JsonFault.{JsonFault}
+use Rattle.api_form.specs.Names.{text_of}
+use Rattle.api_form.specs.Spellings.{is_between, is_spelled}
+use Rattle.api_form.specs.Forms.{rule_of, members_of, has_word}
+use Rattle.api_form.specs.Values.{value_fault}
+
+-- ---- what a member is asked for
+
+abbrev pub is_null : Data → Bool
+is_null null = true
+is_null _ = false
+
+-- a value that is there: null counts as absent
+abbrev pub unless_null : Option Data → Option Data
+unless_null None = None
+unless_null (Some d) = if is_null d then None else Some d
+
+-- the member of this name
+abbrev pub stated_at : Name → Members → Option Data
+stated_at name ms = unless_null (get_member (text_of name) ms)
+
+abbrev pub is_there : Name → Members → Bool
+is_there name ms = is_some (stated_at name ms)
+
+-- how many of the members of a table are there
+abbrev pub stated_count : List Member → Members → ℕ
+stated_count [] ms = 0
+stated_count (m ∷ table) ms = (if is_there m.0 ms then 1 else 0) + stated_count table ms
+
+-- the whole number of a member, where it is there and one
+abbrev pub whole_at : Name → Members → Option ℕ
+whole_at name ms = option_and_then as_u64 (option_and_then as_number (stated_at name ms))
+
+-- whether one number is below another, where both are there
+abbrev pub is_below : Option ℕ → Option ℕ → Bool
+is_below (Some low) (Some high) = nat_lt low high
+is_below _ _ = true
+
+-- ---- counts of what stands inside
+
+abbrev pub item_count : Items → ℕ
+item_count no_items = 0
+item_count (item d ds) = 1 + item_count ds
+
+-- how many elements a list has; none where it is no list
+abbrev pub array_count : Data → ℕ
+array_count (array ds) = item_count ds
+array_count _ = 0
+
+abbrev pub list_count : Option Data → ℕ
+list_count None = 0
+list_count (Some d) = array_count d
+
+-- how much one table of a batch is asked for: its writes, or its keys
+abbrev pub request_count : Data → ℕ
+request_count (object ms) = list_count (get_member (text_of name.Keys) ms)
+request_count d = array_count d
+
+-- how much all tables together are asked for
+abbrev pub total_count : Members → ℕ
+total_count no_members = 0
+total_count (member k d ms) = request_count d + total_count ms
+
+abbrev pub inner_count : List Member → Data → ℕ
+inner_count table (object ms) = stated_count table ms
+inner_count table _ = 0
+
+-- how many members of a table the elements of a list have together
+abbrev pub element_count : List Member → Items → ℕ
+element_count table no_items = 0
+element_count table (item d ds) = inner_count table d + element_count table ds
+
+-- ---- what is at one place
+
+-- whether the value is of the JSON kind that the rule states; an attribute value and a legacy member may be anything
+abbrev pub has_kind : Rule → Data → Bool
+has_kind rule.Object (object ms) = true
+has_kind rule.OneOf (object ms) = true
+has_kind (rule.Below low high) (object ms) = true
+has_kind (rule.Map names of) (object ms) = true
+has_kind (rule.Tables of most) (object ms) = true
+has_kind (rule.List of least most) (array ds) = true
+has_kind (rule.AtMostOne of) (array ds) = true
+has_kind (rule.Text spelling) (string s) = true
+has_kind rule.Word (string s) = true
+has_kind (rule.Whole least most) (number (unsigned n)) = true
+has_kind (rule.Whole least most) (number (negative z)) = true
+has_kind rule.Flag (boolean b) = true
+has_kind rule.Value d = true
+has_kind rule.Legacy d = true
+has_kind _ _ = false
+
+-- whether the value itself, not what is inside it, is in its range
+abbrev pub is_in_range : Form → Rule → Data → Bool
+is_in_range form rule.OneOf (object ms) = nat_eq (stated_count (members_of form) ms) 1
+is_in_range form (rule.Tables of most) (object ms) = is_between 1 most (total_count ms)
+is_in_range form (rule.List of least most) (array ds) = is_between least most (item_count ds)
+is_in_range form (rule.AtMostOne of) (array ds) = nat_le (element_count (members_of of) ds) 1
+is_in_range form (rule.Text spelling) (string s) = is_spelled spelling s
+is_in_range form rule.Word (string s) = has_word form s
+is_in_range form (rule.Whole least most) (number (unsigned n)) = is_between least most n
+is_in_range form (rule.Whole least most) (number (negative z)) = false
+is_in_range form _ _ = true
+
+-- a fault where the test fails
+abbrev pub unless : Bool → Fault → List Fault
+unless true f = []
+unless false f = f ∷ []
+
+abbrev pub bad_value : Option JsonFault → List Fault
+bad_value None = []
+bad_value (Some f) = fault.BadValue f ∷ []
+
+-- the fault of the value itself in the last stage
+abbrev pub range_faults : Name → Form → Rule → Data → List Fault
+range_faults name form rule.Legacy d = fault.Legacy name ∷ []
+range_faults name form rule.Value d = bad_value (value_fault d)
+range_faults name form rule d = unless (is_in_range form rule d) (fault.OutOfRange name)
+
+-- the fault of the value itself, at a stage
+abbrev pub own_faults : Stage → Name → Form → Data → List Fault
+own_faults stage.Kinds name form d = unless (has_kind (rule_of form) d) fault.Kind
+own_faults stage.Absent name form d = []
+own_faults stage.Ranges name form d = range_faults name form (rule_of form) d
+
+-- the fault of a name in a map
+abbrev pub key_faults : Stage → Name → Spelling → List ℕ → List Fault
+key_faults stage.Ranges name spelling key = unless (is_spelled spelling key) (fault.OutOfRange name)
+key_faults _ name spelling key = []
+
+-- the fault of two numbers of an object, behind all its members
+abbrev pub order_faults : Stage → Name → Name → Members → List Fault
+order_faults stage.Ranges low high ms = unless (is_below (whole_at low ms) (whole_at high ms)) (fault.OutOfRange low)
+order_faults _ low high ms = []
+
+-- ---- the walk
+
+-- the faults of a value, still to be asked by stage, by the name of the member that it stands in, and by form
+abbrev pub Asked : Type 0
+Asked = Stage → Name → Form → List Fault
+
+-- whether a member has to be there
+abbrev pub is_needed : Need → Members → Bool
+is_needed need.Required ms = true
+is_needed need.Optional ms = false
+is_needed (need.With other) ms = is_there other ms
+
+-- the fault of a member that is absent
+abbrev pub absence : Stage → Member → Members → List Fault
+absence stage.Absent m ms = if is_needed m.1 ms then fault.Missing m.0 ∷ [] else []
+absence _ m ms = []
+
+-- the faults of one stated member, by those of the value that stands there
+abbrev pub member_faults : Stage → Member → Members → Option Asked → List Fault
+member_faults stage m ms None = absence stage m ms
+member_faults stage m ms (Some faults) = faults stage m.0 m.2
+
+-- the faults of the stated members, in the order of the table, by those of the values that stand at the names
+abbrev pub stated_faults : Stage → List Member → Members → (List ℕ → Option Asked) → List Fault
+stated_faults stage [] ms at = []
+stated_faults stage (m ∷ table) ms at = member_faults stage m ms (at (text_of m.0)) ++ stated_faults stage table ms at
+
+-- the faults inside an object: by its table, or one form for all members
+abbrev pub object_faults : Stage → Form → Rule → Members → (List ℕ → Option Asked) → (Spelling → Form → List Fault) → List Fault
+object_faults stage form rule.Object ms at all = stated_faults stage (members_of form) ms at
+object_faults stage form rule.OneOf ms at all = stated_faults stage (members_of form) ms at
+object_faults stage form (rule.Below low high) ms at all = stated_faults stage (members_of form) ms at ++ order_faults stage low high ms
+object_faults stage form (rule.Map names of) ms at all = all names of
+object_faults stage form (rule.Tables of most) ms at all = all spelling.TableName of
+object_faults stage form _ ms at all = []
+
+-- the faults inside a list, whose elements have one form
+abbrev pub list_faults : Rule → (Form → List Fault) → List Fault
+list_faults (rule.List of least most) all = all of
+list_faults (rule.AtMostOne of) all = all of
+list_faults _ all = []
+
+abbrev mutual
+  -- the faults of a value at a stage: its own, and then those inside it
+  pub faults : Data → Stage → Name → Form → List Fault
+  faults null stage name form = own_faults stage name form null
+  faults (boolean b) stage name form = own_faults stage name form (boolean b)
+  faults (number n) stage name form = own_faults stage name form (number n)
+  faults (string s) stage name form = own_faults stage name form (string s)
+  faults (array ds) stage name form =
+      own_faults stage name form (array ds) ++ list_faults (rule_of form) (element_faults ds stage name)
+  faults (object ms) stage name form =
+      own_faults stage name form (object ms)
+      ++ object_faults stage form (rule_of form) ms (asked_at ms) (entry_faults ms stage name)
+
+  -- the faults of the elements of a list, which are named by the member that holds the list
+  pub element_faults : Items → Stage → Name → Form → List Fault
+  element_faults no_items stage name form = []
+  element_faults (item d ds) stage name form = faults d stage name form ++ element_faults ds stage name form
+
+  -- the faults of the members of a map, each with its name, which are named by the member that holds the map
+  pub entry_faults : Members → Stage → Name → Spelling → Form → List Fault
+  entry_faults no_members stage name names form = []
+  entry_faults (member k d ms) stage name names form =
+      key_faults stage name names k ++ (faults d stage name form ++ entry_faults ms stage name names form)
+
+  -- the faults of the value at a name, unless none is there or null
+  pub asked_at : Members → List ℕ → Option (Stage → Name → Form → List Fault)
+  asked_at no_members key = None
+  asked_at (member k d ms) key =
+      if bytes_eq key k then (if is_null d then None else Some (faults d)) else asked_at ms key
+
+-- all faults of a body: stage after stage
+abbrev pub body_faults : Form → Data → List Fault
+body_faults form d =
+    faults d stage.Kinds name.Body form ++ (faults d stage.Absent name.Body form ++ faults d stage.Ranges name.Body form)
+
+-- the first of them
+abbrev pub first : List Fault → Option Fault
+first [] = None
+first (f ∷ fs) = Some f

@@ -1,0 +1,5 @@
+pub mod Names
+pub mod Spellings
+pub mod Forms
+pub mod Values
+pub mod Faults

@@ -1,0 +1,177 @@
+//! What is wrong with a value itself, or with one member of an object.
+
+ghost use Rattle.std.specs.Prelude.{◌≡◌, IfOk};
+ghost use Rattle.serde_json.specs.Data as json;
+ghost use Rattle.serde_json.specs.View.{view, number_view, items_view, members_view};
+ghost use Rattle.api_form.specs.Values.{value_fault};
+ghost use Rattle.api_form.specs.Faults.{first, own_faults, range_faults, bad_value, has_kind, is_in_range, key_faults, order_faults, absence, is_needed, unless};
+
+use crate::count::{has_at_most_one, has_requests, is_below, is_there, stated_count};
+use crate::fault::{Fault, Stage};
+use crate::form::{Form, Member, Need, Rule, has_word, members, stated_rule};
+use crate::name::Name;
+use crate::spelling::{Spelling, is_between, is_spelled};
+use crate::value::value_fault;
+use serde_json::{Map, Number, Value};
+use std::alloc::{AllocError as NoMemory, Global};
+
+/// The first fault of the value itself at a stage.
+pub fn own_fault(
+    alloc: Global,
+    json: &Value,
+    stage: Stage,
+    name: Name,
+    form: Form,
+) -> Result<Option<Fault>, NoMemory>
+    ensures { IfOk result (λ fault. fault ≡ first (own_faults stage name form (view json.now))) }
+{
+    match stage {
+        Stage::Kinds => Ok(unless(has_kind(stated_rule(form), json), Fault::Kind)),
+        Stage::Absent => Ok(None),
+        Stage::Ranges => range_fault(alloc, json, name, form, stated_rule(form)),
+    }
+}
+
+/// Whether the value is of the JSON kind that the rule states.
+fn has_kind(rule: Rule, json: &Value) -> bool
+    ensures { result ≡ has_kind rule (view json.now) }
+{
+    match rule {
+        Rule::Object | Rule::OneOf | Rule::Below { .. } | Rule::Map { .. } | Rule::Tables { .. } =>
+            json.is_object(),
+        Rule::List { .. } | Rule::AtMostOne { .. } => json.is_array(),
+        Rule::Text(_) | Rule::Word => json.is_string(),
+        Rule::Whole { .. } => json.is_u64() || json.is_i64(),
+        Rule::Flag => json.is_boolean(),
+        Rule::Value | Rule::Legacy => true,
+    }
+}
+
+/// The fault of the value itself in the last stage.
+fn range_fault(
+    alloc: Global,
+    json: &Value,
+    name: Name,
+    form: Form,
+    rule: Rule,
+) -> Result<Option<Fault>, NoMemory>
+    ensures { IfOk result (λ fault. fault ≡ first (range_faults name form rule (view json.now))) }
+{
+    match rule {
+        Rule::Legacy => Ok(Some(Fault::Legacy(name))),
+        Rule::Value => bad_value(alloc, json),
+        _ => Ok(unless(is_in_range(json, form, rule), Fault::OutOfRange(name))),
+    }
+}
+
+fn bad_value(alloc: Global, json: &Value) -> Result<Option<Fault>, NoMemory>
+    ensures { IfOk result (λ fault. fault ≡ first (bad_value (value_fault (view json.now)))) }
+{
+    match value_fault(alloc, json)? {
+        Some(fault) => Ok(Some(Fault::BadValue(fault))),
+        None => Ok(None),
+    }
+}
+
+/// Whether the value itself, not what is inside it, is in its range.
+fn is_in_range(json: &Value, form: Form, rule: Rule) -> bool
+    ensures { result ≡ is_in_range form rule (view json.now) }
+{
+    match json {
+        Value::String(text) => text_in_range(text, form, rule),
+        Value::Number(number) => number_in_range(number, form, rule),
+        Value::Array(items) => list_in_range(items, form, rule),
+        Value::Object(map) => object_in_range(map, form, rule),
+        Value::Null | Value::Bool(_) => true,
+    }
+}
+
+fn text_in_range(text: &str, form: Form, rule: Rule) -> bool
+    ensures { result ≡ is_in_range form rule (json.string text.now) }
+{
+    match rule {
+        Rule::Text(spelling) => is_spelled(spelling, text),
+        Rule::Word => has_word(form, text),
+        _ => true,
+    }
+}
+
+fn number_in_range(number: &Number, form: Form, rule: Rule) -> bool
+    ensures { result ≡ is_in_range form rule (json.number (number_view number.now)) }
+{
+    let Rule::Whole { least, most } = rule else {
+        return true;
+    };
+    match number.as_u64() {
+        Some(number) => is_between(least, most, number),
+        None => number.is_f64(),
+    }
+}
+
+fn list_in_range(items: &[Value], form: Form, rule: Rule) -> bool
+    ensures { result ≡ is_in_range form rule (json.array (items_view items.now)) }
+{
+    match rule {
+        Rule::List { least, most, .. } => is_between(least, most, items.len() as u64),
+        Rule::AtMostOne { of } => has_at_most_one(items, members(of)),
+        _ => true,
+    }
+}
+
+fn object_in_range(map: &Map<String, Value>, form: Form, rule: Rule) -> bool
+    ensures { result ≡ is_in_range form rule (json.object (members_view map.now.entries)) }
+{
+    match rule {
+        Rule::OneOf => stated_count(map, members(form)) == 1,
+        Rule::Tables { most, .. } => has_requests(map, most),
+        _ => true,
+    }
+}
+
+/// The fault of a name in a map at a stage.
+pub fn key_fault(stage: Stage, name: Name, spelling: Spelling, key: &str) -> Option<Fault>
+    ensures { result ≡ first (key_faults stage name spelling key.now) }
+{
+    match stage {
+        Stage::Ranges => unless(is_spelled(spelling, key), Fault::OutOfRange(name)),
+        Stage::Kinds | Stage::Absent => None,
+    }
+}
+
+/// The fault of two numbers of an object at a stage.
+pub fn order_fault(map: &Map<String, Value>, stage: Stage, low: Name, high: Name) -> Option<Fault>
+    ensures { result ≡ first (order_faults stage low high (members_view map.now.entries)) }
+{
+    match stage {
+        Stage::Ranges => unless(is_below(map, low, high), Fault::OutOfRange(low)),
+        Stage::Kinds | Stage::Absent => None,
+    }
+}
+
+/// The fault of a member that is absent.
+pub fn absence(map: &Map<String, Value>, stage: Stage, member: &Member) -> Option<Fault>
+    ensures { result ≡ first (absence stage member.now (members_view map.now.entries)) }
+{
+    match stage {
+        Stage::Absent if is_needed(map, member.1) => Some(Fault::Missing(member.0)),
+        _ => None,
+    }
+}
+
+/// Whether a member has to be there.
+fn is_needed(map: &Map<String, Value>, need: Need) -> bool
+    ensures { result ≡ is_needed need (members_view map.now.entries) }
+{
+    match need {
+        Need::Required => true,
+        Need::Optional => false,
+        Need::With(other) => is_there(map, other),
+    }
+}
+
+/// A fault where the test failed.
+fn unless(holds: bool, fault: Fault) -> Option<Fault>
+    ensures { result ≡ first (unless holds fault) }
+{
+    if holds { None } else { Some(fault) }
+}
