@@ -25,3 +25,6 @@ pub use fault::Fault;
 pub use form::Form;
 pub use name::Name;
 pub use value::JsonFault;
+
+#[cfg(test)]
+mod tests;
