@@ -13,7 +13,7 @@ use Rattle.api_form.specs.declared.fault.Stage.{Stage}
 use Rattle.api_form.specs.declared.fault.Fault.{Fault}
 use Rattle.api_form.specs.Names.{text_of}
 use Rattle.api_form.specs.Forms.{rule_of}
-use Rattle.api_form.specs.Faults.{first, own_faults, key_faults, list_faults, object_faults, faults, element_faults, entry_faults, asked_at, Asked, is_null, absence, member_faults, stated_faults}
+use Rattle.api_form.specs.Faults.{first, own_faults, key_faults, beside_faults, list_faults, object_faults, faults, element_faults, entry_faults, asked_at, Asked, is_null, absence, member_faults, stated_faults}
 use Rattle.api_form.proofs.Members.{Entry, in_map, is_null-as_null}
 
 -- where the front has a fault it is the first
@@ -107,7 +107,8 @@ member_null m es stage name r v b is here test holds e =
     (asked_null name es v here (is_null-as_null (view v) ∙ sym test ∙ holds) ∙ ap (asked_at (members_view es)) is)
 
 pub member_there : (m : Member) (es : List Entry) (stage : Stage) (name : List ℕ) (r : Option Fault) (v : Value) (b : Bool) → name ≡ text_of m.0
-    → Some v ≡ in_map name es → b ≡ is_some (as_null (view v)) → b ≡ false → r ≡ first (faults (view v) stage m.0 m.2)
+    → Some v ≡ in_map name es → b ≡ is_some (as_null (view v)) → b ≡ false
+    → r ≡ first (faults (view v) stage m.0 m.2 ++ beside_faults stage m.2 (members_view es))
     → r ≡ first (member_faults stage m (members_view es) (asked_at (members_view es) (text_of m.0)))
 member_there m es stage name r v b is here test holds e =
     e ∙ ap (λ o. first (member_faults stage m (members_view es) o))

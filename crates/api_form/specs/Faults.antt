@@ -1,9 +1,10 @@
 -- The faults of a body, in their one order.
-use Rattle.std.specs.Prelude.{ℕ, ◌+◌, List, [], ◌∷◌, ◌++◌, Bool, true, false, nat_le, nat_lt, nat_eq, if◌then◌else◌, Option, Some, None, option_and_then, bytes_eq}
+use Rattle.std.specs.Prelude.{ℕ, ◌+◌, ◌&&◌, ◌||◌, not, codes, List, [], ◌∷◌, ◌++◌, Bool, true, false, nat_le, nat_lt, nat_eq, if◌then◌else◌, Option, Some, None, option_and_then, bytes_eq}
 use Rattle.std.specs.Option.{is_some}
 use Rattle.serde_json.specs.Data.{Data, null, boolean, number, string, array, object, Items, no_items, item, Members, no_members, member, unsigned, negative}
-use Rattle.serde_json.specs.Find.{get_member, as_number, as_u64}
+use Rattle.serde_json.specs.Find.{get_member, as_number, as_str, as_u64}
 use Rattle.api_form.specs.declared.form.Form.{Form}
+use Rattle.api_form.specs.declared.form.Form.TheVariants as form
 use Rattle.api_form.specs.declared.form.Need.{Need}
 use Rattle.api_form.specs.declared.form.Need.TheVariants as need
 use Rattle.api_form.specs.declared.form.Rule.{Rule}
@@ -55,6 +56,18 @@ abbrev pub is_below : Option ℕ → Option ℕ → Bool
 is_below (Some low) (Some high) = nat_lt low high
 is_below _ _ = true
 
+-- the text of a member, where it is there and one
+abbrev pub text_at : Name → Members → Option (List ℕ)
+text_at name ms = option_and_then as_str (stated_at name ms)
+
+-- whether what is selected goes with whether an index is named and whether a projection is stated: the attributes that
+-- are projected are those of an index, and a projection is stated just where specific attributes are selected
+abbrev pub is_selection : Option (List ℕ) → Bool → Bool → Bool
+is_selection None indexed projected = true
+is_selection (Some select) indexed projected =
+    if bytes_eq select (codes "SPECIFIC_ATTRIBUTES") then projected else (
+    if bytes_eq select (codes "ALL_PROJECTED_ATTRIBUTES") then indexed && not projected else not projected)
+
 -- ---- counts of what stands inside
 
 abbrev pub item_count : Items → ℕ
@@ -95,7 +108,6 @@ element_count table (item d ds) = inner_count table d + element_count table ds
 abbrev pub has_kind : Rule → Data → Bool
 has_kind rule.Object (object ms) = true
 has_kind rule.OneOf (object ms) = true
-has_kind (rule.Below low high) (object ms) = true
 has_kind (rule.Map names of) (object ms) = true
 has_kind (rule.Tables of most) (object ms) = true
 has_kind (rule.List of least most) (array ds) = true
@@ -147,10 +159,13 @@ abbrev pub key_faults : Stage → Name → Spelling → List ℕ → List Fault
 key_faults stage.Ranges name spelling key = unless (is_spelled spelling key) (fault.OutOfRange name)
 key_faults _ name spelling key = []
 
--- the fault of two numbers of an object, behind all its members
-abbrev pub order_faults : Stage → Name → Name → Members → List Fault
-order_faults stage.Ranges low high ms = unless (is_below (whole_at low ms) (whole_at high ms)) (fault.OutOfRange low)
-order_faults _ low high ms = []
+-- the fault of a member beside others of its object, behind its own
+abbrev pub beside_faults : Stage → Form → Members → List Fault
+beside_faults stage.Ranges form.Select ms =
+    unless (is_selection (text_at name.Select ms) (is_there name.IndexName ms) (is_there name.ProjectionExpression ms)) fault.Select
+beside_faults stage.Ranges form.TotalSegments ms =
+    unless (is_below (whole_at name.Segment ms) (whole_at name.TotalSegments ms)) (fault.OutOfRange name.Segment)
+beside_faults _ form ms = []
 
 -- ---- the walk
 
@@ -172,7 +187,7 @@ absence _ m ms = []
 -- the faults of one stated member, by those of the value that stands there
 abbrev pub member_faults : Stage → Member → Members → Option Asked → List Fault
 member_faults stage m ms None = absence stage m ms
-member_faults stage m ms (Some faults) = faults stage m.0 m.2
+member_faults stage m ms (Some faults) = faults stage m.0 m.2 ++ beside_faults stage m.2 ms
 
 -- the faults of the stated members, in the order of the table, by those of the values that stand at the names
 abbrev pub stated_faults : Stage → List Member → Members → (List ℕ → Option Asked) → List Fault
@@ -183,7 +198,6 @@ stated_faults stage (m ∷ table) ms at = member_faults stage m ms (at (text_of 
 abbrev pub object_faults : Stage → Form → Rule → Members → (List ℕ → Option Asked) → (Spelling → Form → List Fault) → List Fault
 object_faults stage form rule.Object ms at all = stated_faults stage (members_of form) ms at
 object_faults stage form rule.OneOf ms at all = stated_faults stage (members_of form) ms at
-object_faults stage form (rule.Below low high) ms at all = stated_faults stage (members_of form) ms at ++ order_faults stage low high ms
 object_faults stage form (rule.Map names of) ms at all = all names of
 object_faults stage form (rule.Tables of most) ms at all = all spelling.TableName of
 object_faults stage form _ ms at all = []

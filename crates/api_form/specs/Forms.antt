@@ -3,7 +3,6 @@ use Rattle.std.specs.Prelude.{ℕ, ◌^◌, ◌-◌, List, [], ◌∷◌, Bool, 
 use Rattle.std.specs.Cmp.Lexicographic.{slice_cmp}
 use Rattle.std.specs.Ordering.{nat_cmp, is_lt}
 use Rattle.api_form.specs.Names.{text_of}
-use Rattle.api_form.specs.declared.name.Name.TheVariants as name
 use Rattle.api_form.specs.declared.spelling.Spelling.TheVariants as spelling
 use Rattle.api_form.specs.declared.form.Form.{Form}
 use Rattle.api_form.specs.declared.form.Form.TheVariants as form
@@ -21,7 +20,6 @@ abbrev pub rule_list : Form → Rule
 rule_list of = rule.List of 0 any
 
 abbrev pub rule_of : Form → Rule
-rule_of form.Scan = rule.Below name.Segment name.TotalSegments
 rule_of form.Definitions = rule_list form.Definition
 rule_of form.KeySchema = rule_list form.KeyElement
 rule_of form.Indexes = rule_list form.Index

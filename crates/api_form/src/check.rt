@@ -9,7 +9,7 @@ ghost use Rattle.api_form.specs.Faults.{first, body_faults, faults, element_faul
 use crate::fault::{Fault, Stage};
 use crate::form::{Form, Member, Rule, members, stated_rule};
 use crate::name::Name;
-use crate::own::{absence, key_fault, order_fault, own_fault};
+use crate::own::{absence, beside_fault, key_fault, own_fault};
 use crate::spelling::Spelling;
 use serde_json::{Map, Value};
 use std::alloc::{AllocError as NoMemory, Global};
@@ -70,12 +70,6 @@ fn first_in_object(
 {
     match stated_rule(form) {
         Rule::Object | Rule::OneOf => first_stated(alloc, map, stage, members(form)),
-        Rule::Below { low, high } => {
-            if let Some(fault) = first_stated(alloc, map, stage, members(form))? {
-                return Ok(Some(fault));
-            }
-            Ok(order_fault(map, stage, low, high))
-        }
         Rule::Map { names, of } => first_in_map(alloc, map, stage, name, names, of),
         Rule::Tables { of, .. } => {
             first_in_map(alloc, map, stage, name, Spelling::TableName, of)
@@ -162,5 +156,8 @@ fn first_of_member(
     if value.is_null() {
         return Ok(absence(map, stage, member));
     }
-    first_fault(alloc, value, stage, member.0, member.2)
+    if let Some(fault) = first_fault(alloc, value, stage, member.0, member.2)? {
+        return Ok(Some(fault));
+    }
+    Ok(beside_fault(map, stage, member.2))
 }

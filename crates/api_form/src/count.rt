@@ -3,7 +3,7 @@
 ghost use Rattle.std.specs.Prelude.{◌≡◌, option_map, nat_le};
 ghost use Rattle.serde_json.specs.Find.{get_member};
 ghost use Rattle.serde_json.specs.View.{view, items_view, members_view};
-ghost use Rattle.api_form.specs.Faults.{stated_at, whole_at, is_there, is_below, stated_count, inner_count, element_count, array_count, list_count, request_count, total_count};
+ghost use Rattle.api_form.specs.Faults.{stated_at, whole_at, text_at, is_there, is_below, stated_count, inner_count, element_count, array_count, list_count, request_count, total_count};
 ghost use Rattle.api_form.specs.Names.{text_of};
 ghost use Rattle.api_form.specs.Spellings.{is_between};
 
@@ -40,6 +40,13 @@ fn number_at(map: &Map<String, Value>, name: Name) -> Option<u64>
     ensures { result ≡ whole_at name (members_view map.now.entries) }
 {
     stated_at(map, name)?.as_u64()
+}
+
+/// The text of a member, where it is there and one.
+pub fn text_at(map: &Map<String, Value>, name: Name) -> Option<&str>
+    ensures { option_map (λ text. text.now) result ≡ text_at name (members_view map.now.entries) }
+{
+    stated_at(map, name)?.as_str()
 }
 
 /// How many of the members of a table are there.

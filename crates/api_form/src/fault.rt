@@ -27,4 +27,6 @@ pub enum Fault {
     Legacy(Name),
     /// An attribute value is of no form that it may have.
     BadValue(JsonFault),
+    /// The attributes to select do not go with the index and the projection that are stated.
+    Select,
 }

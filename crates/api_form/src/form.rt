@@ -108,8 +108,6 @@ pub enum Rule {
     Object,
     /// An object with exactly one of the members of the form's table.
     OneOf,
-    /// An object with the members of the form's table, of which one number is below another where both are there.
-    Below { low: Name, high: Name },
     /// A list of this many elements of one form.
     List { of: Form, least: u64, most: u64 },
     /// A list of objects of one form that have at most one of the members of its table, all together.
@@ -138,10 +136,6 @@ pub fn stated_rule(form: Form) -> Rule
     ensures { result ≡ rule_of form }
 {
     match form {
-        Form::Scan => Rule::Below {
-            low: Name::Segment,
-            high: Name::TotalSegments,
-        },
         Form::Definitions => list_of(Form::Definition),
         Form::KeySchema => list_of(Form::KeyElement),
         Form::Indexes => list_of(Form::Index),

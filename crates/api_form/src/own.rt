@@ -4,9 +4,10 @@ ghost use Rattle.std.specs.Prelude.{◌≡◌, IfOk};
 ghost use Rattle.serde_json.specs.Data as json;
 ghost use Rattle.serde_json.specs.View.{view, number_view, items_view, members_view};
 ghost use Rattle.api_form.specs.Values.{value_fault};
-ghost use Rattle.api_form.specs.Faults.{first, own_faults, range_faults, bad_value, has_kind, is_in_range, key_faults, order_faults, absence, is_needed, unless};
+ghost use Rattle.api_form.specs.declared.name.Name.TheVariants as name;
+ghost use Rattle.api_form.specs.Faults.{first, own_faults, range_faults, bad_value, has_kind, is_in_range, key_faults, beside_faults, is_selection, text_at, is_there, absence, is_needed, unless};
 
-use crate::count::{has_at_most_one, has_requests, is_below, is_there, stated_count};
+use crate::count::{has_at_most_one, has_requests, is_below, is_there, stated_count, text_at};
 use crate::fault::{Fault, Stage};
 use crate::form::{Form, Member, Need, Rule, has_word, members, stated_rule};
 use crate::name::Name;
@@ -37,8 +38,7 @@ fn has_kind(rule: Rule, json: &Value) -> bool
     ensures { result ≡ has_kind rule (view json.now) }
 {
     match rule {
-        Rule::Object | Rule::OneOf | Rule::Below { .. } | Rule::Map { .. } | Rule::Tables { .. } =>
-            json.is_object(),
+        Rule::Object | Rule::OneOf | Rule::Map { .. } | Rule::Tables { .. } => json.is_object(),
         Rule::List { .. } | Rule::AtMostOne { .. } => json.is_array(),
         Rule::Text(_) | Rule::Word => json.is_string(),
         Rule::Whole { .. } => json.is_u64() || json.is_i64(),
@@ -138,13 +138,32 @@ pub fn key_fault(stage: Stage, name: Name, spelling: Spelling, key: &str) -> Opt
     }
 }
 
-/// The fault of two numbers of an object at a stage.
-pub fn order_fault(map: &Map<String, Value>, stage: Stage, low: Name, high: Name) -> Option<Fault>
-    ensures { result ≡ first (order_faults stage low high (members_view map.now.entries)) }
+/// The fault of a member beside others of its object, behind its own.
+pub fn beside_fault(map: &Map<String, Value>, stage: Stage, form: Form) -> Option<Fault>
+    ensures { result ≡ first (beside_faults stage form (members_view map.now.entries)) }
 {
-    match stage {
-        Stage::Ranges => unless(is_below(map, low, high), Fault::OutOfRange(low)),
-        Stage::Kinds | Stage::Absent => None,
+    match (stage, form) {
+        (Stage::Ranges, Form::Select) => unless(is_selection(map), Fault::Select),
+        (Stage::Ranges, Form::TotalSegments) => unless(
+            is_below(map, Name::Segment, Name::TotalSegments),
+            Fault::OutOfRange(Name::Segment),
+        ),
+        _ => None,
+    }
+}
+
+/// Whether what is selected goes with the index and the projection that are stated.
+fn is_selection(map: &Map<String, Value>) -> bool
+    ensures { let ms = members_view map.now.entries in
+        result ≡ is_selection (text_at name.Select ms) (is_there name.IndexName ms) (is_there name.ProjectionExpression ms) }
+{
+    let indexed = is_there(map, Name::IndexName);
+    let projected = is_there(map, Name::ProjectionExpression);
+    match text_at(map, Name::Select) {
+        Some("SPECIFIC_ATTRIBUTES") => projected,
+        Some("ALL_PROJECTED_ATTRIBUTES") => indexed && !projected,
+        Some(_) => !projected,
+        None => true,
     }
 }
 

@@ -3,8 +3,11 @@ use serde_json::Value;
 use std::alloc::Global;
 use std::test::Fail;
 
+/// A form, a body and how its first fault is told.
+type Row = (Form, &'static str, &'static str);
+
 /// Bodies by their forms, with their first fault: the stages in order, and in each the members in order of their names.
-static BODIES: [(Form, &str, &str); 192] = [
+static BODIES: [Row; 201] = [
     (
         Form::GetItem,
         r#"{"Key":{"a":{"S":"x"}},"TableName":"Music"}"#,
@@ -648,28 +651,73 @@ static BODIES: [(Form, &str, &str); 192] = [
     ),
     (
         Form::Query,
-        r#"{"KeyConditionExpression":"a = :a","Select":"ALL_ATTRIBUTES","TableName":"Music"}"#,
+        r#"{"IndexName":"abc","KeyConditionExpression":"a = :a","Select":"ALL_ATTRIBUTES","TableName":"Music"}"#,
         "none",
     ),
     (
         Form::Query,
-        r#"{"KeyConditionExpression":"a = :a","Select":"ALL_PROJECTED_ATTRIBUTES","TableName":"Music"}"#,
+        r#"{"IndexName":"abc","KeyConditionExpression":"a = :a","Select":"ALL_PROJECTED_ATTRIBUTES","TableName":"Music"}"#,
         "none",
     ),
     (
         Form::Query,
-        r#"{"KeyConditionExpression":"a = :a","Select":"SPECIFIC_ATTRIBUTES","TableName":"Music"}"#,
+        r#"{"IndexName":"abc","KeyConditionExpression":"a = :a","ProjectionExpression":"a","Select":"SPECIFIC_ATTRIBUTES","TableName":"Music"}"#,
         "none",
     ),
     (
         Form::Query,
-        r#"{"KeyConditionExpression":"a = :a","Select":"COUNT","TableName":"Music"}"#,
+        r#"{"IndexName":"abc","KeyConditionExpression":"a = :a","Select":"COUNT","TableName":"Music"}"#,
         "none",
     ),
     (
         Form::Query,
         r#"{"KeyConditionExpression":"a = :a","Select":"SOME","TableName":"Music"}"#,
         "range Select",
+    ),
+    (
+        Form::Query,
+        r#"{"KeyConditionExpression":"a = :a","Select":"ALL_PROJECTED_ATTRIBUTES","TableName":"M"}"#,
+        "select",
+    ),
+    (
+        Form::Query,
+        r#"{"KeyConditionExpression":"a = :a","Select":"SPECIFIC_ATTRIBUTES","TableName":"M"}"#,
+        "select",
+    ),
+    (
+        Form::Query,
+        r#"{"KeyConditionExpression":"a = :a","ProjectionExpression":"a","Select":"ALL_ATTRIBUTES","TableName":"M"}"#,
+        "select",
+    ),
+    (
+        Form::Query,
+        r#"{"KeyConditionExpression":"a = :a","ProjectionExpression":"a","Select":"COUNT","TableName":"M"}"#,
+        "select",
+    ),
+    (
+        Form::Query,
+        r#"{"IndexName":"abc","KeyConditionExpression":"a = :a","ProjectionExpression":"a","Select":"ALL_PROJECTED_ATTRIBUTES","TableName":"M"}"#,
+        "select",
+    ),
+    (
+        Form::Query,
+        r#"{"KeyConditionExpression":"a = :a","Limit":0,"Select":"SPECIFIC_ATTRIBUTES","TableName":"Music"}"#,
+        "range Limit",
+    ),
+    (
+        Form::Query,
+        r#"{"KeyConditionExpression":"a = :a","ProjectionExpression":"a","TableName":"Music"}"#,
+        "none",
+    ),
+    (
+        Form::Scan,
+        r#"{"Select":"ALL_PROJECTED_ATTRIBUTES","TableName":"Music"}"#,
+        "select",
+    ),
+    (
+        Form::Scan,
+        r#"{"ProjectionExpression":null,"Select":"COUNT","TableName":"Music"}"#,
+        "none",
     ),
     (Form::Scan, r#"{"TableName":"Music"}"#, "none"),
     (
@@ -860,6 +908,7 @@ fn is_told(fault: Option<Fault>, told: &str) -> bool {
         Some(Fault::OutOfRange(name)) => told.strip_prefix("range ") == Some(name.text()),
         Some(Fault::Legacy(name)) => told.strip_prefix("legacy ") == Some(name.text()),
         Some(Fault::BadValue(_)) => told == "value",
+        Some(Fault::Select) => told == "select",
     }
 }
 
@@ -871,7 +920,8 @@ fn tells(alloc: Global, form: Form, body: &str, told: &str) -> Result<bool, Fail
 #[test]
 fn bodies(rt: HostRuntime) -> Result<(), Fail> {
     let alloc = rt.alloc();
-    for (form, body, told) in BODIES {
+    for row in &BODIES {
+        let (form, body, told) = *row;
         assert!(rt; tells(alloc, form, body, told)?, "{told} of {body}");
     }
     Ok(())
@@ -959,7 +1009,8 @@ fn states(alloc: Global, form: Form, members: &str) -> Result<bool, Fail> {
 #[test]
 fn members(rt: HostRuntime) -> Result<(), Fail> {
     let alloc = rt.alloc();
-    for (form, members) in MEMBERS {
+    for row in &MEMBERS {
+        let (form, members) = *row;
         assert!(rt; states(alloc, form, members)?, "{members}");
     }
     Ok(())

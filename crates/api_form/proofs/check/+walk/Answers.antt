@@ -1,9 +1,8 @@
 use Rattle.std.proofs.Common.{◌≡◌, string_bytes, Some, None, ◌∙◌, rules}
-use Rattle.std.proofs.lemmas.Result.{IfOk-weaker}
 use Rattle.serde_json.specs.View.{view, members_view}
-use Rattle.api_form.specs.Faults.{first, faults, own_faults, key_faults, asked_at}
+use Rattle.api_form.specs.Faults.{first, faults, own_faults, key_faults, asked_at, beside_faults}
 use Rattle.api_form.proofs.Members.{Entry}
-use Rattle.api_form.proofs.Walk.{own_wins, member_missed, member_null, member_there, table_found, table_step, key_found, value_found, entry_step}
+use Rattle.api_form.proofs.Walk.{own_wins, front_wins, rest_wins, member_missed, member_null, member_there, table_found, table_step, key_found, value_found, entry_step}
 use Rattle.api_form.specs.declared.form.Form.TheVariants as form
 use Rattle.api_form.specs.declared.form.Need.TheVariants as need
 use Rattle.api_form.specs.declared.form.Member.{Member}
@@ -23,6 +22,20 @@ pub first_of_member-returns-then-is_null : goal.first_of_member-returns-then-is_
 first_of_member-returns-then-is_null t c =
     member_null c.args.member.now c.args.map.now.entries c.args.stage c.text.result.now c.absence-then-is_null.result c.in-Some.value.now c.is_null.result c.text.ensures c.in-Some.ensures.value c.is_null.ensures c.if-is_null.true c.absence-then-is_null.ensures
 
+pub first_of_member-returns-in-Some-2 : goal.first_of_member-returns-in-Some-2
+first_of_member-returns-in-Some-2 t c =
+    let m = c.args.member.now in
+    let found : Some c.in-Some-2.fault ≡ first (faults (view c.in-Some.value.now) c.args.stage m.0 m.2) = search rules in
+    member_there m c.args.map.now.entries c.args.stage c.text.result.now (Some c.in-Some-2.fault) c.in-Some.value.now c.is_null.result c.text.ensures c.in-Some.ensures.value c.is_null.ensures c.if-is_null.false
+    (front_wins _ _ (beside_faults c.args.stage m.2 (members_view c.args.map.now.entries)) found)
+
+pub first_of_member-returns : goal.first_of_member-returns
+first_of_member-returns t c =
+    let m = c.args.member.now in
+    let passed : None ≡ first (faults (view c.in-Some.value.now) c.args.stage m.0 m.2) = search rules in
+    member_there m c.args.map.now.entries c.args.stage c.text.result.now c.beside_fault.result c.in-Some.value.now c.is_null.result c.text.ensures c.in-Some.ensures.value c.is_null.ensures c.if-is_null.false
+    (c.beside_fault.ensures ∙ rest_wins (faults (view c.in-Some.value.now) c.args.stage m.0 m.2) _ passed)
+
 -- what the table is read with past its end
 abbrev none_there : Member
 none_there = record { 0 = name.Body; 1 = need.Required; 2 = form.CreateTable }
@@ -33,10 +46,6 @@ first_stated-returns-in-Some t c =
     table_found c.args.table.now c.loop-member.member-index none_there ms (asked_at ms) c.args.stage c.in-Some.fault c.loop-member-test.true
     (rw c.in-Some.is at c.in_ok-fault.ensures)
     ∙ c.loop-member.invariant
-
-pub first_of_member-returns : goal.first_of_member-returns
-first_of_member-returns t c =
-    IfOk-weaker _ _ _ (λ r e. member_there c.args.member.now c.args.map.now.entries c.args.stage c.text.result.now r c.in-Some.value.now c.is_null.result c.text.ensures c.in-Some.ensures.value c.is_null.ensures c.if-is_null.false e) c.first_fault.ensures
 
 pub first_in_map-returns-in-Some-key_fault : goal.first_in_map-returns-in-Some-key_fault
 first_in_map-returns-in-Some-key_fault t c =
