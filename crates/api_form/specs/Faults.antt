@@ -18,11 +18,11 @@ use Rattle.api_form.specs.declared.fault.Stage.{Stage}
 use Rattle.api_form.specs.declared.fault.Stage.TheVariants as stage
 use Rattle.api_form.specs.declared.fault.Fault.{Fault}
 use Rattle.api_form.specs.declared.fault.Fault.TheVariants as fault
-use Rattle.api_form.specs.declared.value.JsonFault.{JsonFault}
+use Rattle.attr_json.specs.declared.fault.JsonFault.{JsonFault}
 use Rattle.api_form.specs.Names.{text_of}
 use Rattle.api_form.specs.Spellings.{is_between, is_spelled}
 use Rattle.api_form.specs.Forms.{rule_of, members_of, has_word}
-use Rattle.api_form.specs.Values.{value_fault}
+use Rattle.attr_json.specs.Values.{value_fault}
 
 -- ---- what a member is asked for
 

@@ -1,5 +1,4 @@
 pub mod Names
 pub mod Spellings
 pub mod Forms
-pub mod Values
 pub mod Faults

@@ -1,7 +1,7 @@
 //! What may be wrong with a body, and when it is looked for.
 
 use crate::name::Name;
-use crate::value::JsonFault;
+use attr_json::JsonFault;
 
 /// What is looked for in one walk over a body. The stages come one after the other.
 #[derive(Clone, Copy)]

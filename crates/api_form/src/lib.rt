@@ -18,13 +18,12 @@ mod name;
 mod own;
 mod spelling;
 mod tables;
-mod value;
 
+pub use attr_json::JsonFault;
 pub use check::check_body;
 pub use fault::Fault;
 pub use form::Form;
 pub use name::Name;
-pub use value::JsonFault;
 
 #[cfg(test)]
 mod tests;

@@ -3,7 +3,7 @@
 ghost use Rattle.std.specs.Prelude.{◌≡◌, IfOk};
 ghost use Rattle.serde_json.specs.Data as json;
 ghost use Rattle.serde_json.specs.View.{view, number_view, items_view, members_view};
-ghost use Rattle.api_form.specs.Values.{value_fault};
+ghost use Rattle.attr_json.specs.Values.{value_fault};
 ghost use Rattle.api_form.specs.declared.name.Name.TheVariants as name;
 ghost use Rattle.api_form.specs.Faults.{first, own_faults, range_faults, bad_value, has_kind, is_in_range, key_faults, beside_faults, is_selection, text_at, is_there, absence, is_needed, unless};
 
@@ -12,7 +12,7 @@ use crate::fault::{Fault, Stage};
 use crate::form::{Form, Member, Need, Rule, has_word, members, stated_rule};
 use crate::name::Name;
 use crate::spelling::{Spelling, is_between, is_spelled};
-use crate::value::value_fault;
+use attr_json::value_fault;
 use serde_json::{Map, Number, Value};
 use std::alloc::{AllocError as NoMemory, Global};
 

@@ -7,7 +7,7 @@ use std::test::Fail;
 type Row = (Form, &'static str, &'static str);
 
 /// Bodies by their forms, with their first fault: the stages in order, and in each the members in order of their names.
-static BODIES: [Row; 201] = [
+static BODIES: [Row; 204] = [
     (
         Form::GetItem,
         r#"{"Key":{"a":{"S":"x"}},"TableName":"Music"}"#,
@@ -103,6 +103,21 @@ static BODIES: [Row; 201] = [
     (
         Form::GetItem,
         r#"{"Key":{"a":null},"TableName":"Music"}"#,
+        "value",
+    ),
+    (
+        Form::GetItem,
+        r#"{"Key":{"a":{}},"TableName":"Music"}"#,
+        "value",
+    ),
+    (
+        Form::GetItem,
+        r#"{"Key":{"a":{"S":"x","b":null}},"TableName":"Music"}"#,
+        "value",
+    ),
+    (
+        Form::GetItem,
+        r#"{"Key":{"a":{"N":"x"}},"TableName":"M"}"#,
         "value",
     ),
     (
