@@ -1,914 +1,688 @@
 use super::{Fault, Form, check_body};
 use serde_json::Value;
 use std::alloc::Global;
+use std::process::Abort;
 use std::test::Fail;
 
-/// A form, a body and how its first fault is told.
-type Row = (Form, &'static str, &'static str);
+/// A body, and how its first fault is told.
+type Row = (&'static str, &'static str);
 
-/// Bodies by their forms, with their first fault: the stages in order, and in each the members in order of their names.
-static BODIES: [Row; 204] = [
+static GET_ITEM: [Row; 32] = [
+    (r#"{"Key":{"a":{"S":"x"}},"TableName":"Music"}"#, "none"),
+    (r#"[]"#, "kind"),
+    (r#"null"#, "kind"),
+    (r#"5"#, "kind"),
+    (r#""Key""#, "kind"),
+    (r#"{}"#, "missing Key"),
+    (r#"{"Key":{}}"#, "missing TableName"),
+    (r#"{"Key":{},"TableName":null}"#, "missing TableName"),
+    (r#"{"Key":null,"TableName":"Music"}"#, "missing Key"),
+    (r#"{"TableName":5}"#, "kind"),
+    (r#"{"Key":{"a":5},"TableName":5}"#, "kind"),
+    (r#"{"Key":[],"TableName":"Music"}"#, "kind"),
+    (r#"{"AttributesToGet":[],"TableName":"M"}"#, "missing Key"),
+    (r#"{"Key":{"a":5},"TableName":"M"}"#, "value"),
+    (r#"{"Key":{},"TableName":"Mu"}"#, "range TableName"),
+    (r#"{"Key":{},"TableName":"Mus"}"#, "none"),
     (
-        Form::GetItem,
-        r#"{"Key":{"a":{"S":"x"}},"TableName":"Music"}"#,
-        "none",
-    ),
-    (Form::GetItem, r#"[]"#, "kind"),
-    (Form::GetItem, r#"null"#, "kind"),
-    (Form::GetItem, r#"5"#, "kind"),
-    (Form::GetItem, r#""Key""#, "kind"),
-    (Form::GetItem, r#"{}"#, "missing Key"),
-    (Form::GetItem, r#"{"Key":{}}"#, "missing TableName"),
-    (
-        Form::GetItem,
-        r#"{"Key":{},"TableName":null}"#,
-        "missing TableName",
-    ),
-    (
-        Form::GetItem,
-        r#"{"Key":null,"TableName":"Music"}"#,
-        "missing Key",
-    ),
-    (Form::GetItem, r#"{"TableName":5}"#, "kind"),
-    (Form::GetItem, r#"{"Key":{"a":5},"TableName":5}"#, "kind"),
-    (Form::GetItem, r#"{"Key":[],"TableName":"Music"}"#, "kind"),
-    (
-        Form::GetItem,
-        r#"{"AttributesToGet":[],"TableName":"M"}"#,
-        "missing Key",
-    ),
-    (Form::GetItem, r#"{"Key":{"a":5},"TableName":"M"}"#, "value"),
-    (
-        Form::GetItem,
-        r#"{"Key":{},"TableName":"Mu"}"#,
-        "range TableName",
-    ),
-    (Form::GetItem, r#"{"Key":{},"TableName":"Mus"}"#, "none"),
-    (
-        Form::GetItem,
         r#"{"Key":{},"TableName":"nnnnnnnnnnnnnnnnnnnnnnnnnnnnnnnnnnnnnnnnnnnnnnnnnnnnnnnnnnnnnnnnnnnnnnnnnnnnnnnnnnnnnnnnnnnnnnnnnnnnnnnnnnnnnnnnnnnnnnnnnnnnnnnnnnnnnnnnnnnnnnnnnnnnnnnnnnnnnnnnnnnnnnnnnnnnnnnnnnnnnnnnnnnnnnnnnnnnnnnnnnnnnnnnnnnnnnnnnnnnnnnnnnnnnnnnnnnnnnnnnnnnnnnnnnnnnnn"}"#,
         "none",
     ),
     (
-        Form::GetItem,
         r#"{"Key":{},"TableName":"nnnnnnnnnnnnnnnnnnnnnnnnnnnnnnnnnnnnnnnnnnnnnnnnnnnnnnnnnnnnnnnnnnnnnnnnnnnnnnnnnnnnnnnnnnnnnnnnnnnnnnnnnnnnnnnnnnnnnnnnnnnnnnnnnnnnnnnnnnnnnnnnnnnnnnnnnnnnnnnnnnnnnnnnnnnnnnnnnnnnnnnnnnnnnnnnnnnnnnnnnnnnnnnnnnnnnnnnnnnnnnnnnnnnnnnnnnnnnnnnnnnnnnnnnnnnnnnn"}"#,
         "range TableName",
     ),
-    (Form::GetItem, r#"{"Key":{},"TableName":"a-Z_0.9"}"#, "none"),
+    (r#"{"Key":{},"TableName":"a-Z_0.9"}"#, "none"),
+    (r#"{"Key":{},"TableName":"Mus/ic"}"#, "range TableName"),
+    (r#"{"Key":{},"TableName":"Müsic"}"#, "range TableName"),
     (
-        Form::GetItem,
-        r#"{"Key":{},"TableName":"Mus/ic"}"#,
-        "range TableName",
-    ),
-    (
-        Form::GetItem,
-        r#"{"Key":{},"TableName":"Müsic"}"#,
-        "range TableName",
-    ),
-    (
-        Form::GetItem,
         r#"{"AttributesToGet":5,"Key":{"a":5},"TableName":"Music"}"#,
         "legacy AttributesToGet",
     ),
     (
-        Form::GetItem,
         r#"{"AttributesToGet":null,"Key":{},"TableName":"Music"}"#,
         "none",
     ),
     (
-        Form::GetItem,
         r#"{"ConsistentRead":true,"Key":{},"TableName":"Music"}"#,
         "none",
     ),
     (
-        Form::GetItem,
         r#"{"ConsistentRead":"true","Key":{},"TableName":"Music"}"#,
         "kind",
     ),
+    (r#"{"Key":{"":{"S":"x"}},"TableName":"Music"}"#, "range Key"),
+    (r#"{"Key":{"":5},"TableName":"Music"}"#, "range Key"),
     (
-        Form::GetItem,
-        r#"{"Key":{"":{"S":"x"}},"TableName":"Music"}"#,
-        "range Key",
-    ),
-    (
-        Form::GetItem,
-        r#"{"Key":{"":5},"TableName":"Music"}"#,
-        "range Key",
-    ),
-    (
-        Form::GetItem,
         r#"{"Key":{"a":5,"b":{"S":"x"}},"TableName":"Music"}"#,
         "value",
     ),
+    (r#"{"Key":{"a":null},"TableName":"Music"}"#, "value"),
+    (r#"{"Key":{"a":{}},"TableName":"Music"}"#, "value"),
     (
-        Form::GetItem,
-        r#"{"Key":{"a":null},"TableName":"Music"}"#,
-        "value",
-    ),
-    (
-        Form::GetItem,
-        r#"{"Key":{"a":{}},"TableName":"Music"}"#,
-        "value",
-    ),
-    (
-        Form::GetItem,
         r#"{"Key":{"a":{"S":"x","b":null}},"TableName":"Music"}"#,
         "value",
     ),
+    (r#"{"Key":{"a":{"N":"x"}},"TableName":"M"}"#, "value"),
+];
+
+static GET_ITEM_MORE: [Row; 15] = [
     (
-        Form::GetItem,
-        r#"{"Key":{"a":{"N":"x"}},"TableName":"M"}"#,
-        "value",
-    ),
-    (
-        Form::GetItem,
         r#"{"ExpressionAttributeNames":{},"Key":{},"TableName":"Music"}"#,
         "none",
     ),
     (
-        Form::GetItem,
         r##"{"ExpressionAttributeNames":{"#a_1":"x"},"Key":{},"TableName":"Music"}"##,
         "none",
     ),
     (
-        Form::GetItem,
         r#"{"ExpressionAttributeNames":{"a":"x"},"Key":{},"TableName":"Music"}"#,
         "range ExpressionAttributeNames",
     ),
     (
-        Form::GetItem,
         r##"{"ExpressionAttributeNames":{"#":"x"},"Key":{},"TableName":"Music"}"##,
         "range ExpressionAttributeNames",
     ),
     (
-        Form::GetItem,
         r##"{"ExpressionAttributeNames":{"#a-b":"x"},"Key":{},"TableName":"Music"}"##,
         "range ExpressionAttributeNames",
     ),
     (
-        Form::GetItem,
         r#"{"ExpressionAttributeNames":{":a":"x"},"Key":{},"TableName":"Music"}"#,
         "range ExpressionAttributeNames",
     ),
     (
-        Form::GetItem,
         r#"{"ExpressionAttributeNames":{"":"x"},"Key":{},"TableName":"Music"}"#,
         "range ExpressionAttributeNames",
     ),
     (
-        Form::GetItem,
         r##"{"ExpressionAttributeNames":{"#a":""},"Key":{"a":5},"TableName":"Music"}"##,
         "range ExpressionAttributeNames",
     ),
     (
-        Form::GetItem,
         r##"{"ExpressionAttributeNames":{"#a":null},"Key":{},"TableName":"Music"}"##,
         "kind",
     ),
     (
-        Form::GetItem,
         r#"{"ExpressionAttributeNames":{"a":5},"Key":{},"TableName":"Music"}"#,
         "kind",
     ),
     (
-        Form::GetItem,
         r#"{"Expected":5,"ExpressionAttributeValues":5,"Key":{},"TableName":"Music"}"#,
         "none",
     ),
     (
-        Form::GetItem,
         r#"{"Key":{},"ProjectionExpression":"","TableName":"Music"}"#,
         "none",
     ),
     (
-        Form::GetItem,
         r#"{"Key":{},"ReturnConsumedCapacity":"INDEXES","TableName":"Music"}"#,
         "none",
     ),
     (
-        Form::GetItem,
         r#"{"Key":{},"ReturnConsumedCapacity":"total","TableName":"Music"}"#,
         "range ReturnConsumedCapacity",
     ),
     (
-        Form::GetItem,
         r#"{"Key":{},"ReturnItemCollectionMetrics":"any","TableName":"Music"}"#,
         "none",
     ),
-    (Form::PutItem, r#"{"Item":{},"TableName":"Music"}"#, "none"),
-    (Form::PutItem, r#"{}"#, "missing Item"),
+];
+
+static PUT_ITEM: [Row; 12] = [
+    (r#"{"Item":{},"TableName":"Music"}"#, "none"),
+    (r#"{}"#, "missing Item"),
     (
-        Form::PutItem,
         r#"{"Item":{"a":{"S":"x"},"":{"S":"x"}},"TableName":"Music"}"#,
         "range Item",
     ),
     (
-        Form::PutItem,
         r#"{"ConditionalOperator":"AND","Expected":{},"Item":{},"TableName":"Music"}"#,
         "legacy ConditionalOperator",
     ),
     (
-        Form::PutItem,
         r#"{"Expected":{},"Item":{"a":5},"TableName":"Music"}"#,
         "legacy Expected",
     ),
     (
-        Form::PutItem,
         r#"{"ConditionExpression":5,"ConditionalOperator":"AND","Item":{},"TableName":"Music"}"#,
         "kind",
     ),
     (
-        Form::PutItem,
         r#"{"ExpressionAttributeValues":{":v":{"S":"x"}},"Item":{},"TableName":"Music"}"#,
         "none",
     ),
     (
-        Form::PutItem,
         r##"{"ExpressionAttributeValues":{"#v":{"S":"x"}},"Item":{},"TableName":"Music"}"##,
         "range ExpressionAttributeValues",
     ),
     (
-        Form::PutItem,
         r#"{"ExpressionAttributeValues":{":v":5},"Item":{"":5},"TableName":"Music"}"#,
         "value",
     ),
     (
-        Form::PutItem,
         r#"{"Item":{},"ReturnValues":"ALL_OLD","TableName":"Music"}"#,
         "none",
     ),
     (
-        Form::PutItem,
         r#"{"Item":{},"ReturnValues":"ALL_NEW","TableName":"Music"}"#,
         "range ReturnValues",
     ),
     (
-        Form::PutItem,
         r#"{"Item":{},"ReturnValues":"","TableName":"M"}"#,
         "range ReturnValues",
     ),
+];
+
+static DELETE_ITEM: [Row; 3] = [
+    (r#"{"Key":{},"TableName":"Music"}"#, "none"),
+    (r#"{"Item":{},"TableName":"Music"}"#, "missing Key"),
     (
-        Form::DeleteItem,
-        r#"{"Key":{},"TableName":"Music"}"#,
-        "none",
-    ),
-    (
-        Form::DeleteItem,
-        r#"{"Item":{},"TableName":"Music"}"#,
-        "missing Key",
-    ),
-    (
-        Form::DeleteItem,
         r#"{"Key":{},"ReturnValues":"UPDATED_OLD","TableName":"Music"}"#,
         "range ReturnValues",
     ),
+];
+
+static UPDATE_ITEM: [Row; 8] = [
     (
-        Form::UpdateItem,
         r#"{"Key":{},"ReturnValues":"NONE","TableName":"Music"}"#,
         "none",
     ),
     (
-        Form::UpdateItem,
         r#"{"Key":{},"ReturnValues":"ALL_OLD","TableName":"Music"}"#,
         "none",
     ),
     (
-        Form::UpdateItem,
         r#"{"Key":{},"ReturnValues":"UPDATED_OLD","TableName":"Music"}"#,
         "none",
     ),
     (
-        Form::UpdateItem,
         r#"{"Key":{},"ReturnValues":"ALL_NEW","TableName":"Music"}"#,
         "none",
     ),
     (
-        Form::UpdateItem,
         r#"{"Key":{},"ReturnValues":"UPDATED_NEW","TableName":"Music"}"#,
         "none",
     ),
     (
-        Form::UpdateItem,
         r#"{"Key":{},"ReturnValues":"all_old","TableName":"Music"}"#,
         "range ReturnValues",
     ),
     (
-        Form::UpdateItem,
         r#"{"AttributeUpdates":{},"Expected":{},"Key":{},"TableName":"Music"}"#,
         "legacy AttributeUpdates",
     ),
     (
-        Form::UpdateItem,
         r#"{"AttributeUpdates":{},"UpdateExpression":"SET a = b"}"#,
         "missing Key",
     ),
+];
+
+static CREATE_TABLE: [Row; 27] = [
     (
-        Form::CreateTable,
         r#"{"AttributeDefinitions":[{"AttributeName":"a","AttributeType":"S"}],"KeySchema":[{"AttributeName":"a","KeyType":"HASH"}],"TableName":"T"}"#,
         "none",
     ),
+    (r#"{"TableName":"T"}"#, "missing AttributeDefinitions"),
     (
-        Form::CreateTable,
-        r#"{"TableName":"T"}"#,
-        "missing AttributeDefinitions",
-    ),
-    (
-        Form::CreateTable,
         r#"{"AttributeDefinitions":[],"TableName":"T"}"#,
         "missing KeySchema",
     ),
     (
-        Form::CreateTable,
         r#"{"AttributeDefinitions":[{"AttributeType":"Q"}],"TableName":"T"}"#,
         "missing AttributeName",
     ),
     (
-        Form::CreateTable,
         r#"{"AttributeDefinitions":[{"AttributeName":"a","AttributeType":"Q"}],"KeySchema":[]}"#,
         "missing TableName",
     ),
     (
-        Form::CreateTable,
         r#"{"AttributeDefinitions":[{"AttributeName":"a","AttributeType":"Q"}],"KeySchema":[],"TableName":""}"#,
         "range AttributeType",
     ),
     (
-        Form::CreateTable,
         r#"{"AttributeDefinitions":[null],"KeySchema":[],"TableName":"T"}"#,
         "kind",
     ),
     (
-        Form::CreateTable,
         r#"{"AttributeDefinitions":{},"KeySchema":[],"TableName":"T"}"#,
         "kind",
     ),
     (
-        Form::CreateTable,
         r#"{"AttributeDefinitions":[{"AttributeName":"a","AttributeType":"S"}],"KeySchema":[{"AttributeName":"a","KeyType":"KEY"}],"TableName":"T"}"#,
         "range KeyType",
     ),
     (
-        Form::CreateTable,
         r#"{"AttributeDefinitions":[{"AttributeName":"a","AttributeType":"S"}],"KeySchema":[{"AttributeName":"a"}],"TableName":"T"}"#,
         "missing KeyType",
     ),
     (
-        Form::CreateTable,
         r#"{"AttributeDefinitions":[{"AttributeName":"a","AttributeType":"S"}],"BillingMode":"FREE","KeySchema":[{"AttributeName":"a","KeyType":"HASH"}],"TableName":"T"}"#,
         "range BillingMode",
     ),
     (
-        Form::CreateTable,
         r#"{"AttributeDefinitions":[{"AttributeName":"a","AttributeType":"S"}],"KeySchema":[{"AttributeName":"a","KeyType":"HASH"}],"ProvisionedThroughput":{"ReadCapacityUnits":0},"TableName":"T"}"#,
         "none",
     ),
     (
-        Form::CreateTable,
         r#"{"AttributeDefinitions":[{"AttributeName":"a","AttributeType":"S"}],"KeySchema":[{"AttributeName":"a","KeyType":"HASH"}],"ProvisionedThroughput":{"ReadCapacityUnits":18446744073709551615},"TableName":"T"}"#,
         "none",
     ),
     (
-        Form::CreateTable,
         r#"{"AttributeDefinitions":[{"AttributeName":"a","AttributeType":"S"}],"KeySchema":[{"AttributeName":"a","KeyType":"HASH"}],"ProvisionedThroughput":{"ReadCapacityUnits":-1},"TableName":"T"}"#,
         "range ReadCapacityUnits",
     ),
     (
-        Form::CreateTable,
         r#"{"AttributeDefinitions":[{"AttributeName":"a","AttributeType":"S"}],"KeySchema":[{"AttributeName":"a","KeyType":"HASH"}],"ProvisionedThroughput":{"ReadCapacityUnits":1.0},"TableName":"T"}"#,
         "kind",
     ),
     (
-        Form::CreateTable,
         r#"{"AttributeDefinitions":[{"AttributeName":"a","AttributeType":"S"}],"KeySchema":[{"AttributeName":"a","KeyType":"HASH"}],"ProvisionedThroughput":{"ReadCapacityUnits":1e2},"TableName":"T"}"#,
         "kind",
     ),
     (
-        Form::CreateTable,
         r#"{"AttributeDefinitions":[{"AttributeName":"a","AttributeType":"S"}],"KeySchema":[{"AttributeName":"a","KeyType":"HASH"}],"ProvisionedThroughput":{"ReadCapacityUnits":18446744073709551616},"TableName":"T"}"#,
         "kind",
     ),
     (
-        Form::CreateTable,
         r#"{"AttributeDefinitions":[{"AttributeName":"a","AttributeType":"S"}],"KeySchema":[{"AttributeName":"a","KeyType":"HASH"}],"ProvisionedThroughput":{"ReadCapacityUnits":"1"},"TableName":"T"}"#,
         "kind",
     ),
     (
-        Form::CreateTable,
         r#"{"AttributeDefinitions":[{"AttributeName":"a","AttributeType":"S"}],"KeySchema":[{"AttributeName":"a","KeyType":"HASH"}],"ProvisionedThroughput":{"WriteCapacityUnits":-1},"TableName":"T"}"#,
         "range WriteCapacityUnits",
     ),
     (
-        Form::CreateTable,
         r#"{"AttributeDefinitions":[{"AttributeName":"a","AttributeType":"S"}],"KeySchema":[{"AttributeName":"a","KeyType":"HASH"}],"LocalSecondaryIndexes":[{}],"TableName":"T"}"#,
         "missing IndexName",
     ),
     (
-        Form::CreateTable,
         r#"{"AttributeDefinitions":[{"AttributeName":"a","AttributeType":"S"}],"KeySchema":[{"AttributeName":"a","KeyType":"HASH"}],"LocalSecondaryIndexes":[{"IndexName":"i"}],"TableName":"T"}"#,
         "missing KeySchema",
     ),
     (
-        Form::CreateTable,
         r#"{"AttributeDefinitions":[{"AttributeName":"a","AttributeType":"S"}],"KeySchema":[{"AttributeName":"a","KeyType":"HASH"}],"LocalSecondaryIndexes":[{"IndexName":"i","KeySchema":[]}],"TableName":"T"}"#,
         "missing Projection",
     ),
     (
-        Form::CreateTable,
         r#"{"AttributeDefinitions":[{"AttributeName":"a","AttributeType":"S"}],"KeySchema":[{"AttributeName":"a","KeyType":"HASH"}],"LocalSecondaryIndexes":[{"IndexName":"i","KeySchema":[],"Projection":{}}],"TableName":"T"}"#,
         "missing ProjectionType",
     ),
     (
-        Form::CreateTable,
         r#"{"AttributeDefinitions":[{"AttributeName":"a","AttributeType":"S"}],"KeySchema":[{"AttributeName":"a","KeyType":"HASH"}],"LocalSecondaryIndexes":[{"IndexName":"i","KeySchema":[],"Projection":{"ProjectionType":"SOME"}}],"TableName":"T"}"#,
         "range ProjectionType",
     ),
     (
-        Form::CreateTable,
         r#"{"AttributeDefinitions":[{"AttributeName":"a","AttributeType":"S"}],"KeySchema":[{"AttributeName":"a","KeyType":"HASH"}],"LocalSecondaryIndexes":[{"IndexName":"i","KeySchema":[],"Projection":{"NonKeyAttributes":[5],"ProjectionType":"ALL"}}],"TableName":"T"}"#,
         "kind",
     ),
     (
-        Form::CreateTable,
         r#"{"AttributeDefinitions":[{"AttributeName":"a","AttributeType":"S"}],"KeySchema":[{"AttributeName":"a","KeyType":"HASH"}],"GlobalSecondaryIndexes":[{"IndexName":"i","KeySchema":[],"Projection":{"ProjectionType":"ALL"},"ProvisionedThroughput":5}],"TableName":"T"}"#,
         "none",
     ),
     (
-        Form::CreateTable,
         r#"{"AttributeDefinitions":[{"AttributeName":"a","AttributeType":"S"}],"KeySchema":[{"AttributeName":"a","KeyType":"HASH"}],"ReturnConsumedCapacity":"any","TableName":"T"}"#,
         "none",
     ),
-    (Form::UpdateTable, r#"{}"#, "missing TableName"),
+];
+
+static UPDATE_TABLE: [Row; 10] = [
+    (r#"{}"#, "missing TableName"),
     (
-        Form::UpdateTable,
         r#"{"GlobalSecondaryIndexUpdates":[],"TableName":"Music"}"#,
         "none",
     ),
     (
-        Form::UpdateTable,
         r#"{"GlobalSecondaryIndexUpdates":[{"Create":{"IndexName":"i","KeySchema":[],"Projection":{"ProjectionType":"ALL"}}}],"TableName":"Music"}"#,
         "none",
     ),
     (
-        Form::UpdateTable,
         r#"{"GlobalSecondaryIndexUpdates":[{"Update":5},{"Create":null,"Delete":{"IndexName":"abc"}}],"TableName":"Music"}"#,
         "none",
     ),
     (
-        Form::UpdateTable,
         r#"{"GlobalSecondaryIndexUpdates":[{"Create":{"IndexName":"i","KeySchema":[],"Projection":{"ProjectionType":"ALL"}}},{"Delete":{"IndexName":"abc"}}],"TableName":"Music"}"#,
         "range GlobalSecondaryIndexUpdates",
     ),
     (
-        Form::UpdateTable,
         r#"{"GlobalSecondaryIndexUpdates":[{"Create":{"IndexName":"i","KeySchema":[],"Projection":{"ProjectionType":"ALL"}},"Delete":{"IndexName":"abc"}}],"TableName":"Music"}"#,
         "range GlobalSecondaryIndexUpdates",
     ),
     (
-        Form::UpdateTable,
         r#"{"GlobalSecondaryIndexUpdates":[{"Delete":{"IndexName":"i"}},{"Delete":{"IndexName":"i"}}],"TableName":"Music"}"#,
         "range GlobalSecondaryIndexUpdates",
     ),
     (
-        Form::UpdateTable,
         r#"{"GlobalSecondaryIndexUpdates":[{"Delete":{"IndexName":"i"}}],"TableName":"Music"}"#,
         "range IndexName",
     ),
     (
-        Form::UpdateTable,
         r#"{"GlobalSecondaryIndexUpdates":[{"Delete":{}}],"TableName":"Music"}"#,
         "missing IndexName",
     ),
     (
-        Form::UpdateTable,
         r#"{"GlobalSecondaryIndexUpdates":[{"Create":{"IndexName":5}}],"TableName":"Music"}"#,
         "kind",
     ),
-    (Form::DeleteTable, r#"{"TableName":"Music"}"#, "none"),
-    (Form::DeleteTable, r#"{"TableName":"M"}"#, "range TableName"),
-    (Form::DescribeTable, r#"{}"#, "missing TableName"),
+];
+
+static DELETE_TABLE: [Row; 2] = [
+    (r#"{"TableName":"Music"}"#, "none"),
+    (r#"{"TableName":"M"}"#, "range TableName"),
+];
+
+static DESCRIBE_TABLE: [Row; 2] = [
+    (r#"{}"#, "missing TableName"),
     (
-        Form::DescribeTable,
         r#"{"ReturnConsumedCapacity":"any","ReturnItemCollectionMetrics":"any","TableName":"Music"}"#,
         "none",
     ),
-    (Form::ListTables, r#"{"Limit":0}"#, "range Limit"),
-    (Form::ListTables, r#"{"Limit":1}"#, "none"),
-    (Form::ListTables, r#"{"Limit":100}"#, "none"),
-    (Form::ListTables, r#"{"Limit":101}"#, "range Limit"),
-    (Form::ListTables, r#"{"Limit":-1}"#, "range Limit"),
-    (Form::ListTables, r#"{"Limit":"5"}"#, "kind"),
-    (Form::ListTables, r#"{"Limit":2.5}"#, "kind"),
+];
+
+static LIST_TABLES: [Row; 8] = [
+    (r#"{"Limit":0}"#, "range Limit"),
+    (r#"{"Limit":1}"#, "none"),
+    (r#"{"Limit":100}"#, "none"),
+    (r#"{"Limit":101}"#, "range Limit"),
+    (r#"{"Limit":-1}"#, "range Limit"),
+    (r#"{"Limit":"5"}"#, "kind"),
+    (r#"{"Limit":2.5}"#, "kind"),
     (
-        Form::ListTables,
         r#"{"ExclusiveStartTableName":"M","Limit":0}"#,
         "range ExclusiveStartTableName",
     ),
-    (Form::BatchGetItem, r#"{}"#, "missing RequestItems"),
+];
+
+static BATCH_GET_ITEM: [Row; 12] = [
+    (r#"{}"#, "missing RequestItems"),
+    (r#"{"RequestItems":{}}"#, "range RequestItems"),
+    (r#"{"RequestItems":{"Tab":null}}"#, "kind"),
+    (r#"{"RequestItems":{"Tab":{}}}"#, "missing Keys"),
     (
-        Form::BatchGetItem,
-        r#"{"RequestItems":{}}"#,
-        "range RequestItems",
-    ),
-    (
-        Form::BatchGetItem,
-        r#"{"RequestItems":{"Tab":null}}"#,
-        "kind",
-    ),
-    (
-        Form::BatchGetItem,
-        r#"{"RequestItems":{"Tab":{}}}"#,
-        "missing Keys",
-    ),
-    (
-        Form::BatchGetItem,
         r#"{"RequestItems":{"Tab":{"Keys":[]}}}"#,
         "range RequestItems",
     ),
     (
-        Form::BatchGetItem,
         r#"{"RequestItems":{"Tab":{"Keys":[]},"Two":{"Keys":[{}]}}}"#,
         "none",
     ),
     (
-        Form::BatchGetItem,
         r#"{"RequestItems":{"Ta":{"Keys":[{"a":5}]}}}"#,
         "range RequestItems",
     ),
+    (r#"{"RequestItems":{"Tab":{"Keys":[5]}}}"#, "kind"),
     (
-        Form::BatchGetItem,
-        r#"{"RequestItems":{"Tab":{"Keys":[5]}}}"#,
-        "kind",
-    ),
-    (
-        Form::BatchGetItem,
         r#"{"RequestItems":{"Tab":{"Keys":[{"a":5}]}},"ReturnConsumedCapacity":""}"#,
         "value",
     ),
     (
-        Form::BatchGetItem,
         r#"{"RequestItems":{"Tab":{"AttributesToGet":5,"Keys":[{"":5}]}}}"#,
         "legacy AttributesToGet",
     ),
     (
-        Form::BatchGetItem,
         r#"{"RequestItems":{"Tab":{"ConsistentRead":5,"Keys":[{}]}}}"#,
         "kind",
     ),
     (
-        Form::BatchGetItem,
         r#"{"RequestItems":{"Tab":{"Keys":[{"":5}]},"Two":{"Keys":[]}}}"#,
         "range Keys",
     ),
+];
+
+static BATCH_WRITE_ITEM: [Row; 10] = [
     (
-        Form::BatchWriteItem,
         r#"{"RequestItems":{"Tab":[{"PutRequest":{"Item":{}}},{"DeleteRequest":{"Key":{}}}]}}"#,
         "none",
     ),
+    (r#"{"RequestItems":{"Tab":[]}}"#, "range RequestItems"),
+    (r#"{"RequestItems":{"Tab":5}}"#, "kind"),
+    (r#"{"RequestItems":{"Tab":[null]}}"#, "kind"),
+    (r#"{"RequestItems":{"Tab":[{}]}}"#, "range RequestItems"),
     (
-        Form::BatchWriteItem,
-        r#"{"RequestItems":{"Tab":[]}}"#,
-        "range RequestItems",
-    ),
-    (
-        Form::BatchWriteItem,
-        r#"{"RequestItems":{"Tab":5}}"#,
-        "kind",
-    ),
-    (
-        Form::BatchWriteItem,
-        r#"{"RequestItems":{"Tab":[null]}}"#,
-        "kind",
-    ),
-    (
-        Form::BatchWriteItem,
-        r#"{"RequestItems":{"Tab":[{}]}}"#,
-        "range RequestItems",
-    ),
-    (
-        Form::BatchWriteItem,
         r#"{"RequestItems":{"Tab":[{"DeleteRequest":{"Key":{}},"PutRequest":{"Item":{}}}]}}"#,
         "range RequestItems",
     ),
     (
-        Form::BatchWriteItem,
         r#"{"RequestItems":{"Tab":[{"DeleteRequest":{"Key":{}},"PutRequest":null}]}}"#,
         "none",
     ),
     (
-        Form::BatchWriteItem,
         r#"{"RequestItems":{"Tab":[{},{"PutRequest":{}}]}}"#,
         "missing Item",
     ),
     (
-        Form::BatchWriteItem,
         r#"{"RequestItems":{"Tab":[{"DeleteRequest":{}}]}}"#,
         "missing Key",
     ),
     (
-        Form::BatchWriteItem,
         r#"{"RequestItems":{"Tab":[{"PutRequest":{"Item":{"a":5}}}],"X":[]}}"#,
         "value",
     ),
+];
+
+static QUERY: [Row; 23] = [
     (
-        Form::Query,
         r#"{"KeyConditionExpression":"a = :a","TableName":"Music"}"#,
         "none",
     ),
+    (r#"{"TableName":"Music"}"#, "missing KeyConditionExpression"),
     (
-        Form::Query,
-        r#"{"TableName":"Music"}"#,
-        "missing KeyConditionExpression",
-    ),
-    (
-        Form::Query,
         r#"{"KeyConditions":{},"TableName":"Music"}"#,
         "missing KeyConditionExpression",
     ),
     (
-        Form::Query,
         r#"{"KeyConditionExpression":"a = :a","KeyConditions":{},"Limit":0,"TableName":"Music"}"#,
         "legacy KeyConditions",
     ),
     (
-        Form::Query,
         r#"{"IndexName":"i","KeyConditionExpression":"a = :a","Limit":0,"TableName":"Music"}"#,
         "range IndexName",
     ),
     (
-        Form::Query,
         r#"{"KeyConditionExpression":"a = :a","Limit":0,"TableName":"Music"}"#,
         "range Limit",
     ),
     (
-        Form::Query,
         r#"{"KeyConditionExpression":"a = :a","Limit":18446744073709551615,"TableName":"Music"}"#,
         "none",
     ),
     (
-        Form::Query,
         r#"{"ExclusiveStartKey":{"a":5},"KeyConditionExpression":"a = :a","TableName":"Music"}"#,
         "value",
     ),
     (
-        Form::Query,
         r#"{"ExclusiveStartKey":{"":5},"KeyConditionExpression":"a = :a","TableName":"Music"}"#,
         "range ExclusiveStartKey",
     ),
     (
-        Form::Query,
         r#"{"KeyConditionExpression":"a = :a","QueryFilter":{},"Select":"","TableName":"Music"}"#,
         "legacy QueryFilter",
     ),
     (
-        Form::Query,
         r#"{"KeyConditionExpression":"a = :a","ScanFilter":{},"ScanIndexForward":false,"TableName":"Music"}"#,
         "none",
     ),
     (
-        Form::Query,
         r#"{"IndexName":"abc","KeyConditionExpression":"a = :a","Select":"ALL_ATTRIBUTES","TableName":"Music"}"#,
         "none",
     ),
     (
-        Form::Query,
         r#"{"IndexName":"abc","KeyConditionExpression":"a = :a","Select":"ALL_PROJECTED_ATTRIBUTES","TableName":"Music"}"#,
         "none",
     ),
     (
-        Form::Query,
         r#"{"IndexName":"abc","KeyConditionExpression":"a = :a","ProjectionExpression":"a","Select":"SPECIFIC_ATTRIBUTES","TableName":"Music"}"#,
         "none",
     ),
     (
-        Form::Query,
         r#"{"IndexName":"abc","KeyConditionExpression":"a = :a","Select":"COUNT","TableName":"Music"}"#,
         "none",
     ),
     (
-        Form::Query,
         r#"{"KeyConditionExpression":"a = :a","Select":"SOME","TableName":"Music"}"#,
         "range Select",
     ),
     (
-        Form::Query,
         r#"{"KeyConditionExpression":"a = :a","Select":"ALL_PROJECTED_ATTRIBUTES","TableName":"M"}"#,
         "select",
     ),
     (
-        Form::Query,
         r#"{"KeyConditionExpression":"a = :a","Select":"SPECIFIC_ATTRIBUTES","TableName":"M"}"#,
         "select",
     ),
     (
-        Form::Query,
         r#"{"KeyConditionExpression":"a = :a","ProjectionExpression":"a","Select":"ALL_ATTRIBUTES","TableName":"M"}"#,
         "select",
     ),
     (
-        Form::Query,
         r#"{"KeyConditionExpression":"a = :a","ProjectionExpression":"a","Select":"COUNT","TableName":"M"}"#,
         "select",
     ),
     (
-        Form::Query,
         r#"{"IndexName":"abc","KeyConditionExpression":"a = :a","ProjectionExpression":"a","Select":"ALL_PROJECTED_ATTRIBUTES","TableName":"M"}"#,
         "select",
     ),
     (
-        Form::Query,
         r#"{"KeyConditionExpression":"a = :a","Limit":0,"Select":"SPECIFIC_ATTRIBUTES","TableName":"Music"}"#,
         "range Limit",
     ),
     (
-        Form::Query,
         r#"{"KeyConditionExpression":"a = :a","ProjectionExpression":"a","TableName":"Music"}"#,
         "none",
     ),
+];
+
+static SCAN: [Row; 17] = [
     (
-        Form::Scan,
         r#"{"Select":"ALL_PROJECTED_ATTRIBUTES","TableName":"Music"}"#,
         "select",
     ),
     (
-        Form::Scan,
         r#"{"ProjectionExpression":null,"Select":"COUNT","TableName":"Music"}"#,
         "none",
     ),
-    (Form::Scan, r#"{"TableName":"Music"}"#, "none"),
+    (r#"{"TableName":"Music"}"#, "none"),
     (
-        Form::Scan,
         r#"{"Segment":3,"TableName":"Music","TotalSegments":4}"#,
         "none",
     ),
     (
-        Form::Scan,
         r#"{"Segment":4,"TableName":"Music","TotalSegments":4}"#,
         "range Segment",
     ),
     (
-        Form::Scan,
         r#"{"Segment":0,"TableName":"Music"}"#,
         "missing TotalSegments",
     ),
     (
-        Form::Scan,
         r#"{"Segment":0,"TableName":"Music","TotalSegments":null}"#,
         "missing TotalSegments",
     ),
-    (Form::Scan, r#"{"TotalSegments":4}"#, "missing Segment"),
+    (r#"{"TotalSegments":4}"#, "missing Segment"),
+    (r#"{"Segment":0,"TotalSegments":4}"#, "missing TableName"),
     (
-        Form::Scan,
-        r#"{"Segment":0,"TotalSegments":4}"#,
-        "missing TableName",
-    ),
-    (
-        Form::Scan,
         r#"{"Segment":-1,"TableName":"Music","TotalSegments":0}"#,
         "range Segment",
     ),
     (
-        Form::Scan,
         r#"{"Segment":1000000,"TableName":"Music","TotalSegments":1000001}"#,
         "range Segment",
     ),
     (
-        Form::Scan,
         r#"{"Segment":999999,"TableName":"Music","TotalSegments":1000000}"#,
         "none",
     ),
     (
-        Form::Scan,
         r#"{"Segment":5,"TableName":"Music","TotalSegments":0}"#,
         "range TotalSegments",
     ),
     (
-        Form::Scan,
         r#"{"Segment":5,"TableName":"Music","TotalSegments":1000001}"#,
         "range TotalSegments",
     ),
     (
-        Form::Scan,
         r#"{"Segment":5,"TableName":"M","TotalSegments":4}"#,
         "range TableName",
     ),
     (
-        Form::Scan,
         r#"{"ScanFilter":{},"Segment":5,"TableName":"Music","TotalSegments":4}"#,
         "legacy ScanFilter",
     ),
     (
-        Form::Scan,
         r#"{"KeyConditionExpression":5,"KeyConditions":5,"QueryFilter":5,"TableName":"Music"}"#,
         "none",
     ),
-    (Form::TransactWriteItems, r#"{}"#, "missing TransactItems"),
+];
+
+static TRANSACT_WRITE_ITEMS: [Row; 17] = [
+    (r#"{}"#, "missing TransactItems"),
+    (r#"{"TransactItems":[]}"#, "range TransactItems"),
     (
-        Form::TransactWriteItems,
-        r#"{"TransactItems":[]}"#,
-        "range TransactItems",
-    ),
-    (
-        Form::TransactWriteItems,
         r#"{"TransactItems":[{"Put":{"Item":{},"TableName":"Music"}}]}"#,
         "none",
     ),
     (
-        Form::TransactWriteItems,
         r#"{"ClientRequestToken":"éééééééééééééééééééééééééééééééééééé","TransactItems":[{"Put":{"Item":{},"TableName":"Music"}}]}"#,
         "none",
     ),
     (
-        Form::TransactWriteItems,
         r#"{"ClientRequestToken":"aaaaaaaaaaaaaaaaaaaaaaaaaaaaaaaaaaaaa","TransactItems":[{"Put":{"Item":{},"TableName":"Music"}}]}"#,
         "range ClientRequestToken",
     ),
     (
-        Form::TransactWriteItems,
         r#"{"ClientRequestToken":"","TransactItems":[{}]}"#,
         "range ClientRequestToken",
     ),
+    (r#"{"TransactItems":[null]}"#, "kind"),
+    (r#"{"TransactItems":[{}]}"#, "range TransactItems"),
     (
-        Form::TransactWriteItems,
-        r#"{"TransactItems":[null]}"#,
-        "kind",
-    ),
-    (
-        Form::TransactWriteItems,
-        r#"{"TransactItems":[{}]}"#,
-        "range TransactItems",
-    ),
-    (
-        Form::TransactWriteItems,
         r#"{"TransactItems":[{"Get":{"Key":{},"TableName":"Music"}}]}"#,
         "range TransactItems",
     ),
     (
-        Form::TransactWriteItems,
         r#"{"TransactItems":[{"Delete":{"Key":{},"TableName":"Music"},"Put":{"Item":{},"TableName":"Music"}}]}"#,
         "range TransactItems",
     ),
+    (r#"{"TransactItems":[{},{"Put":{}}]}"#, "missing Item"),
     (
-        Form::TransactWriteItems,
-        r#"{"TransactItems":[{},{"Put":{}}]}"#,
-        "missing Item",
-    ),
-    (
-        Form::TransactWriteItems,
         r#"{"TransactItems":[{"Put":{"Item":{"a":5},"TableName":"M"}},{}]}"#,
         "value",
     ),
     (
-        Form::TransactWriteItems,
         r#"{"TransactItems":[{"Put":{"Item":{},"TableName":"M"}}]}"#,
         "range TableName",
     ),
     (
-        Form::TransactWriteItems,
         r#"{"TransactItems":[{"Update":{"Key":{},"TableName":"Music"}}]}"#,
         "missing UpdateExpression",
     ),
     (
-        Form::TransactWriteItems,
         r#"{"TransactItems":[{"ConditionCheck":{"Key":{},"TableName":"Music"}}]}"#,
         "missing ConditionExpression",
     ),
     (
-        Form::TransactWriteItems,
         r#"{"TransactItems":[{"Delete":{"TableName":"Music"}}]}"#,
         "missing Key",
     ),
     (
-        Form::TransactWriteItems,
         r#"{"TransactItems":[{"Delete":{"Key":{},"ReturnValuesOnConditionCheckFailure":"ALL_NEW","TableName":"Music"}}]}"#,
         "range ReturnValuesOnConditionCheckFailure",
     ),
+];
+
+static TRANSACT_GET_ITEMS: [Row; 6] = [
     (
-        Form::TransactGetItems,
         r#"{"TransactItems":[{"Get":{"Key":{},"TableName":"Music"}}]}"#,
         "none",
     ),
+    (r#"{"TransactItems":[]}"#, "range TransactItems"),
+    (r#"{"TransactItems":[{}]}"#, "missing Get"),
+    (r#"{"TransactItems":[{"Get":{}}]}"#, "missing Key"),
     (
-        Form::TransactGetItems,
-        r#"{"TransactItems":[]}"#,
-        "range TransactItems",
-    ),
-    (
-        Form::TransactGetItems,
-        r#"{"TransactItems":[{}]}"#,
-        "missing Get",
-    ),
-    (
-        Form::TransactGetItems,
-        r#"{"TransactItems":[{"Get":{}}]}"#,
-        "missing Key",
-    ),
-    (
-        Form::TransactGetItems,
         r#"{"TransactItems":[{"Get":{"Key":{"":5},"TableName":"M"}}]}"#,
         "range Key",
     ),
     (
-        Form::TransactGetItems,
         r#"{"TransactItems":[{"Get":{"ExpressionAttributeNames":{":n":"a"},"Key":{"a":5},"TableName":"Music"}}]}"#,
         "range ExpressionAttributeNames",
     ),
@@ -932,13 +706,33 @@ fn tells(alloc: Global, form: Form, body: &str, told: &str) -> Result<bool, Fail
     Ok(is_told(check_body(alloc, form, &json)?, told))
 }
 
+fn all_tell(rt: &impl Abort, alloc: Global, form: Form, rows: &[Row]) -> Result<(), Fail> {
+    for row in rows {
+        let (body, told) = *row;
+        assert!(rt; tells(alloc, form, body, told)?, "{told} of {body}");
+    }
+    Ok(())
+}
+
 #[test]
 fn bodies(rt: HostRuntime) -> Result<(), Fail> {
     let alloc = rt.alloc();
-    for row in &BODIES {
-        let (form, body, told) = *row;
-        assert!(rt; tells(alloc, form, body, told)?, "{told} of {body}");
-    }
+    all_tell(&rt, alloc, Form::GetItem, &GET_ITEM)?;
+    all_tell(&rt, alloc, Form::GetItem, &GET_ITEM_MORE)?;
+    all_tell(&rt, alloc, Form::PutItem, &PUT_ITEM)?;
+    all_tell(&rt, alloc, Form::DeleteItem, &DELETE_ITEM)?;
+    all_tell(&rt, alloc, Form::UpdateItem, &UPDATE_ITEM)?;
+    all_tell(&rt, alloc, Form::CreateTable, &CREATE_TABLE)?;
+    all_tell(&rt, alloc, Form::UpdateTable, &UPDATE_TABLE)?;
+    all_tell(&rt, alloc, Form::DeleteTable, &DELETE_TABLE)?;
+    all_tell(&rt, alloc, Form::DescribeTable, &DESCRIBE_TABLE)?;
+    all_tell(&rt, alloc, Form::ListTables, &LIST_TABLES)?;
+    all_tell(&rt, alloc, Form::BatchGetItem, &BATCH_GET_ITEM)?;
+    all_tell(&rt, alloc, Form::BatchWriteItem, &BATCH_WRITE_ITEM)?;
+    all_tell(&rt, alloc, Form::Query, &QUERY)?;
+    all_tell(&rt, alloc, Form::Scan, &SCAN)?;
+    all_tell(&rt, alloc, Form::TransactWriteItems, &TRANSACT_WRITE_ITEMS)?;
+    all_tell(&rt, alloc, Form::TransactGetItems, &TRANSACT_GET_ITEMS)?;
     Ok(())
 }
 
