@@ -6,4 +6,5 @@ pub mod ScanOrder
 pub mod FaultName
 pub mod ItemKey
 pub mod Part
+pub mod Unfit
 pub mod Row

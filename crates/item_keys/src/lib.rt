@@ -17,6 +17,7 @@ mod key;
 mod part;
 mod places;
 mod row;
+mod unfit;
 mod value;
 
 pub use fault::{KeyEnd, KeyFault};
@@ -25,6 +26,7 @@ pub use key::{Key, PlacedKey};
 pub use part::{MAX_PARTITION, MAX_SORT, key_value};
 pub use places::{PlaceRange, cell_of, place, segment_places};
 pub use row::project;
+pub use unfit::is_unfit;
 pub use value::KeyValue;
 
 #[cfg(test)]

@@ -84,7 +84,7 @@ impl<'a> KeyParts<'a> {
 }
 
 /// The part of a key that the item has in the attribute of this name, of at most `limit` bytes.
-fn part<'a>(
+pub fn part<'a>(
     schema: &Schema,
     limit: usize,
     name: &Text,
