@@ -19,7 +19,7 @@ In z [] = ⊥
 In z (y ∷ ys) = (z ≡ y) ⊎ In z ys
 
 module _ {A : Type 0} where
-  at_in : (P : A → Type 0) (ys : List A) → AllByRecursion P ys → (z : A) → In z ys → P z
+  pub at_in : (P : A → Type 0) (ys : List A) → AllByRecursion P ys → (z : A) → In z ys → P z
   at_in P [] all z h = absurd h
   at_in P (y ∷ ys) all z (inl e) = subst P (sym e) all.0
   at_in P (y ∷ ys) all z (inr h) = at_in P ys all.1 z h

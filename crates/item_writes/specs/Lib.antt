@@ -2,5 +2,6 @@
 pub mod Union
 pub mod Lists
 pub mod NewTree
+pub mod Apart
 pub mod Edits
 pub mod Made

@@ -1,0 +1,4 @@
+pub mod Joining
+pub mod ByPath
+pub mod Apart
+pub mod Touched

@@ -1,0 +1,10 @@
+use Rattle.std.proofs.Common.{◌≡◌, drop, map, Ok}
+use Rattle.expr_words.specs.Trees.{set_tree}
+use Rattle.update_eval.specs.Actions.{add_writes, delete_writes, remove_writes, set_writes, with_writes}
+use Rattle.update_eval.specs.Views.{seen_writes}
+use Rattle.update_eval.proofs.update.push_removes.Given as goal
+
+abbrev pub invariant-loop-path : goal.invariant-loop-path
+invariant-loop-path l =
+    with_writes (remove_writes l.old) (drop l.path-index l.removes) (seen_writes l.writes.items)
+    ≡ with_writes (remove_writes l.old) l.removes (seen_writes l.fn.writes.items)
