@@ -85,9 +85,9 @@ once (p ∷ ps) apart x (inr h) =
 apart_where_once : (ps : List (List Step)) → ((x : List Step) → In x ps → count_by (overlap x) ps ≤ 1) → AreApart ps
 apart_where_once [] h = tt
 apart_where_once (p ∷ ps) h = (
-    all_none (overlap p) ps (omega (arith, counted (overlap p) p ps, one (overlap p p) (overlap_itself p), h p (inl refl))),
-    apart_where_once ps (λ x k. let whole = h x (inr k) in omega (arith, counted (overlap x) p ps, whole)),
-  )
+  all_none (overlap p) ps (omega (arith, counted (overlap p) p ps, one (overlap p p) (overlap_itself p), h p (inl refl))),
+  apart_where_once ps (λ x k. let whole = h x (inr k) in omega (arith, counted (overlap x) p ps, whole)),
+)
 
 pub apart_permuted : (ps qs : List (List Step)) → IsPermutation ps qs → AreApart ps → AreApart qs
 apart_permuted ps qs moved apart =

@@ -58,9 +58,9 @@ all_apart p (q ∷ qs) h = (only_false (overlap p.steps q.steps) (λ t. h 0 q re
 apart_from : (paths : List DocPath) → (HaveOverlap paths → ⊥) → AreApart (map steps_of paths)
 apart_from [] never = tt
 apart_from (p ∷ ps) never = (
-    all_apart p ps (λ k q there o. never (record { i = 0; j = suc k; p = p; q = q; apart = omega arith; first = refl; second = there; overlap = o })),
-    apart_from ps (λ h. let less = h.apart in never (record { i = suc h.i; j = suc h.j; p = h.p; q = h.q; apart = omega (arith, less); first = h.first; second = h.second; overlap = h.overlap })),
-  )
+  all_apart p ps (λ k q there o. never (record { i = 0; j = suc k; p = p; q = q; apart = omega arith; first = refl; second = there; overlap = o })),
+  apart_from ps (λ h. let less = h.apart in never (record { i = suc h.i; j = suc h.j; p = h.p; q = h.q; apart = omega (arith, less); first = h.first; second = h.second; overlap = h.overlap })),
+)
 
 -- ---- what one action writes
 

@@ -38,11 +38,7 @@ pub(crate) fn set_write<'u>(
 }
 
 /// A write there, where the path has a place for it.
-fn placed_at<'u>(
-    path: &'u DocPath,
-    old: &Item,
-    value: NewValue<'u>,
-) -> Result<Write<'u>, EvalEnd>
+fn placed_at<'u>(path: &'u DocPath, old: &Item, value: NewValue<'u>) -> Result<Write<'u>, EvalEnd>
     ensures { Gives (λ write. seen_write write ∷ []) (placed_at path.now.steps old.now (new_tree value.entry)) result }
 {
     if !has_place(path, old) {

@@ -15,3 +15,6 @@ mod update;
 pub use fault::{EvalEnd, EvalFault};
 pub use path::touches;
 pub use update::{MAX_SIZE, apply};
+
+#[cfg(test)]
+mod tests;

@@ -69,9 +69,7 @@ fn number_in(value: &TermValue<'_>) -> Result<Number, EvalFault>
 }
 
 /// The number, if there is one.
-pub(crate) fn number_of<'v>(
-    answer: Result<Number, NumberFault>,
-) -> Result<NewValue<'v>, EvalFault>
+pub(crate) fn number_of<'v>(answer: Result<Number, NumberFault>) -> Result<NewValue<'v>, EvalFault>
     ensures { Answers new_tree (number_of answer) result }
 {
     match answer {

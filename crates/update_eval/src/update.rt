@@ -28,12 +28,7 @@ pub const MAX_SIZE: u64 = 409_600;
 ///
 /// The first fault is answered, of the actions in the order SET, REMOVE, ADD, DELETE, each in order of the text; then
 /// `TooDeep` and `ItemTooLarge` of the new item. `IndexKey` is never answered.
-pub fn apply(
-    alloc: Global,
-    tree: &Update,
-    values: &Seq<Value>,
-    old: &Item,
-) -> Result<Item, EvalEnd>
+pub fn apply(alloc: Global, tree: &Update, values: &Seq<Value>, old: &Item) -> Result<Item, EvalEnd>
     ensures { Gives (λ item. item) (updated values.now old.now (update_tree tree.now)) result }
 {
     let writes = writes_of(alloc, tree, values, old)?;

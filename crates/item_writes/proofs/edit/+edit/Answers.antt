@@ -48,11 +48,11 @@ list_of-loop-value-preserved t c =
     let whole = λ (es : List Value). onto (trees_of l.new) (elements_from (trees_of es) l.place ws) in (
       omega (arith, l.invariant.0),
       c.in_ok-push_kept.ensures us
-      ∙ ap (λ o. onto (trees_of l.new) (kept_element o us)) stays
-      ∙ ap (λ n. onto (trees_of l.new) (kept_element (element (tree_of x) deeper) (elements_from (trees_of (drop (i + 1) xs)) n ws))) next
-      ∙ ap (λ v. whole (v ∷ drop (i + 1) xs)) c.value-item.is
-      ∙ sym (at_drop_more whole xs i x c.loop-value-test.true)
-      ∙ l.invariant.1,
+          ∙ ap (λ o. onto (trees_of l.new) (kept_element o us)) stays
+          ∙ ap (λ n. onto (trees_of l.new) (kept_element (element (tree_of x) deeper) (elements_from (trees_of (drop (i + 1) xs)) n ws))) next
+          ∙ ap (λ v. whole (v ∷ drop (i + 1) xs)) c.value-item.is
+          ∙ sym (at_drop_more whole xs i x c.loop-value-test.true)
+          ∙ l.invariant.1,
     )
 
 pub list_of-returns : goal.list_of-returns
