@@ -2,3 +2,7 @@ pub mod Numbers
 pub mod Gathering
 pub mod Reading
 pub mod Members
+pub mod Loops
+pub mod Weights
+pub mod Writing
+pub mod ReadBack

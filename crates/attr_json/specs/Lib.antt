@@ -5,5 +5,6 @@ pub mod Sets
 pub mod Scalars
 pub mod Values
 pub mod Written
+pub mod ReadBack
 pub mod Answers
 pub mod Names

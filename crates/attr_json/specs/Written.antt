@@ -1,10 +1,11 @@
 -- The JSON of an attribute value (DynamoDB API Reference: AttributeValue).
-use Rattle.std.specs.Prelude.{ℕ, ℤ, List, [], ◌∷◌, true, codes}
+use Rattle.std.specs.Prelude.{ℕ, List, map as each, true, codes}
 use Rattle.base64.specs.GeneralPurpose.{encode_of}
 use Rattle.base64.specs.Engines.{standard}
 use Rattle.number38.specs.Printed.{printed}
 use Rattle.serde_json.specs.Data as json
 use Rattle.serde_json.specs.Data.{Data, Items, Members}
+use Rattle.serde_json.specs.View.{items_of as listed}
 use Rattle.attr_value.specs.Tree.{Tree, text, number, binary, boolean, null, list, map, text_set, number_set, binary_set}
 use Rattle.attr_value.specs.Tree.{Trees, no_trees, tree, Attributes, no_attributes, attribute}
 
@@ -14,8 +15,7 @@ under name d = json.object (json.member name d json.no_members)
 
 -- a list of strings
 abbrev pub strings : {A : Type 0} → (A → List ℕ) → List A → Items
-strings text_of [] = json.no_items
-strings text_of (x ∷ xs) = json.item (json.string (text_of x)) (strings text_of xs)
+strings text_of xs = listed (each (λ x. json.string (text_of x)) xs)
 
 abbrev pub base64_of : List ℕ → List ℕ
 base64_of bytes = encode_of standard bytes

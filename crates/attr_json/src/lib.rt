@@ -14,9 +14,12 @@
 #![tactic(auto)]
 
 mod fault;
+mod plain;
 mod read;
 mod scalar;
 mod set;
+mod write;
 
 pub use fault::{JsonEnd, JsonFault};
 pub use read::{item_from, value_fault, value_from};
+pub use write::{item_to, value_to};
