@@ -6,5 +6,6 @@ pub mod Scalars
 pub mod Values
 pub mod Written
 pub mod ReadBack
+pub mod Text
 pub mod Answers
 pub mod Names

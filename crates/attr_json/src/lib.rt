@@ -11,6 +11,8 @@
 //!   attributes in the order of their names; then a set of none; then a repeat in a set.
 //! - [`value_to`] and [`item_to`] make the JSON that a value is written as (`data_of`): numbers as plain decimals, binaries
 //!   in base64, sets in their order. It is read back as the same value.
+//! - [`push_value`] and [`push_item`] add the compact text of that JSON to a text, and [`write_value`] and [`write_item`]
+//!   write it among other tokens. They make no tree.
 #![tactic(auto)]
 
 mod fault;
@@ -18,8 +20,10 @@ mod plain;
 mod read;
 mod scalar;
 mod set;
+mod text;
 mod write;
 
 pub use fault::{JsonEnd, JsonFault};
 pub use read::{item_from, value_fault, value_from};
+pub use text::{push_item, push_value, write_item, write_value};
 pub use write::{item_to, value_to};
