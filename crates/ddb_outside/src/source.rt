@@ -5,7 +5,7 @@ ghost use Rattle.ddb_outside.specs.Causes.{HasCause};
 
 use crate::failed::Failed;
 use base_types::{Bytes, Seq};
-use std::io::Read;
+use std::io::{ErrorKind, Read};
 
 /// Where bytes come from.
 pub trait Source {
@@ -21,6 +21,13 @@ pub trait Source {
         ensures bound { ReadsAtMost result buf.new }
         ensures bytes { ReadConsumes (left self.old) (left self.new) result buf.new }
         ensures cause { HasCause (faults self.old) (faults self.new) result };
+
+    /// Tells that the reader holds no byte and is about to read: the source rests between two messages. It changes neither
+    /// what is to come nor the count of faults, and a source that need not know does nothing.
+    fn at_rest(&mut self)
+        ensures same_bytes { left self.new ≡ left self.old }
+        ensures same_faults { faults self.new ≡ faults self.old }
+    {}
 }
 
 /// A source in memory: its content comes in pieces, and the reads that a list names fail.
@@ -98,7 +105,11 @@ fn copy_front(from: &[u8], to: &mut [u8], count: usize)
     to[..count].copy_from_slice(&from[..count]);
 }
 
-/// A source over a reader of std, which counts each error.
+/// How often a read that was interrupted is tried again. Signals come seldom, and one that never stops is a fault.
+const TRIES: u32 = 1_000;
+
+/// A source over a reader of std, which counts each error. A read that a signal interrupted is tried again, up to 1,000
+/// times.
 #[derive(Debug, Drop)]
 pub struct StdSource<R> {
     reader: R,
@@ -118,12 +129,17 @@ impl<R: Read> Source for StdSource<R> {
     ghost faults = { λ s. s.faults };
 
     fn read(&mut self, buf: &mut [u8]) -> Result<usize, Failed> {
-        match self.reader.read(buf) {
-            Ok(count) => Ok(count),
-            Err(_) => {
-                self.faults = self.faults.saturating_add(1);
-                Err(Failed)
+        for _ in 0..TRIES {
+            match self.reader.read(buf) {
+                Ok(count) => return Ok(count),
+                Err(error) => {
+                    if error.kind() != ErrorKind::Interrupted {
+                        break;
+                    }
+                }
             }
         }
+        self.faults = self.faults.saturating_add(1);
+        Err(Failed)
     }
 }

@@ -76,6 +76,22 @@ impl Read for Broken {
     }
 }
 
+// A reader whose first reads are interrupted.
+#[derive(Drop)]
+struct Interrupted {
+    times: u32,
+}
+
+impl Read for Interrupted {
+    fn read(&mut self, _buf: &mut [u8]) -> io::Result<usize> {
+        if self.times == 0 {
+            return Ok(0);
+        }
+        self.times -= 1;
+        Err(io::Error::from(ErrorKind::Interrupted))
+    }
+}
+
 // A writer that takes nothing.
 #[derive(Drop)]
 struct Full;
@@ -97,7 +113,12 @@ fn readers_and_writers(rt: HostRuntime) -> Result<(), Fail> {
     assert_eq!(rt; source.read(&mut buf), Ok(2));
     assert_eq!(rt; buf, *b"ab\0\0");
     assert_eq!(rt; source.read(&mut buf), Ok(0));
+    source.at_rest();
     assert_eq!(rt; StdSource::new(Broken).read(&mut buf), Err(Failed));
+    let mut interrupted = StdSource::new(Interrupted { times: 3 });
+    assert_eq!(rt; interrupted.read(&mut buf), Ok(0));
+    let mut interrupted = StdSource::new(Interrupted { times: 1_001 });
+    assert_eq!(rt; interrupted.read(&mut buf), Err(Failed));
     let mut sink = StdSink::new(Vec::new(rt.alloc()));
     assert_eq!(rt; sink.write(b"ab"), Ok(2));
     assert_eq!(rt; sink.write(b""), Ok(0));

@@ -9,7 +9,7 @@ use Rattle.ddb_outside.specs.Writes.{AppendsFront}
 use Rattle.ddb_outside.specs.Clocks.{Looks}
 use Rattle.http_front.specs.declared.fault.HttpFault.{HttpFault}
 use Rattle.http_front.specs.declared.message.Message.{Message}
-use Rattle.http_front.specs.Messages.{IsMessage, IsRefusedAs, IsCutAt}
+use Rattle.http_front.specs.Messages.{IsMessage, IsRefusedBy, IsCutAt}
 use Rattle.http_front.specs.Replies.{bytes_of, refusal}
 use Rattle.http_front.specs.Streams.{Takes, StaysOpen}
 use Rattle.ddb_server.specs.declared.model.Database.{Database}
@@ -201,7 +201,7 @@ finish_cut input before now latest old new db done pending got p is_cut =
 -- what comes next is no message
 pub finish_refused : (input : List ℕ) (before now : Option (ℕ → ℕ)) (latest : ℕ) (old new newer : Option (List ℕ))
     (db : Database) (done : ℕ) (pending : Option (List ℕ)) (fault : HttpFault) (end : SessionEnd)
-    → Progress input before now latest old new db done pending → IfSome pending (IsRefusedAs fault)
+    → Progress input before now latest old new db done pending → IfSome pending (IsRefusedBy fault)
     → RefusesBy fault new newer end → Served input before old newer end
 finish_refused input before now latest old new newer db done pending fault end p is_refused (inl (is, wrote)) =
     subst (Served input before old newer) (sym is)

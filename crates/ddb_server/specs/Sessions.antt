@@ -4,7 +4,7 @@ use Rattle.std.specs.declared.alloc.Global.{Global}
 use Rattle.std.specs.Io.KnownBytes.{Appends}
 use Rattle.http_front.specs.declared.message.Message.{Message}
 use Rattle.http_front.specs.declared.fault.HttpFault.{HttpFault}
-use Rattle.http_front.specs.Messages.{IsMessage, IsRefusedAs}
+use Rattle.http_front.specs.Messages.{IsMessage, IsRefusedBy}
 use Rattle.http_front.specs.Streams.{Takes, StaysOpen, Ends, whole, cut, refused, asked}
 use Rattle.http_front.specs.Replies.{bytes_of, refusal}
 use Rattle.ddb_server.specs.declared.model.Database.{Database}
@@ -63,7 +63,7 @@ Run coming db done (message ∷ messages) output new =
 -- what is written next: the refusal of what is no message, or the answer of the next message
 abbrev pub IsNext : Option (ℕ → ℕ) → Database → ℕ → List ℕ → List ℕ → Type 0
 IsNext coming db done bytes next =
-    ((fault : HttpFault) × IsRefusedAs fault bytes × (next ≡ refusal fault))
+    ((fault : HttpFault) × IsRefusedBy fault bytes × (next ≡ refusal fault))
     ⊎ ((message : Message) × (text : List ℕ) × (later : List ℕ) × (new : Database)
     × IsMessage text message × (bytes ≡ text ++ later) × IsAnswer coming db done message next new)
 

@@ -12,7 +12,7 @@ use Rattle.http_front.specs.declared.fault.NextEnd.{NextEnd}
 use Rattle.http_front.specs.declared.fault.NextEnd.TheVariants.{Refused, Cut, ReadFault, NoMemory}
 use Rattle.http_front.specs.declared.message.Message.{Message}
 use Rattle.http_front.specs.Heads.{max_head, verdict, operation, asks_to_close}
-use Rattle.http_front.specs.Messages.{IsMessage, HasNoHead, IsDead, IsRefusedBy, told, IsRefusedAs, IsPartial}
+use Rattle.http_front.specs.Messages.{IsMessage, HasNoHead, IsDead, IsRefusedBy, IsPartial}
 use Rattle.http_front.specs.Streams.{Takes, StaysOpen, Closes, Ending, whole, cut, refused, asked, Ends, OneReading}
 use Rattle.http_front.specs.Ends.{IfRefused, IsRefusalWith}
 use Rattle.http_front.proofs.HeadLemmas.{EndsLine-print_request, EndsLine-some}
@@ -78,14 +78,14 @@ IsRefusedBy-append fault bytes more (inr (inr has)) =
 
 -- a refusal of what is held is one of all that is to come
 refused_held : (fault : HttpFault) (all left : Option (List ℕ)) (held : List ℕ) → Keeps all (prepend_known held left)
-    → IsRefusedAs fault held → IfSome all (IsRefusedAs fault)
+    → IsRefusedBy fault held → IfSome all (IsRefusedBy fault)
 refused_held fault None left held keeps is = tt
 refused_held fault (Some xs) None held keeps is = absurd keeps
 refused_held fault (Some xs) (Some ys) held keeps is =
-    (is.0, subst (IsRefusedBy is.0) keeps (IsRefusedBy-append is.0 held ys is.1), is.2)
+    subst (IsRefusedBy fault) keeps (IsRefusedBy-append fault held ys is)
 
 pub refusal_known : (end : NextEnd) (all left : Option (List ℕ)) (held : List ℕ) → Keeps all (prepend_known held left)
-    → IsRefusalWith end (λ fault. IsRefusedAs fault held) → IfRefused end (λ fault. IfSome all (IsRefusedAs fault))
+    → IsRefusalWith end (λ fault. IsRefusedBy fault held) → IfRefused end (λ fault. IfSome all (IsRefusedBy fault))
 refusal_known (Refused fault) all left held keeps is = refused_held fault all left held keeps is
 refusal_known (Cut got) all left held keeps is = absurd is
 refusal_known ReadFault all left held keeps is = absurd is
@@ -196,16 +196,16 @@ nothing_asked (x ∷ xs, message, same, open_, last) = cc
 ends_unique : (bytes : List ℕ) (e f : Ending) → Ends [] bytes e → Ends [] bytes f → e ≡ f
 ends_unique bytes whole whole x y = refl
 ends_unique bytes whole (cut n) x y = absurd (omega (arith, ap length x.1, y.1.1))
-ends_unique bytes whole (refused g) x y = absurd (empty_not_refused y.1.0 (subst (IsRefusedBy y.1.0) x.1 y.1.1))
+ends_unique bytes whole (refused g) x y = absurd (empty_not_refused g (subst (IsRefusedBy g) x.1 y.1))
 ends_unique bytes whole asked x y = absurd (nothing_asked y)
 ends_unique bytes (cut n) whole x y = absurd (omega (arith, ap length y.1, x.1.1))
 ends_unique bytes (cut n) (cut m) x y = ap cut (x.1.2 ∙ sym y.1.2)
-ends_unique bytes (cut n) (refused g) x y = absurd (partial_not_refused bytes y.1.0 x.1.0 y.1.1)
+ends_unique bytes (cut n) (refused g) x y = absurd (partial_not_refused bytes g x.1.0 y.1)
 ends_unique bytes (cut n) asked x y = absurd (nothing_asked y)
-ends_unique bytes (refused f) whole x y = absurd (empty_not_refused x.1.0 (subst (IsRefusedBy x.1.0) y.1 x.1.1))
-ends_unique bytes (refused f) (cut n) x y = absurd (partial_not_refused bytes x.1.0 y.1.0 x.1.1)
+ends_unique bytes (refused f) whole x y = absurd (empty_not_refused f (subst (IsRefusedBy f) y.1 x.1))
+ends_unique bytes (refused f) (cut n) x y = absurd (partial_not_refused bytes f y.1.0 x.1)
 ends_unique bytes (refused f) (refused g) x y =
-    ap refused (x.1.2 ∙ ap told (refused_unique bytes x.1.0 y.1.0 x.1.1 y.1.1) ∙ sym y.1.2)
+    ap refused (refused_unique bytes f g x.1 y.1)
 ends_unique bytes (refused f) asked x y = absurd (nothing_asked y)
 ends_unique bytes asked f x y = absurd (nothing_asked x)
 
@@ -216,7 +216,7 @@ message_not_ended bytes text later m whole is split x =
     absurd (omega (arith, head_some is.head, ap length (sym x.1 ∙ (reads_message bytes text later m is split).1), length-append (print_request is.head) (m.body ++ later)))
 message_not_ended bytes text later m (cut n) is split x = message_not_partial bytes text later m is split x.1.0
 message_not_ended bytes text later m (refused f) is split x =
-    accepted_not_refused bytes _ is.head _ x.1.0 (reads_message bytes text later m is split) is.fits is.accepted x.1.1
+    accepted_not_refused bytes _ is.head _ f (reads_message bytes text later m is split) is.fits is.accepted x.1
 message_not_ended bytes text later m asked is split x = nothing_asked x
 
 -- after the first message the others end the stream; or it asks for the end, and there are no others

@@ -54,14 +54,6 @@ abbrev pub IsRefusedBy : HttpFault → List ℕ → Type 0
 IsRefusedBy fault bytes =
     (IsDead bytes × (fault ≡ BadHead)) ⊎ (IsTooLong bytes × (fault ≡ TooLarge)) ⊎ HasFault fault bytes
 
--- how a fault is answered: in this release each as BadHead
-abbrev pub told : HttpFault → HttpFault
-told fault = BadHead
-
--- the bytes begin no message, by a fault that is told as this one
-abbrev pub IsRefusedAs : HttpFault → List ℕ → Type 0
-IsRefusedAs shown bytes = (fault : HttpFault) × IsRefusedBy fault bytes × (shown ≡ told fault)
-
 -- a head is still to be completed
 pub record IsShortHead (bytes : List ℕ) : Type 0 where
   pub short : length bytes < max_head

@@ -2,7 +2,7 @@
 use Rattle.std.specs.Prelude.{◌≡◌, ℕ, List, [], ◌∷◌, ◌++◌, All, IsTrue, IsFalse}
 use Rattle.http_front.specs.declared.fault.HttpFault.{HttpFault}
 use Rattle.http_front.specs.declared.message.Message.{Message}
-use Rattle.http_front.specs.Messages.{IsMessage, IsRefusedAs, IsCutAt}
+use Rattle.http_front.specs.Messages.{IsMessage, IsRefusedBy, IsCutAt}
 
 -- the bytes are these messages in order, and then the rest
 abbrev pub Takes : List ℕ → List Message → List ℕ → Type 0
@@ -31,7 +31,7 @@ pub data Ending : Type 0 where
 abbrev pub Ends : List Message → List ℕ → Ending → Type 0
 Ends messages rest whole = StaysOpen messages × (rest ≡ [])
 Ends messages rest (cut got) = StaysOpen messages × IsCutAt got rest
-Ends messages rest (refused fault) = StaysOpen messages × IsRefusedAs fault rest
+Ends messages rest (refused fault) = StaysOpen messages × IsRefusedBy fault rest
 Ends messages rest asked = Closes messages
 
 -- the bytes are a stream of these messages with this ending; what follows a message that asked for the end is not read

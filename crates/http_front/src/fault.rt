@@ -22,7 +22,7 @@ pub enum HttpFault {
 /// Why no next message was answered.
 #[derive(Clone, Copy, Debug, PartialEq, Eq)]
 pub enum NextEnd {
-    /// What comes next is no message. In this release the fault is always `BadHead`.
+    /// What comes next is no message, by this fault.
     Refused(HttpFault),
     /// The input ended inside a message, after `got` of its bytes.
     Cut { got: u64 },

@@ -11,7 +11,7 @@
 //! - [`reply`] and [`refuse`] write exactly the bytes of `specs/Replies.antt`, and take no memory.
 //!
 //! The grammar of a head is that of `httparse`; status codes and reason phrases are those of `http`.
-//! The checks of a head tell five faults apart, and in this release each is told as `BadHead`.
+//! The checks of a head tell five faults apart, and come in one order.
 #![tactic(auto)]
 
 mod fault;

@@ -4,11 +4,11 @@ ghost use Rattle.std.specs.Io.KnownBytes.{prepend_known, Keeps, Consumes, IsAtEn
 ghost use Rattle.httparse.specs.Spans.{IsWithin, span_bytes};
 ghost use Rattle.ddb_outside.specs.Causes.{Rose};
 ghost use Rattle.http_front.specs.Heads.{max_body};
-ghost use Rattle.http_front.specs.Messages.{IsMessage, IsRefusedAs, IsShortHead, IsShortBody, IsPartial, IsCutAt, told};
+ghost use Rattle.http_front.specs.Messages.{IsMessage, IsRefusedBy, IsShortHead, IsShortBody, IsPartial, IsCutAt};
 ghost use Rattle.http_front.specs.Ends.{IfRefused, IfCut, IsOutside, IsCutOrOutside, IsCutWith, IsRefusalWith};
 ghost use Rattle.http_front.specs.Spans.{HasHead, MovesTo};
 
-use crate::fault::{HttpFault, NextEnd};
+use crate::fault::NextEnd;
 use crate::head::{Head, ROOM, find_head};
 use crate::message::Message;
 use base_types::Bytes;
@@ -40,13 +40,6 @@ impl Model for Reader {
     ghost invariant = { λ r. length r.spans.items ≡ 5462 };
 }
 
-/// How a fault is answered: in this release each as BadHead.
-fn told(_fault: HttpFault) -> HttpFault
-    ensures { result ≡ told _fault }
-{
-    HttpFault::BadHead
-}
-
 impl Reader {
     /// A reader that holds nothing yet.
     pub fn make(alloc: Global) -> Result<Reader, NoMemory>
@@ -76,7 +69,7 @@ impl Reader {
         ensures cut { IfErr result (λ e. IfCut e (λ got.
             IfSome (prepend_known self.old (S.left source.old)) (IsCutAt got))) }
         ensures refused { IfErr result (λ e. IfRefused e (λ fault.
-            IfSome (prepend_known self.old (S.left source.old)) (IsRefusedAs fault))) }
+            IfSome (prepend_known self.old (S.left source.old)) (IsRefusedBy fault))) }
 
         // A failure is the source's own, by its count.
         ensures fault { IsErrOf result NextEnd.ReadFault
@@ -92,6 +85,9 @@ impl Reader {
             if let Some(head) = self.look()? {
                 return Ok(Some(self.take_message(head, source)?));
             }
+            if self.held.is_empty() {
+                source.at_rest();
+            }
             if !self.take_in(source)? {
                 return self.end_of_input();
             }
@@ -103,11 +99,11 @@ impl Reader {
         ensures same { self.new ≡ self.old }
         ensures head { IfOk result (λ o. IfSome o (HasHead self.old)) }
         ensures none { IfOk result (λ o. IfNone o (IsShortHead self.old)) }
-        ensures refused { IfErr result (λ e. IsRefusalWith e (λ fault. IsRefusedAs fault self.old)) }
+        ensures refused { IfErr result (λ e. IsRefusalWith e (λ fault. IsRefusedBy fault self.old)) }
     {
         match find_head(self.held.as_slice(), &mut self.spans) {
             Ok(found) => Ok(found),
-            Err(fault) => Err(NextEnd::Refused(told(fault))),
+            Err(fault) => Err(NextEnd::Refused(fault)),
         }
     }
 

@@ -254,7 +254,7 @@ fn ends_of_streams(rt: HostRuntime) -> Result<(), Fail> {
         let Err(end) = Reader::make(alloc)?.next(&mut source) else {
             return Err(Fail::new("not refused"));
         };
-        assert_eq!(rt; end, NextEnd::Refused(HttpFault::BadHead), "{byte}");
+        assert_eq!(rt; end, NextEnd::Refused(HttpFault::TooLarge), "{byte}");
     }
     let failing = Seq::from(Vec::from_slice(alloc, &[1])?);
     let mut source = MemSource::make(Bytes::copied(alloc, CURL.as_bytes())?, 100, failing);
@@ -265,6 +265,33 @@ fn ends_of_streams(rt: HostRuntime) -> Result<(), Fail> {
         )
     );
     one_reading();
+    Ok(())
+}
+
+// What is no message, and the fault that is told.
+static REFUSALS: [(&str, HttpFault); 5] = [
+    ("POST / HTTP/2.0\r\n", HttpFault::BadHead),
+    (
+        "POST / HTTP/1.1\r\nContent-Length: 16777217\r\n\r\n",
+        HttpFault::TooLarge,
+    ),
+    (
+        "GET / HTTP/1.1\r\nTransfer-Encoding: chunked\r\n\r\n",
+        HttpFault::Coding,
+    ),
+    ("GET /x HTTP/1.1\r\n\r\n", HttpFault::Method),
+    ("POST /x HTTP/1.1\r\n\r\n", HttpFault::Target),
+];
+
+#[test]
+fn faults_told_apart(rt: HostRuntime) -> Result<(), Fail> {
+    for (text, fault) in REFUSALS {
+        let mut source = source(rt.alloc(), text.as_bytes(), 7)?;
+        let Err(end) = Reader::make(rt.alloc())?.next(&mut source) else {
+            return Err(Fail::new("not refused"));
+        };
+        assert_eq!(rt; end, NextEnd::Refused(fault), "{text:?}");
+    }
     Ok(())
 }
 
