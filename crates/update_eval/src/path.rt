@@ -5,6 +5,7 @@ ghost use Rattle.std.specs.List.{list_any};
 ghost use Rattle.attr_value.specs.Paths.{child};
 ghost use Rattle.attr_value.specs.View.{lent_tree, tree_of};
 ghost use Rattle.expr_parse.specs.Update.{update_tree};
+ghost use Rattle.expr_words.specs.Trees.{set_tree};
 ghost use Rattle.update_eval.specs.Places.{begins_with, has_place, place_in, takes, touches, touches_by_kind};
 
 use attr_value::{Item, Value};
@@ -22,14 +23,20 @@ pub fn touches(tree: &Update, name: &str) -> bool
 fn some_begin(tree: &Update, name: &str) -> bool
     ensures { result ≡ touches_by_kind (update_tree tree.now) name.now }
 {
-    sets_begin(tree.sets.as_slice(), name)
-        || paths_begin(tree.removes.as_slice(), name)
-        || pairs_begin(tree.adds.as_slice(), name)
-        || pairs_begin(tree.deletes.as_slice(), name)
+    if sets_begin(tree.sets.as_slice(), name) {
+        return true;
+    }
+    if paths_begin(tree.removes.as_slice(), name) {
+        return true;
+    }
+    if pairs_begin(tree.adds.as_slice(), name) {
+        return true;
+    }
+    pairs_begin(tree.deletes.as_slice(), name)
 }
 
 fn sets_begin(sets: &[SetTo], name: &str) -> bool
-    ensures { result ≡ list_any (begins_with name.now) (map (λ set. set.path) sets.now) }
+    ensures { result ≡ list_any (begins_with name.now) (map (λ set. set.path) (map set_tree sets.now)) }
 {
     for set in sets {
         if begins_with(&set.path, name) {

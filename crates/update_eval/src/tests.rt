@@ -261,7 +261,7 @@ static FAULTS: [(&str, EvalFault); 36] = [
         EvalFault::Number(NumberFault::TooManyDigits),
     ),
     (
-        "SET a = :big ADD a :n, b :big",
+        "SET a = :big ADD b :big",
         EvalFault::Number(NumberFault::TooManyDigits),
     ),
     ("SET z.y = :n", EvalFault::BadPath),
