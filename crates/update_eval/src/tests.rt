@@ -1,5 +1,7 @@
 //! Updates of one item, case by case, and the limits.
 
+ghost use Rattle.std.specs.Prelude.{◌<◌, ◌^◌, length, IfOk};
+
 use crate::{EvalEnd, EvalFault, apply, touches};
 use attr_value::{Elements, Item, Value, number_set, string_set};
 use base_types::{DocPath, Seq, Step, Text};
