@@ -1,15 +1,17 @@
 -- A message whose head is there, and whose body comes in pieces.
-use Rattle.std.proofs.Common.{◌≡◌, ℕ, ◌+◌, ◌<◌, List, [], ◌++◌, length, take, refl, sym, ap, ◌∙◌, subst, arith, append_assoc, append-nil, length-append, Option, Some, None, inr, IfSome}
+use Rattle.std.proofs.Common.{◌≡◌, ℕ, ◌+◌, ◌-◌, ◌<◌, ◌≤◌, List, [], ◌++◌, length, take, drop, refl, sym, ap, ◌∙◌, subst, arith, append_assoc, append-nil, length-append, Option, Some, None, inr, IfSome}
 use Rattle.std.specs.Prelude.{option_map, Ok}
 use Rattle.std.specs.Io.KnownBytes.{prepend_known, Consumes, IsAtEnd}
 use Rattle.std.proofs.KnownBytes.{Consumes-trans}
-use Rattle.std.proofs.lemmas.List.{take_at}
+use Rattle.std.specs.Prelude.{min}
+use Rattle.std.proofs.lemmas.List.{take_at, take-take, take-append-drop, length-take-le, nil_from_length}
+use Rattle.std.proofs.lemmas.Slice.{between_is}
 use Rattle.httparse.specs.Grammar.{print_request}
 use Rattle.httparse.specs.Spans.{span_bytes}
 use Rattle.http_front.specs.declared.head.Head.{Head}
 use Rattle.http_front.specs.declared.message.Message.{Message}
 use Rattle.http_front.specs.Messages.{IsMessage, IsShortBody, IsCutAt}
-use Rattle.http_front.specs.Spans.{HasHead}
+use Rattle.http_front.specs.Spans.{HasHead, MovesTo}
 use Rattle.http_front.proofs.HeadLemmas.{EndsLine-print_request, EndsLine-some}
 
 -- the bytes of the head
@@ -62,6 +64,15 @@ Consumes-moved (Some xs) (Some ys) text held part rest known split =
     known ∙ ap (λ l. text ++ (l ++ ys)) split ∙ ap (λ l. text ++ l) (append_assoc part rest ys)
     ∙ sym (append_assoc text part (rest ++ ys))
 
+-- where nothing is held, a piece that the source lost is what is held next
+pub Consumes-piece : (all old new : Option (List ℕ)) (text held piece : List ℕ) → Consumes all (prepend_known held old) text
+    → held ≡ [] → Consumes old new piece → Consumes all (prepend_known piece new) text
+Consumes-piece None old new text held piece known none more = tt
+Consumes-piece (Some xs) None new text held piece known none more = absurd known
+Consumes-piece (Some xs) (Some ys) None text held piece known none more = absurd more
+Consumes-piece (Some xs) (Some ys) (Some zs) text held piece known none more =
+    known ∙ ap (λ l. text ++ (l ++ ys)) none ∙ ap (λ l. text ++ l) more
+
 -- all that is held is to come
 pub Consumes-none : (left : Option (List ℕ)) (held : List ℕ) → Consumes (prepend_known held left) (prepend_known held left) []
 Consumes-none None held = tt
@@ -91,3 +102,32 @@ message_taken {message} bytes found body all left h target is size last known = 
       (message_of bytes found message h target (ap length is ∙ size) last),
   known,
 )
+
+-- a piece goes to the body in part, and the rest of it is held
+pub body_on : (front body piece part held newer : List ℕ) → piece ≡ part ++ held → newer ≡ body ++ part
+    → (front ++ body) ++ piece ≡ (front ++ newer) ++ held
+body_on front body piece part held newer split moved =
+    ap (λ l. (front ++ body) ++ l) split ∙ sym (append_assoc (front ++ body) part held)
+    ∙ ap (λ l. l ++ held) (append_assoc front body part ∙ ap (λ l. front ++ l) (sym moved))
+
+-- as much of a piece as the size asks goes to the body
+pub moves_piece : (body buf : List ℕ) (size count part : ℕ) (newer held : List ℕ) → count ≤ length buf → part ≡ min count (size - length body)
+    → length body < size → newer ≡ body ++ take part buf → held ≡ take (count - part) (drop part buf)
+    → MovesTo body (take count buf) size newer held
+moves_piece body buf size count part newer held within is short moved kept =
+    let fits : part ≤ count = omega (arith, is) in
+    let split : take count buf ≡ take part buf ++ held =
+    sym (take-append-drop part (take count buf)) ∙ ap (λ l. l ++ drop part (take count buf)) (take-take part count buf fits)
+    ∙ ap (λ l. take part buf ++ l) (sym (between_is buf part count) ∙ sym kept) in
+    let size_is : length newer ≡ length body + length (take part buf) = ap length moved ∙ length-append body (take part buf) in
+    let part_size : length (take part buf) ≡ part = length-take-le part buf (omega (arith, fits, within)) in
+    record {
+      part = take part buf;
+      body_is = moved;
+      held_is = split;
+      fits = omega (arith, size_is, part_size, is, short);
+      all = λ more.
+          let all_sizes : length (take count buf) ≡ length (take part buf) + length held = ap length split ∙ length-append (take part buf) held in
+          let whole : length (take count buf) ≡ count = length-take-le count buf within in
+          nil_from_length held (omega (arith, size_is, part_size, is, short, more, all_sizes, whole));
+    }

@@ -1,9 +1,10 @@
 -- A head and the whole lines at the front of the bytes.
-use Rattle.std.proofs.Common.{◌≡◌, ℕ, zero, suc, ◌*◌, ◌<◌, ◌≤◌, IsTrue, List, [], ◌∷◌, ◌++◌, length, get_or, take, drop, reverse, refl, sym, ap, ◌∙◌, subst, arith, append_assoc, append-nil, length-append, codes, Option, Some, None, lit<, lit≤, inl, inr, All, IfSome}
+use Rattle.std.proofs.Common.{◌≡◌, ℕ, zero, suc, ◌+◌, ◌-◌, ◌==◌, ◌*◌, ◌<◌, ◌≤◌, IsTrue, List, [], ◌∷◌, ◌++◌, length, get_or, take, drop, reverse, refl, sym, ap, ◌∙◌, subst, arith, append_assoc, append-nil, length-append, length-drop, codes, Option, Some, None, lit<, lit≤, inl, inr, All, IfSome}
 use Rattle.std.specs.Prelude.{option_map, codes}
 use Rattle.std.specs.List.{flat_map}
 use Rattle.std.proofs.lemmas.Bool.{cases_lt, false≢true}
-use Rattle.std.proofs.lemmas.List.{reverse-append, take_at, take-take, take-append-drop, length-take-le, get_or_at, get_or_append_left, nil_from_length}
+use Rattle.std.proofs.lemmas.List.{reverse-append, take_at, take-take, take-append-drop, take-append-le, length-take-le, get_or_at, get_or_append_left, get_or-drop, nil_from_length}
+use Rattle.memchr.specs.Find.{Nowhere, Passes, is_byte}
 use Rattle.std.proofs.lemmas.List.Elements.{All-nil, All-cons, All-head, All-tail}
 use Rattle.std.proofs.lemmas.Slice.{between_is}
 use Rattle.std.proofs.lemmas.Str.{IsUtf8-from_ascii}
@@ -265,3 +266,68 @@ IsRefusedBy-broken bytes end fault whole (inr h) =
       fits = h.fits;
       refused = h.refused;
     }))
+
+-- ---- a piece without a line's end
+
+-- some lines at the front end before the piece
+lines_before : (held piece lines rest : List ℕ) → held ++ piece ≡ lines ++ rest → EndsLine lines
+    → ((k : ℕ) → length held ≤ k → k < length (held ++ piece) → get_or (held ++ piece) k 0 ≡ 10 → ⊥) → length lines ≤ length held
+lines_before held piece lines rest split (front, line) no_feed =
+    elim (cases_lt (length front) (length held)) [
+      | inl below ↦ omega (arith, ap length line, length-append front (10 ∷ []))
+      | inr past ↦
+          let size = ap length line ∙ length-append front (10 ∷ []) in
+          let all = ap length split ∙ length-append lines rest in
+          let inside : length front < length lines = omega (arith, size) in
+          let feed : get_or (held ++ piece) (length front) 0 ≡ 10 =
+          ap (λ l. get_or l (length front) 0) split ∙ get_or_append_left lines rest 0 (length front) inside
+          ∙ ap (λ l. get_or l (length front) 0) line ∙ get_or_at front 10 [] 0 (length front) refl in
+          absurd (no_feed (length front) past (omega (arith, size, all)) feed)
+    ]
+
+lines_split : (held piece lines rest : List ℕ) → held ++ piece ≡ lines ++ rest → length lines ≤ length held
+    → held ≡ lines ++ drop (length lines) held
+lines_split held piece lines rest split within =
+    let n = length lines in
+    let front : take n held ≡ lines = sym (take-append-le n held piece within) ∙ ap (take n) split ∙ take_at lines rest n refl in
+    sym (take-append-drop n held) ∙ ap (λ l. l ++ drop n held) front
+
+-- with such a piece a head is still to be completed
+pub IsShortHead-piece : (held piece : List ℕ) → IsShortHead held → length (held ++ piece) < max_head
+    → ((k : ℕ) → length held ≤ k → k < length (held ++ piece) → get_or (held ++ piece) k 0 ≡ 10 → ⊥) → IsShortHead (held ++ piece)
+IsShortHead-piece held piece short fits no_feed = record {
+  short = fits;
+  no_head = λ head rest reads.
+      let within = lines_before held piece (print_request head) rest reads.1 (EndsLine-print_request head) no_feed in
+      short.no_head head (drop (length (print_request head)) held) (reads.0, lines_split held piece (print_request head) rest reads.1 within);
+  not_dead = λ dead.
+      let within = lines_before held piece dead.lines dead.rest dead.bytes_are dead.ends no_feed in
+      short.not_dead (record {
+        lines = dead.lines;
+        rest = drop (length dead.lines) held;
+        bytes_are = lines_split held piece dead.lines dead.rest dead.bytes_are within;
+        ends = dead.ends;
+        fits = dead.fits;
+        never = dead.never;
+      });
+}
+
+-- no line ends behind so many bytes
+pub no_feed_behind : (held hay : List ℕ) (before : ℕ) → hay ≡ drop before held → Nowhere (Passes (is_byte 10) hay) 0 (length hay)
+    → (k : ℕ) → before ≤ k → k < length held → get_or held k 0 ≡ 10 → ⊥
+no_feed_behind held hay before is none k past within feed =
+    let at : before + (k - before) ≡ k = omega arith in
+    let size = ap length is ∙ length-drop before held in
+    let low : 0 ≤ (k - before) = omega arith in
+    let high : (k - before) < length hay = omega (arith, size, past, within) in
+    let byte : get_or hay (k - before) 0 ≡ 10 =
+    ap (λ l. get_or l (k - before) 0) is ∙ get_or-drop before held (k - before) 0 ∙ ap (λ i. get_or held i 0) at ∙ feed in
+    none (k - before) low high (ap (λ b. b == 10) byte)
+
+-- the same, of what is held after the piece
+pub short_goes_on : (held now piece : List ℕ) (before : ℕ) → IsShortHead held → now ≡ held ++ piece → before ≡ length held
+    → length now < max_head → ((k : ℕ) → before ≤ k → k < length now → get_or now k 0 ≡ 10 → ⊥) → IsShortHead now
+short_goes_on held now piece before short is at fits none =
+    let inside : length (held ++ piece) < max_head = omega (arith, ap length is, fits) in
+    subst IsShortHead (sym is) (IsShortHead-piece held piece short inside
+        (λ k past within feed. none k (omega (arith, at, past)) (omega (arith, ap length is, within)) (ap (λ l. get_or l k 0) is ∙ feed)))

@@ -1,5 +1,6 @@
 -- Messages of a list of bytes (RFC 9112, section 2): a head that is accepted, and then its body.
-use Rattle.std.specs.Prelude.{◌≡◌, ℕ, ◌<◌, ◌≤◌, ◌⊎◌, List, [], ◌∷◌, ◌++◌, length, Ok, Err}
+use Rattle.std.specs.Prelude.{◌≡◌, ℕ, ◌<◌, ◌≤◌, ◌⊎◌, List, [], ◌∷◌, ◌++◌, length, Option, Ok, Err}
+use Rattle.std.specs.Io.KnownBytes.{Consumes}
 use Rattle.httparse.specs.Ascii.{line_feed}
 use Rattle.httparse.specs.Grammar.{RequestHead, IsRequestHead, print_request, ReadsRequest, NeverHasRequest}
 use Rattle.http_front.specs.declared.fault.HttpFault.{HttpFault}
@@ -73,6 +74,25 @@ pub record IsShortBody (bytes : List ℕ) : Type 0 where
 -- neither a whole message is at the front nor a refusal: more bytes decide
 abbrev pub IsPartial : List ℕ → Type 0
 IsPartial bytes = IsShortHead bytes ⊎ IsShortBody bytes
+
+-- the most bytes of a read
+abbrev pub max_piece : ℕ
+max_piece = 4096
+
+-- the bytes were taken behind those that were held, and all but those of the last read were not yet a message or a refusal
+abbrev pub IsSparing : List ℕ → List ℕ → Type 0
+IsSparing held taken =
+    (taken ≡ [])
+    ⊎ ((earlier : List ℕ) × (last : List ℕ)
+    × (taken ≡ earlier ++ last) × (length last ≤ max_piece) × IsPartial (held ++ earlier))
+
+-- a source that tells its bytes lost some at its front, which were taken so behind those that were held
+abbrev pub TakesSparingly : Option (List ℕ) → Option (List ℕ) → List ℕ → Type 0
+TakesSparingly old new held = (taken : List ℕ) × Consumes old new taken × IsSparing held taken
+
+-- a source lost a piece at its front, of no more bytes than a read has
+abbrev pub LosesPiece : Option (List ℕ) → Option (List ℕ) → (List ℕ → Type 0) → Type 0
+LosesPiece old new P = (piece : List ℕ) × Consumes old new piece × (length piece ≤ max_piece) × P piece
 
 -- these many bytes of a message are all that there is
 abbrev pub IsCutAt : ℕ → List ℕ → Type 0

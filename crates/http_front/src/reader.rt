@@ -1,20 +1,22 @@
 //! The messages of a byte stream, one after the other.
-ghost use Rattle.std.specs.Prelude.{◌≡◌, ◌⊎◌, ℕ, List, [], ◌++◌, ◌<◌, ◌≤◌, length, take, drop, option_map, vec_len, Option, Some, None, IfOk, IfErr, OnOk, IfSome, IfNone, IsErrOf, IsTrue, IsFalse};
+ghost use Rattle.std.specs.Prelude.{◌≡◌, ◌≢◌, ◌⊎◌, slice_index, ℕ, List, [], ◌++◌, ◌<◌, ◌≤◌, length, take, drop, option_map, vec_len, Option, Some, None, IfOk, IfErr, OnOk, IfSome, IfNone, IsErrOf, IsTrue, IsFalse};
 ghost use Rattle.std.specs.Io.KnownBytes.{prepend_known, Keeps, Consumes, IsAtEnd};
 ghost use Rattle.httparse.specs.Spans.{IsWithin, span_bytes};
 ghost use Rattle.ddb_outside.specs.Causes.{Rose};
-ghost use Rattle.http_front.specs.Heads.{max_body};
-ghost use Rattle.http_front.specs.Messages.{IsMessage, IsRefusedBy, IsShortHead, IsShortBody, IsPartial, IsCutAt};
+ghost use Rattle.httparse.specs.Ascii.{line_feed};
+ghost use Rattle.http_front.specs.Heads.{max_body, max_head};
+ghost use Rattle.http_front.specs.Messages.{IsMessage, IsRefusedBy, IsShortHead, IsShortBody, IsPartial, IsCutAt, IsSparing, TakesSparingly, LosesPiece};
 ghost use Rattle.http_front.specs.Ends.{IfRefused, IfCut, IsOutside, IsCutOrOutside, IsCutWith, IsRefusalWith};
 ghost use Rattle.http_front.specs.Spans.{HasHead, MovesTo};
 
 use crate::fault::NextEnd;
-use crate::head::{Head, ROOM, find_head};
+use crate::head::{Head, MAX_HEAD, ROOM, find_head};
 use crate::message::Message;
 use base_types::Bytes;
 use bytes::BytesMut;
 use ddb_outside::Source;
 use httparse::spans::{EMPTY_HEADER_SPAN, HeaderSpan, Span};
+use memchr::memchr;
 use std::alloc::{AllocError as NoMemory, Global};
 use std::marker::Model;
 
@@ -57,7 +59,8 @@ impl Reader {
     ///
     /// Refused comes where no message can be there, Cut where the input ends inside one, ReadFault
     /// where the source failed, NoMemory where memory was refused. After any of these nothing is said
-    /// of what the reader holds. Pieces of at most 4,096 bytes are read; no clause speaks of that.
+    /// of what the reader holds. It reads only while what it holds has neither a whole message nor a refusal, pieces of at
+    /// most 4,096 bytes, and tells the source where it holds nothing before that.
     pub fn next<S: Source>(&mut self, source: &mut S) -> Result<Option<Message>, NextEnd>
         // What is to come is what is held and then what the source has left: a message is taken from
         // its front, None is its end, and a cut or a refusal is of all of it.
@@ -76,8 +79,9 @@ impl Reader {
             → Rose (S.faults source.old) (S.faults source.new) }
         ensures later { S.faults source.old ≤ S.faults source.new }
 
-        // The source loses bytes at its front alone, and none while what is held decides.
-        ensures suffix { (taken : List ℕ) × Consumes (S.left source.old) (S.left source.new) taken }
+        // The source loses bytes at its front alone, no piece of them once those before it decide, and none while what is
+        // held decides.
+        ensures sparing { TakesSparingly (S.left source.old) (S.left source.new) self.old }
         ensures quiet { ¬ (IsPartial self.old) → source.new ≡ source.old }
         ensures bounded { IfOk result (λ o. IfSome o (λ m. length m.body ≤ max_body)) }
     {
@@ -85,10 +89,7 @@ impl Reader {
             if let Some(head) = self.look()? {
                 return Ok(Some(self.take_message(head, source)?));
             }
-            if self.held.is_empty() {
-                source.at_rest();
-            }
-            if !self.take_in(source)? {
+            if !self.take_lines(source)? {
                 return self.end_of_input();
             }
         }
@@ -107,6 +108,55 @@ impl Reader {
         }
     }
 
+    /// Reads pieces until one brings a line's end or fills the room of a head: before that no head can be whole or dead.
+    /// False where the source has come to its end.
+    fn take_lines<S: Source>(&mut self, source: &mut S) -> Result<bool, NextEnd>
+        requires { IsShortHead self.old }
+        ensures more { IfOk result (λ more. IsTrue more → length self.old < length self.new) }
+        ensures known { OnOk result (Keeps (prepend_known self.old (S.left source.old))
+            (prepend_known self.new (S.left source.new))) }
+        ensures end { IfOk result (λ more. IsFalse more
+            → IsAtEnd (S.left source.new) × IsShortHead self.new) }
+        ensures outside { IfErr result IsOutside }
+        ensures fault { IsErrOf result NextEnd.ReadFault
+            → Rose (S.faults source.old) (S.faults source.new) }
+        ensures later { S.faults source.old ≤ S.faults source.new }
+        ensures sparing { (taken : List ℕ) × Consumes (S.left source.old) (S.left source.new) taken
+            × IsSparing self.old taken × OnOk result (self.new ≡ self.old ++ taken) }
+    {
+        loop {
+            let before = self.held.len();
+            if !self.take_in(source)? {
+                return Ok(false);
+            }
+            if self.has_line_from(before) || MAX_HEAD <= self.held.len() {
+                return Ok(true);
+            }
+        }
+    }
+
+    /// Whether a line ends behind so many bytes of what is held.
+    fn has_line_from(&self, before: usize) -> bool
+        requires { before ≤ length self.now }
+        ensures { IsFalse result → (k : ℕ) → before ≤ k → k < length self.now → slice_index self.now k ≢ line_feed }
+    {
+        match memchr(b'\n', &self.held.as_slice()[before..]) {
+            Some(_) => true,
+            None => false,
+        }
+    }
+
+    /// Tells the source that it rests, where nothing is held.
+    fn tell_rest<S: Source>(&self, source: &mut S)
+        ensures same_bytes { S.left source.new ≡ S.left source.old }
+        ensures same_faults { S.faults source.new ≡ S.faults source.old }
+    {
+        let rests = self.held.is_empty();
+        if rests {
+            source.at_rest();
+        }
+    }
+
     /// Reads one piece. False where the source has come to its end.
     fn take_in<S: Source>(&mut self, source: &mut S) -> Result<bool, NextEnd>
         ensures more { IfOk result (λ more. IsTrue more → length self.old < length self.new) }
@@ -118,8 +168,10 @@ impl Reader {
         ensures fault { IsErrOf result NextEnd.ReadFault
             → Rose (S.faults source.old) (S.faults source.new) }
         ensures later { S.faults source.old ≤ S.faults source.new }
-        ensures suffix { (taken : List ℕ) × Consumes (S.left source.old) (S.left source.new) taken }
+        ensures piece { LosesPiece (S.left source.old) (S.left source.new)
+            (λ piece. OnOk result (self.new ≡ self.old ++ piece)) }
     {
+        self.tell_rest(source);
         let mut piece = [0u8; PIECE];
         let Ok(count) = source.read(&mut piece) else {
             return Err(NextEnd::ReadFault);
@@ -154,25 +206,54 @@ impl Reader {
         ensures fault { IsErrOf result NextEnd.ReadFault
             → Rose (S.faults source.old) (S.faults source.new) }
         ensures later { S.faults source.old ≤ S.faults source.new }
-        ensures suffix { (taken : List ℕ) × Consumes (S.left source.old) (S.left source.new) taken }
+        ensures sparing { TakesSparingly (S.left source.old) (S.left source.new) self.old }
         ensures quiet { ¬ (IsShortBody self.old) → source.new ≡ source.old }
         ensures bounded { IfOk result (λ m. length m.body ≤ max_body) }
     {
         let target = self.operation(head.target)?;
         let mut body = self.start_body(head)?;
         while body.len() < head.size {
-            if !self.take_in(source)? {
+            if !self.take_body(source, &mut body, head.size)? {
                 return Err(NextEnd::Cut {
                     got: (head.len + body.len()) as u64,
                 });
             }
-            self.move_to(&mut body, head.size)?;
         }
         Ok(Message {
             target,
             body: Bytes::from(body),
             last: head.last,
         })
+    }
+
+    /// Reads one piece to the end of the body, as much of it as the size asks, and holds what is behind. False where the
+    /// source has come to its end.
+    fn take_body<S: Source>(
+        &mut self,
+        source: &mut S,
+        body: &mut Vec<u8>,
+        size: usize,
+    ) -> Result<bool, NextEnd>
+        requires nothing_held { self.old ≡ [] }
+        requires short { vec_len body.old < size }
+        ensures more { IfOk result (λ more. IsTrue more → vec_len body.old < vec_len body.new) }
+        ensures piece { LosesPiece (S.left source.old) (S.left source.new)
+            (λ piece. OnOk result (MovesTo body.old.items piece size body.new.items self.new)) }
+        ensures end { IfOk result (λ more. IsFalse more
+            → IsAtEnd (S.left source.new) × (body.new.items ≡ body.old.items) × (self.new ≡ [])) }
+        ensures outside { IfErr result IsOutside }
+        ensures fault { IsErrOf result NextEnd.ReadFault
+            → Rose (S.faults source.old) (S.faults source.new) }
+        ensures later { S.faults source.old ≤ S.faults source.new }
+    {
+        let mut piece = [0u8; PIECE];
+        let Ok(count) = source.read(&mut piece) else {
+            return Err(NextEnd::ReadFault);
+        };
+        let part = count.min(size - body.len());
+        body.extend_from_slice(&piece[..part])?;
+        self.held.extend_from_slice(&piece[part..count])?;
+        Ok(0 < count)
     }
 
     /// A copy of the operation's name.
