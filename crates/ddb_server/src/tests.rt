@@ -30,7 +30,8 @@ const MUSIC_EXISTS: &str =
     {\"__type\":\"com.amazonaws.dynamodb.v20120810#ResourceInUseException\",\
     \"message\":\"Table already exists: Music\"}";
 
-const REFUSED: &str = "HTTP/1.1 405 Method Not Allowed\r\nContent-Length: 0\r\nConnection: close\r\n\r\n";
+const REFUSED: &str =
+    "HTTP/1.1 405 Method Not Allowed\r\nContent-Length: 0\r\nConnection: close\r\n\r\n";
 
 const USAGE: &str =
     "usage: ddb_server stdio|serve|load [--partitions N] [--port N] [--workers N] [--start N] [--clients N] [--count N]\n";

@@ -330,4 +330,4 @@ pub short_goes_on : (held now piece : List ℕ) (before : ℕ) → IsShortHead h
 short_goes_on held now piece before short is at fits none =
     let inside : length (held ++ piece) < max_head = omega (arith, ap length is, fits) in
     subst IsShortHead (sym is) (IsShortHead-piece held piece short inside
-        (λ k past within feed. none k (omega (arith, at, past)) (omega (arith, ap length is, within)) (ap (λ l. get_or l k 0) is ∙ feed)))
+    (λ k past within feed. none k (omega (arith, at, past)) (omega (arith, ap length is, within)) (ap (λ l. get_or l k 0) is ∙ feed)))

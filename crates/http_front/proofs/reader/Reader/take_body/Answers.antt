@@ -10,8 +10,7 @@ returns-clause-piece g c =
     let part = c.min-part.result in
     let within : count ≤ length buf = search rules in
     let moved : c.extend_from_slice.new.self.items ≡ c.args.body.now.items ++ take part buf = grind (arith, common_steps) in
-    let kept : c.extend_from_slice-2.new.self.items ≡ take (count - part) (drop part buf) = grind (arith, common_steps) in
-    (
+    let kept : c.extend_from_slice-2.new.self.items ≡ take (count - part) (drop part buf) = grind (arith, common_steps) in (
       take count buf,
       c.in-Ok.ensures.bytes.0,
       grind (arith, common_steps),

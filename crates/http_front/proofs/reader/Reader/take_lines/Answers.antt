@@ -21,8 +21,7 @@ returns-in_err-take_in-clause-sparing g c =
     let s = inv.sparing in
     let p = c.take_in.ensures.piece in
     let e = err_from_is_err_and c.from_residual.result c.from_residual.ensures.1 in
-    rw e.1
-    (
+    rw e.1 (
       s.0 ++ p.0,
       Consumes-trans _ _ _ s.0 p.0 s.1 p.1,
       sparing_piece c.args.self.now s.0 c.loop-self.self p.0 s.2 (inl inv.short) p.2,
@@ -33,8 +32,7 @@ pub returns-then-not-branch-clause-sparing : goal.returns-then-not-branch-clause
 returns-then-not-branch-clause-sparing g c =
     let inv = c.loop-self.invariant in
     let s = inv.sparing in
-    let p = c.in_ok-take_in.ensures.piece in
-    (
+    let p = c.in_ok-take_in.ensures.piece in (
       s.0 ++ p.0,
       Consumes-trans _ _ _ s.0 p.0 s.1 p.1,
       sparing_piece c.args.self.now s.0 c.loop-self.self p.0 s.2 (inl inv.short) p.2,
@@ -45,8 +43,7 @@ pub returns-then-has_line_from-clause-sparing : goal.returns-then-has_line_from-
 returns-then-has_line_from-clause-sparing g c =
     let inv = c.loop-self.invariant in
     let s = inv.sparing in
-    let p = c.in_ok-take_in.ensures.piece in
-    (
+    let p = c.in_ok-take_in.ensures.piece in (
       s.0 ++ p.0,
       Consumes-trans _ _ _ s.0 p.0 s.1 p.1,
       sparing_piece c.args.self.now s.0 c.loop-self.self p.0 s.2 (inl inv.short) p.2,

@@ -62,7 +62,7 @@ loop-self-preserved g c =
         s.0 ++ p.0,
         Consumes-trans _ _ _ s.0 p.0 s.1 p.1,
         sym (append_assoc c.args.self.now s.0 p.0) ∙ ap (λ l. l ++ p.0) is
-        ∙ body_on front c.loop-self.body.items p.0 m.part c.take_body.new.self c.take_body.new.body.items m.held_is m.body_is,
+            ∙ body_on front c.loop-self.body.items p.0 m.part c.take_body.new.self c.take_body.new.body.items m.held_is m.body_is,
         sparing_piece c.args.self.now s.0 (c.args.self.now ++ s.0) p.0 refl (inr partial) p.2,
       );
       quiet = λ open_. absurd (open_ (subst IsShortBody (sym ((inv.quiet open_).1 ∙ ap (λ l. (front ++ c.loop-self.body.items) ++ l) (inv.all short) ∙ append-nil _))
