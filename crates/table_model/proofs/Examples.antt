@@ -1,0 +1,33 @@
+-- The worked examples compute.
+use Rattle.std.proofs.Common.{refl}
+use Rattle.item_keys.specs.ItemKey.{key_in}
+use Rattle.item_keys.specs.Order.{value_order}
+use Rattle.item_keys.specs.Place.{hash_place}
+use Rattle.row_keys.specs.Points.{point_order}
+use Rattle.table_model.specs.Worked.{Worked}
+
+pub worked : Worked
+unfolding key_in value_order hash_place point_order
+worked = record {
+  created = refl;
+  exists = refl;
+  read = refl;
+  absent = refl;
+  no_table = refl;
+  no_key = refl;
+  empty_key = refl;
+  extra = refl;
+  replaced = refl;
+  refused = refl;
+  deleted = refl;
+  gone = refl;
+  batch = refl;
+  cancelled = refl;
+  unchanged = refl;
+  whole = refl;
+  twice = refl;
+  same_actions = refl;
+  other_actions = refl;
+  listed = refl;
+  dropped = refl;
+}

@@ -1,0 +1,12 @@
+-- The definitions in reading order: rows and indexes; the new item of a write; the database; and each operation, with
+-- the page of the API Reference that it is from.
+pub mod Outcome
+pub mod Database
+pub mod Writes
+pub mod Reads
+pub mod Batches
+pub mod Pages
+pub mod Transactions
+pub mod Catalog
+pub mod Effect
+pub mod Worked

@@ -1,0 +1,183 @@
+-- Worked examples: what the definitions say of small requests, one after the other.
+use Rattle.std.specs.Prelude.{◌≡◌, ℕ, ◌*◌, List, [], ◌∷◌, Option, None, Some, codes, true, false}
+use Rattle.attr_value.specs.Tree.{Attributes, no_attributes, attribute, text}
+use Rattle.base_types.specs.declared.path.Step.TheVariants as step
+use Rattle.expr_words.specs.declared.tree.Condition.{Condition}
+use Rattle.expr_words.specs.declared.tree.Condition.TheVariants as condition
+use Rattle.item_keys.specs.declared.fault.KeyFault.TheVariants as key_fault
+use Rattle.table_schema.specs.declared.definition.KeyKind.TheVariants as kind
+use Rattle.table_schema.specs.declared.schema.Schema.{Schema}
+use Rattle.table_request.specs.declared.items.ReturnValues.TheVariants as show
+use Rattle.table_request.specs.declared.items.PutItem.{PutItem}
+use Rattle.table_request.specs.declared.items.GetItem.{GetItem}
+use Rattle.table_request.specs.declared.items.DeleteItem.{DeleteItem}
+use Rattle.table_request.specs.declared.batches.WriteRequest.TheVariants as write
+use Rattle.table_request.specs.declared.batches.BatchWrite.{BatchWrite}
+use Rattle.table_request.specs.declared.batches.BatchGet.{BatchGet}
+use Rattle.table_request.specs.declared.transactions.Change.TheVariants as change
+use Rattle.table_request.specs.declared.transactions.TransactAction.{TransactAction}
+use Rattle.table_request.specs.declared.transactions.TransactWrite.{TransactWrite}
+use Rattle.table_request.specs.declared.tables.ListTables.{ListTables}
+use Rattle.client_tokens.specs.declared.kept.Kept.{Kept}
+use Rattle.table_model.specs.declared.action.NumberedAction.{NumberedAction}
+use Rattle.table_model.specs.declared.reply.Reply.{Reply}
+use Rattle.table_model.specs.declared.reply.Reply.TheVariants as answer
+use Rattle.table_model.specs.declared.refusal.Reason.TheVariants as reason
+use Rattle.table_model.specs.declared.refusal.Refusal.TheVariants as refusal
+use Rattle.table_model.specs.declared.refusal.Invalid.TheVariants as invalid
+use Rattle.table_model.specs.Database.{Database, Effect, empty_database}
+use Rattle.table_model.specs.Writes.{put_item, delete_item}
+use Rattle.table_model.specs.Reads.{get_item}
+use Rattle.table_model.specs.Batches.{batch_write, batch_get}
+use Rattle.table_model.specs.Transactions.{transact_write, repeated, kept_at, numbered_all}
+use Rattle.table_model.specs.Catalog.{create_table, delete_table, list_tables}
+
+-- ---- a table `name` with the key `id`, and its items
+
+abbrev pub schema_of : List ℕ → Schema
+schema_of name = record {
+  name = name;
+  definitions = record { name = codes "id"; kind = kind.S } ∷ [];
+  keys = record { partition = codes "id"; sort = None };
+  locals = [];
+  globals = [];
+  on_demand = true;
+  read_units = 0;
+  write_units = 0;
+  created = 0;
+}
+
+abbrev pub tab : List ℕ
+tab = codes "Tab"
+
+abbrev pub key : List ℕ → Attributes
+key id = attribute (codes "id") (text id) no_attributes
+
+abbrev pub item : List ℕ → List ℕ → Attributes
+item id v = attribute (codes "id") (text id) (attribute (codes "v") (text v) no_attributes)
+
+-- ---- requests
+
+-- the item has no attribute `id`: it is not there
+abbrev pub is_absent : Condition
+is_absent = condition.Absent (record { steps = step.Name (codes "id") ∷ [] })
+
+abbrev pub put : Attributes → Option Condition → PutItem
+put new condition = record {
+  table = tab;
+  item = new;
+  condition = condition;
+  values = [];
+  return_values = show.AllOld;
+}
+
+abbrev pub get : List ℕ → GetItem
+get id = record { table = tab; key = key id; projection = None; consistent = true }
+
+abbrev pub delete : List ℕ → DeleteItem
+delete id = record { table = tab; key = key id; condition = None; values = []; return_values = show.AllOld }
+
+abbrev pub write_two : BatchWrite
+write_two = record {
+  tables = record { table = tab; writes = write.Put (item (codes "a") (codes "1")) ∷ write.Put (item (codes "b") (codes "2")) ∷ [] } ∷ [];
+}
+
+abbrev pub read_three : BatchGet
+read_three = record {
+  tables = record {
+    table = tab;
+    keys = key (codes "b") ∷ key (codes "a") ∷ key (codes "zz") ∷ [];
+    projection = None;
+    consistent = None;
+    expression = None;
+    names = None;
+  } ∷ [];
+}
+
+abbrev pub put_action : List ℕ → List ℕ → Option Condition → TransactAction
+put_action id v condition = record {
+  table = tab;
+  change = change.Put (item id v);
+  condition = condition;
+  values = [];
+  show_old = false;
+}
+
+abbrev pub transact : List TransactAction → Option (List ℕ) → TransactWrite
+transact actions token = record { actions = actions; token = token }
+
+-- ---- databases
+
+abbrev pub after : Effect → Database
+after effect = effect.0
+
+abbrev pub said : Effect → Reply
+said effect = effect.1
+
+-- with the table alone; and with the items a and b
+abbrev pub made : Database
+made = after (create_table empty_database (record { schema = schema_of tab }) 0)
+
+abbrev pub filled : Database
+filled = after (batch_write made write_two)
+
+abbrev pub three_puts : List TransactAction
+three_puts =
+    put_action (codes "a") (codes "9") None ∷ put_action (codes "b") (codes "9") None ∷ put_action (codes "c") (codes "9") None ∷ []
+
+-- three puts, of which the second may only make an item
+abbrev pub cancelled_three : Effect
+cancelled_three =
+    transact_write filled
+    (transact
+    (put_action (codes "a") (codes "9") None ∷ put_action (codes "b") (codes "9") (Some is_absent) ∷ put_action (codes "c") (codes "9") None ∷ [])
+    None)
+    0
+
+abbrev pub one_put : List ℕ → TransactWrite
+one_put v = transact (put_action (codes "a") v None ∷ []) (Some (codes "t"))
+
+-- what a token is kept with that one put was sent with
+abbrev pub kept_put : Option (Kept (List NumberedAction))
+kept_put = Some (kept_at 0 (numbered_all made (put_action (codes "a") (codes "1") None ∷ [])))
+
+-- ---- the examples
+
+pub record Worked : Type 0 where
+  -- a table is made once, and has its moment
+  pub created :
+      said (create_table empty_database (record { schema = schema_of tab }) 5000000)
+      ≡ answer.Described (record (schema_of tab) { created = 5000000 })
+  pub exists : said (create_table made (record { schema = schema_of tab }) 0) ≡ answer.Refused (refusal.TableExists tab)
+  -- what was put is read, and nothing else
+  pub read : said (get_item (after (put_item made (put (item (codes "a") (codes "1")) None))) (get (codes "a"))) ≡ answer.Read (Some (item (codes "a") (codes "1")))
+  pub absent : said (get_item filled (get (codes "c"))) ≡ answer.Read None
+  pub no_table : said (get_item empty_database (get (codes "a"))) ≡ answer.Refused (refusal.NoTable tab)
+  pub no_key : said (put_item made (put no_attributes None)) ≡ answer.Refused (refusal.Invalid (invalid.Key key_fault.Missing))
+  pub empty_key : said (get_item made (get [])) ≡ answer.Refused (refusal.Invalid (invalid.Key key_fault.Empty))
+  pub extra : said (delete_item made (record (delete (codes "a")) { key = item (codes "a") (codes "1") })) ≡ answer.Refused (refusal.Invalid (invalid.Key key_fault.Extra))
+  -- a write shows the old item, and a false condition changes nothing
+  pub replaced : said (put_item filled (put (item (codes "a") (codes "9")) None)) ≡ answer.Written (Some (item (codes "a") (codes "1")))
+  pub refused : put_item filled (put (item (codes "a") (codes "9")) (Some is_absent)) ≡ (filled, answer.Refused refusal.ConditionFailed)
+  pub deleted : said (delete_item filled (delete (codes "b"))) ≡ answer.Written (Some (item (codes "b") (codes "2")))
+  pub gone : said (get_item (after (delete_item filled (delete (codes "b")))) (get (codes "b"))) ≡ answer.Read None
+  -- a batch reads in the order of its keys
+  pub batch : said (batch_get filled read_three) ≡ answer.BatchRead (record { table = tab; items = item (codes "b") (codes "2") ∷ item (codes "a") (codes "1") ∷ [] } ∷ []) []
+  -- a transaction is made whole, or not at all with a reason for each action
+  pub cancelled : said cancelled_three ≡ answer.Refused (refusal.Cancelled (reason.None ∷ reason.ConditionFalse None ∷ reason.None ∷ []))
+  pub unchanged : (after cancelled_three).tables ≡ filled.tables
+  pub whole : said (get_item (after (transact_write filled (transact three_puts None) 0)) (get (codes "c"))) ≡ answer.Read (Some (item (codes "c") (codes "9")))
+  pub twice :
+      said (transact_write filled (transact (put_action (codes "a") (codes "8") None ∷ put_action (codes "a") (codes "9") None ∷ []) None) 0)
+      ≡ answer.Refused (refusal.Invalid invalid.Twice)
+  -- a token that lives stands for its actions
+  pub same_actions : repeated made (one_put (codes "1")) 0 kept_put ≡ (made, answer.TransactWritten)
+  pub other_actions : repeated made (one_put (codes "2")) 0 kept_put ≡ (made, answer.Refused refusal.Mismatch)
+  -- names are listed in order, with the last where more follow
+  pub listed :
+      said (list_tables (after (create_table (after (create_table empty_database (record { schema = schema_of (codes "bbb") }) 0)) (record { schema = schema_of (codes "aaa") }) 0)) (record { after = None; limit = 1 }))
+      ≡ answer.Tables (record { names = codes "aaa" ∷ []; last = Some (codes "aaa") })
+  -- a table that is dropped takes its items along
+  pub dropped :
+      said (get_item (after (create_table (after (delete_table filled (record { table = tab }))) (record { schema = schema_of tab }) 0)) (get (codes "a")))
+      ≡ answer.Read None
