@@ -3,7 +3,7 @@
 //! A write is a path with what will stand there, or with nothing where what is there goes. [`write_all`] goes over the old
 //! item once and asks at each attribute and at each element which writes lead on below it: no write sees another, no
 //! place of a list moves before all are made, and a list with many removals is one pass. What is written is lent until
-//! then ([`NewValue`]), so that what would be too large is told ([`extent`]) before anything of it is made.
+//! then ([`NewValue`]): each value is copied once, into the new item.
 #![tactic(auto)]
 
 mod edit;
