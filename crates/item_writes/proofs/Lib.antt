@@ -1,3 +1,4 @@
 pub mod Kept
 pub mod Sets
 pub mod Apart
+pub mod ByName

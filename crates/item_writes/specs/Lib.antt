@@ -4,4 +4,5 @@ pub mod Lists
 pub mod NewTree
 pub mod Apart
 pub mod Edits
+pub mod ValuesByName
 pub mod Made

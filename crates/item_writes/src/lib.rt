@@ -7,7 +7,9 @@
 #![tactic(auto)]
 
 mod edit;
+mod laws;
 mod new_value;
 
 pub use edit::write_all;
+pub use laws::values_by_name;
 pub use new_value::NewValue;
