@@ -8,18 +8,23 @@ use attr_value::{Item, Value};
 use json::Writer;
 use serde_json::Value as Json;
 use std::alloc::Global;
+use std::process::Abort;
 use std::test::Fail;
+
+/// A JSON text, and what is said of it.
+type Row = (&'static str, &'static str);
 
 /// The text of a value, where its JSON has that text too and is read back as the value.
 fn printed(alloc: Global, value: &Value) -> Result<String, Fail> {
-    let mut text = String::new(alloc);
+    let mut text = String::from_str(alloc, "before")?;
     push_value(alloc, &mut text, value)?;
     let json = value_to(alloc, value)?;
-    if json.to_string(alloc)?.as_str() != text.as_str() {
+    let written = json.to_string(alloc)?;
+    if text.as_str().strip_prefix("before") != Some(written.as_str()) {
         return Ok(String::from_str(alloc, "another text")?);
     }
     match value_from(alloc, &json) {
-        Ok(back) if back == *value => Ok(text),
+        Ok(back) if back == *value => Ok(written),
         _ => Ok(String::from_str(alloc, "another value")?),
     }
 }
@@ -35,7 +40,7 @@ fn verdict(alloc: Global, text: &str) -> Result<String, Fail> {
 }
 
 /// JSON texts with what `value_from` says of them.
-static VERDICTS: [(&str, &str); 94] = [
+static STATED: [Row; 27] = [
     // The ten types, each written as it came.
     (r#"{"S":""}"#, r#"{"S":""}"#),
     (
@@ -92,6 +97,9 @@ static VERDICTS: [(&str, &str); 94] = [
         r#"{"BS":["/w==","AA==","fw==","AAA="]}"#,
         r#"{"BS":["AA==","AAA=","fw==","/w=="]}"#,
     ),
+];
+
+static MISFORMED: [Row; 29] = [
     // No object of one member.
     ("5", "NotOneMember"),
     ("null", "NotOneMember"),
@@ -123,6 +131,9 @@ static VERDICTS: [(&str, &str); 94] = [
     (r#"{"M":[]}"#, "UnknownType"),
     (r#"{"SS":"a"}"#, "UnknownType"),
     (r#"{"SS":{}}"#, "UnknownType"),
+];
+
+static SCALARS_AND_SETS: [Row; 27] = [
     // A set's list with an element that is no string is of another kind as a whole.
     (r#"{"SS":[5]}"#, "UnknownType"),
     (r#"{"SS":["a","a",null]}"#, "UnknownType"),
@@ -157,6 +168,9 @@ static VERDICTS: [(&str, &str); 94] = [
     (r#"{"NS":["1","1.0"]}"#, "BadSet DuplicateInSet"),
     (r#"{"NS":["0","-0"]}"#, "BadSet DuplicateInSet"),
     (r#"{"BS":["AQ==","AQ=="]}"#, "BadSet DuplicateInSet"),
+];
+
+static INSIDE: [Row; 11] = [
     // What lies inside comes before the set, and elements come in order.
     (r#"{"NS":["1","1","x"]}"#, "BadNumber Grammar"),
     (r#"{"BS":["AQ==","AQ==","?"]}"#, "BadBase64"),
@@ -172,13 +186,19 @@ static VERDICTS: [(&str, &str); 94] = [
     (r#"{"M":{"a":null}}"#, "NotOneMember"),
 ];
 
-#[test]
-fn verdicts(rt: HostRuntime) -> Result<(), Fail> {
-    let alloc = rt.alloc();
-    for (text, expected) in VERDICTS {
-        assert_eq!(rt; verdict(alloc, text)?.as_str(), expected, "{text}");
+fn assert_verdicts(rt: &impl Abort, alloc: Global, rows: &[Row]) -> Result<(), Fail> {
+    for (text, expected) in rows {
+        assert_eq!(rt; verdict(alloc, text)?.as_str(), *expected, "{text}");
     }
     Ok(())
+}
+
+#[test]
+fn verdicts(rt: HostRuntime) -> Result<(), Fail> {
+    assert_verdicts(&rt, rt.alloc(), &STATED)?;
+    assert_verdicts(&rt, rt.alloc(), &MISFORMED)?;
+    assert_verdicts(&rt, rt.alloc(), &SCALARS_AND_SETS)?;
+    assert_verdicts(&rt, rt.alloc(), &INSIDE)
 }
 
 /// A text between so many openings and closings.
