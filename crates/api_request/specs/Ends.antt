@@ -1,0 +1,11 @@
+-- Answers of code beside what a body states.
+use Rattle.std.specs.Prelude.{⊤, Result, Ok, Err}
+use Rattle.api_request.specs.declared.refusal.Refusal.{Refusal}
+use Rattle.api_request.specs.declared.refusal.RequestEnd.{RequestEnd}
+use Rattle.api_request.specs.declared.refusal.RequestEnd.TheVariants.{Refused, NoMemory}
+
+-- what is told of an answer: the request, or its refusal; memory may be refused in its place
+abbrev pub IsToldOf : {T : Type 0} → (Result T Refusal → Type 0) → Result T RequestEnd → Type 0
+IsToldOf States (Ok r) = States (Ok r)
+IsToldOf States (Err (Refused why)) = States (Err why)
+IsToldOf States (Err NoMemory) = ⊤

@@ -1,0 +1,37 @@
+//! Requests of the catalog that name a table, or none.
+
+ghost use Rattle.std.specs.Prelude.{◌≡◌, IfOk};
+ghost use Rattle.serde_json.specs.View.{view};
+ghost use Rattle.api_request.specs.Catalog.{IsDeleteTable, IsDescribeTable, IsListTables};
+
+use crate::member::{copy_at, stated_copy, stated_whole};
+use api_form::Name;
+use serde_json::Value;
+use std::alloc::{AllocError as NoMemory, Global};
+use table_request::{DeleteTable, DescribeTable, ListTables};
+
+/// What the body of a DeleteTable states (API Reference: DeleteTable).
+pub fn delete_table(alloc: Global, json: &Value) -> Result<DeleteTable, NoMemory>
+    ensures { IfOk result (IsDeleteTable (view json.now)) }
+{
+    let table = copy_at(alloc, json, Name::TableName)?;
+    Ok(DeleteTable { table })
+}
+
+/// What the body of a DescribeTable states (API Reference: DescribeTable).
+pub fn describe_table(alloc: Global, json: &Value) -> Result<DescribeTable, NoMemory>
+    ensures { IfOk result (IsDescribeTable (view json.now)) }
+{
+    let table = copy_at(alloc, json, Name::TableName)?;
+    Ok(DescribeTable { table })
+}
+
+/// What the body of a ListTables states (API Reference: ListTables).
+pub fn list_tables(alloc: Global, json: &Value) -> Result<ListTables, NoMemory>
+    ensures { IfOk result (IsListTables (view json.now)) }
+{
+    Ok(ListTables {
+        after: stated_copy(alloc, json, Name::ExclusiveStartTableName)?,
+        limit: stated_whole(json, Name::Limit).unwrap_or(100),
+    })
+}

@@ -1,0 +1,103 @@
+//! Members of a body that has no fault. What is absent is the empty text, the empty list, the empty item or false.
+
+ghost use Rattle.std.specs.Prelude.{◌≡◌, IfOk, option_map, option_and_then};
+ghost use Rattle.serde_json.specs.View.{view, items_view, members_view};
+ghost use Rattle.serde_json.specs.Find.{as_object};
+ghost use Rattle.api_request.specs.Members.{member_at, stated_text, text_at, stated_flag, flag_at, stated_whole, list_at, item_at, item_in};
+
+use api_form::Name;
+use attr_json::{JsonEnd, item_from};
+use attr_value::Item;
+use base_types::Text;
+use serde_json::{Map, Value};
+use std::alloc::{AllocError as NoMemory, Global};
+
+/// The text of a member, where it is stated.
+pub fn stated_text(json: &Value, name: Name) -> Option<&str>
+    ensures { option_map (λ text. text.now) result ≡ stated_text name (view json.now) }
+{
+    json.get(name.text()).and_then(Value::as_str)
+}
+
+/// The text of a member.
+pub fn text_at(json: &Value, name: Name) -> &str
+    ensures { result.now ≡ text_at name (view json.now) }
+{
+    json.get(name.text()).and_then(Value::as_str).unwrap_or("")
+}
+
+/// The text of a member, copied.
+pub fn copy_at(alloc: Global, json: &Value, name: Name) -> Result<Text, NoMemory>
+    ensures { IfOk result (λ text. text ≡ text_at name (view json.now)) }
+{
+    Text::copied(alloc, text_at(json, name))
+}
+
+/// The text of a member, copied, where it is stated.
+pub fn stated_copy(alloc: Global, json: &Value, name: Name) -> Result<Option<Text>, NoMemory>
+    ensures { IfOk result (λ text. text ≡ stated_text name (view json.now)) }
+{
+    match stated_text(json, name) {
+        Some(text) => Ok(Some(Text::copied(alloc, text)?)),
+        None => Ok(None),
+    }
+}
+
+/// Whether a member is true, where it is stated.
+pub fn stated_flag(json: &Value, name: Name) -> Option<bool>
+    ensures { result ≡ stated_flag name (view json.now) }
+{
+    json.get(name.text()).and_then(Value::as_bool)
+}
+
+/// Whether a member is true.
+pub fn flag_at(json: &Value, name: Name) -> bool
+    ensures { result ≡ flag_at name (view json.now) }
+{
+    stated_flag(json, name).unwrap_or(false)
+}
+
+/// The whole number of a member, where it is stated.
+pub fn stated_whole(json: &Value, name: Name) -> Option<u64>
+    ensures { result ≡ stated_whole name (view json.now) }
+{
+    json.get(name.text()).and_then(Value::as_u64)
+}
+
+/// The elements of a member.
+pub fn list_at(json: &Value, name: Name) -> &[Value]
+    ensures { items_view result.now ≡ list_at name (view json.now) }
+{
+    match json.get(name.text()).and_then(Value::as_array) {
+        Some(items) => items.as_slice(),
+        None => &[],
+    }
+}
+
+/// The item that JSON states.
+pub fn item_in(alloc: Global, json: &Value) -> Result<Item, NoMemory>
+    ensures { IfOk result (λ item. item ≡ item_in (view json.now)) }
+{
+    match item_from(alloc, json) {
+        Ok(item) => Ok(item),
+        Err(JsonEnd::Fault(_)) => Ok(Item::new(alloc)),
+        Err(JsonEnd::NoMemory) => Err(NoMemory),
+    }
+}
+
+/// The item of a member.
+pub fn item_at(alloc: Global, json: &Value, name: Name) -> Result<Item, NoMemory>
+    ensures { IfOk result (λ item. item ≡ item_at name (view json.now)) }
+{
+    match json.get(name.text()) {
+        Some(inner) => item_in(alloc, inner),
+        None => Ok(Item::new(alloc)),
+    }
+}
+
+/// The object of a member, where it is stated.
+pub fn map_at(json: &Value, name: Name) -> Option<&Map<String, Value>>
+    ensures { option_map (λ map. members_view map.now.entries) result ≡ option_and_then as_object (member_at name (view json.now)) }
+{
+    json.get(name.text()).and_then(Value::as_object)
+}
