@@ -14,3 +14,6 @@ mod stated;
 pub use catalog::{delete_table, describe_table, list_tables};
 pub use refusal::{Refusal, RequestEnd};
 pub use schema::create_table;
+
+#[cfg(test)]
+mod tests;
