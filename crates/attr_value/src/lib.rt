@@ -28,6 +28,7 @@ mod elements;
 mod equal;
 mod fault;
 mod item;
+mod parts;
 mod path;
 mod set;
 mod size;
@@ -35,6 +36,7 @@ mod value;
 
 pub use change::MAX_DEPTH;
 pub use fault::{ValueEnd, ValueFault};
+pub use parts::push_some;
 pub use set::{binary_set, number_set, string_set};
 pub use value::{Elements, Item, Value};
 

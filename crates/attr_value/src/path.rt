@@ -29,23 +29,25 @@ fn below<'v>(value: &'v Value, steps: &[Step]) -> Option<&'v Value>
 {
     let mut reached = value;
     for step in steps {
-        reached = one_below(reached, step)?;
+        reached = reached.child(step)?;
     }
     Some(reached)
 }
 
-/// The value one step below.
-fn one_below<'v>(value: &'v Value, step: &Step) -> Option<&'v Value>
-    ensures { lent_tree result ≡ child step.now (tree_of value.now) }
-{
-    match step {
-        Step::Name(name) => match value {
-            Value::M(item) => item.attribute(name),
-            _ => None,
-        },
-        Step::Index(place) => match value {
-            Value::L(list) => list.get(*place as usize),
-            _ => None,
-        },
+impl Value {
+    /// The value one step below: an attribute of a map, or an element of a list.
+    pub fn child(&self, step: &Step) -> Option<&Value>
+        ensures { lent_tree result ≡ child step.now (tree_of self.now) }
+    {
+        match step {
+            Step::Name(name) => match self {
+                Value::M(item) => item.attribute(name),
+                _ => None,
+            },
+            Step::Index(place) => match self {
+                Value::L(list) => list.get(*place as usize),
+                _ => None,
+            },
+        }
     }
 }

@@ -1,6 +1,6 @@
 //! From a schema as it is stated to the schema.
 
-ghost use Rattle.std.specs.Prelude.{◌≡◌, IfOk, IfErr, All, map};
+ghost use Rattle.std.specs.Prelude.{◌≡◌, ◌↔◌, IsTrue, IfOk, IfErr, IfSome, All, is_some, map};
 ghost use Rattle.table_schema.specs.Key.{IsKeySchema, elements_of};
 ghost use Rattle.table_schema.specs.Index.{of_local, of_global, stated_of};
 ghost use Rattle.table_schema.specs.Rule.{IsSound, IsValid};
@@ -10,6 +10,7 @@ use crate::fault::SchemaEnd;
 use crate::index::{GlobalIndex, LocalIndex};
 use crate::keys::KeyNames;
 use crate::schema::Schema;
+use crate::sound::is_key_schema;
 use crate::stated::{KeyElement, StatedIndex, StatedSchema};
 use base_types::Seq;
 use std::alloc::{AllocError as NoMemory, Global};
@@ -47,6 +48,24 @@ impl StatedSchema {
             read_units: self.read_units,
             write_units: self.write_units,
             created: self.created,
+        })
+    }
+}
+
+impl StatedIndex {
+    /// The global index that is stated, where its list of key elements has the form of a key: one HASH and then at most one
+    /// RANGE, of another attribute. No other rule is asked.
+    pub fn into_global(self) -> Option<GlobalIndex>
+        ensures stated { IfSome result (λ index. of_global index ≡ self) }
+        ensures some { IsTrue (is_some result) ↔ IsKeySchema self.keys }
+    {
+        if !is_key_schema(self.keys.as_slice()) {
+            return None;
+        }
+        Some(GlobalIndex {
+            name: self.name,
+            keys: key_names(self.keys),
+            projection: self.projection,
         })
     }
 }

@@ -171,7 +171,7 @@ fn insert_keys<'a>(names: &mut NameSet<'a>, indexes: &'a [StatedIndex]) -> Resul
 }
 
 /// Whether the elements are one HASH and at most one RANGE behind it, of another attribute.
-fn is_key_schema(elements: &[KeyElement]) -> bool
+pub(crate) fn is_key_schema(elements: &[KeyElement]) -> bool
     ensures { IsTrue result ↔ IsKeySchema elements.now }
 {
     match elements {
