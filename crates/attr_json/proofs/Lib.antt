@@ -3,6 +3,5 @@ pub mod Gathering
 pub mod Reading
 pub mod Members
 pub mod Loops
-pub mod Weights
 pub mod Writing
 pub mod ReadBack

@@ -1,3 +1,2 @@
--- The definitions in reading order: what paths pick; how the code makes it.
+-- The definitions in reading order: what paths pick.
 pub mod Picked
-pub mod Made

@@ -1,16 +1,13 @@
 //! The picked item, in one pass over it.
 
-ghost use Rattle.std.specs.Prelude.{◌≡◌, IfOk, OnOk, option_map};
-ghost use Rattle.attr_value.specs.Tree.{Trees};
-ghost use Rattle.attr_value.specs.Paths.{kept_element};
-ghost use Rattle.attr_value.specs.View.{tree_of, trees_of};
+ghost use Rattle.std.specs.Prelude.{◌≡◌, IfOk, option_map};
+ghost use Rattle.attr_value.specs.View.{tree_of};
 ghost use Rattle.path_entries.specs.Entries.{entries_of};
 ghost use Rattle.path_entries.specs.Order.{AreInOrder};
 ghost use Rattle.projection.specs.Picked.{asked, picked, picked_inside, picked_item, picked_list, some_map, some_list};
-ghost use Rattle.projection.specs.Made.{put_kept, onto};
 
-use attr_value::{Elements, Item, Value};
-use base_types::{DocPath, Seq, Text};
+use attr_value::{Elements, Item, Value, push_some};
+use base_types::{DocPath, Seq};
 use expr_words::Paths;
 use path_entries::{Entry, Key, below, sorted};
 use std::alloc::{AllocError as NoMemory, Global};
@@ -112,19 +109,9 @@ fn item_of(alloc: Global, item: &Item, paths: &[Entry<'_, ()>]) -> Result<Item, 
     for (name, value) in item.iter() {
         let deeper = below(alloc, paths, Key::Name(name))?;
         let stays = value_of(alloc, value, deeper.as_slice())?;
-        put_kept(&mut new, name, stays)?;
+        new.put_some(name, stays)?;
     }
     Ok(new)
-}
-
-/// Gives the item an attribute where there is a value.
-fn put_kept(item: &mut Item, name: &Text, value: Option<Value>) -> Result<(), NoMemory>
-    ensures { OnOk result (item.new ≡ put_kept name.now (option_map tree_of value) item.old) }
-{
-    let Some(value) = value else {
-        return Ok(());
-    };
-    item.put(name.try_clone()?, value)
 }
 
 /// What the paths pick of a list's elements.
@@ -138,21 +125,8 @@ fn list_of(alloc: Global, list: &Elements, paths: &[Entry<'_, ()>]) -> Result<El
     for value in list.as_slice() {
         let deeper = below(alloc, paths, Key::Place(place))?;
         let stays = value_of(alloc, value, deeper.as_slice())?;
-        push_kept(&mut new, stays)?;
+        push_some(&mut new, stays)?;
         place += 1;
     }
     Ok(Elements::from(new))
-}
-
-/// Appends a value where there is one.
-#[tactic(auto, using(crate::proofs::Kept::onto_push))]
-fn push_kept(list: &mut Seq<Value>, value: Option<Value>) -> Result<(), NoMemory>
-    ensures { OnOk result ((rest : Trees) → onto (trees_of list.new) rest
-        ≡ onto (trees_of list.old) (kept_element (option_map tree_of value) rest)) }
-{
-    let Some(value) = value else {
-        return Ok(()); // nothing stays of the element
-    };
-    list.push(value)?;
-    Ok(())
 }

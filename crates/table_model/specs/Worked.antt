@@ -143,6 +143,13 @@ kept_put = Some (kept_at 0 (numbered_all made (put_action (codes "a") (codes "1"
 
 -- ---- the examples
 
+-- two tables, the later name first
+abbrev pub two_tables : Database
+two_tables =
+    after (create_table
+    (after (create_table empty_database (record { schema = schema_of (codes "bbb") }) 0))
+    (record { schema = schema_of (codes "aaa") }) 0)
+
 pub record Worked : Type 0 where
   -- a table is made once, and has its moment
   pub created :
@@ -150,23 +157,31 @@ pub record Worked : Type 0 where
       ≡ answer.Described (record (schema_of tab) { created = 5000000 })
   pub exists : said (create_table made (record { schema = schema_of tab }) 0) ≡ answer.Refused (refusal.TableExists tab)
   -- what was put is read, and nothing else
-  pub read : said (get_item (after (put_item made (put (item (codes "a") (codes "1")) None))) (get (codes "a"))) ≡ answer.Read (Some (item (codes "a") (codes "1")))
+  pub read :
+      said (get_item (after (put_item made (put (item (codes "a") (codes "1")) None))) (get (codes "a")))
+      ≡ answer.Read (Some (item (codes "a") (codes "1")))
   pub absent : said (get_item filled (get (codes "c"))) ≡ answer.Read None
   pub no_table : said (get_item empty_database (get (codes "a"))) ≡ answer.Refused (refusal.NoTable tab)
   pub no_key : said (put_item made (put no_attributes None)) ≡ answer.Refused (refusal.Invalid (invalid.Key key_fault.Missing))
   pub empty_key : said (get_item made (get [])) ≡ answer.Refused (refusal.Invalid (invalid.Key key_fault.Empty))
-  pub extra : said (delete_item made (record (delete (codes "a")) { key = item (codes "a") (codes "1") })) ≡ answer.Refused (refusal.Invalid (invalid.Key key_fault.Extra))
+  pub extra :
+      said (delete_item made (record (delete (codes "a")) { key = item (codes "a") (codes "1") }))
+      ≡ answer.Refused (refusal.Invalid (invalid.Key key_fault.Extra))
   -- a write shows the old item, and a false condition changes nothing
   pub replaced : said (put_item filled (put (item (codes "a") (codes "9")) None)) ≡ answer.Written (Some (item (codes "a") (codes "1")))
   pub refused : put_item filled (put (item (codes "a") (codes "9")) (Some is_absent)) ≡ (filled, answer.Refused refusal.ConditionFailed)
   pub deleted : said (delete_item filled (delete (codes "b"))) ≡ answer.Written (Some (item (codes "b") (codes "2")))
   pub gone : said (get_item (after (delete_item filled (delete (codes "b")))) (get (codes "b"))) ≡ answer.Read None
   -- a batch reads in the order of its keys
-  pub batch : said (batch_get filled read_three) ≡ answer.BatchRead (record { table = tab; items = item (codes "b") (codes "2") ∷ item (codes "a") (codes "1") ∷ [] } ∷ []) []
+  pub batch :
+      said (batch_get filled read_three)
+      ≡ answer.BatchRead (record { table = tab; items = item (codes "b") (codes "2") ∷ item (codes "a") (codes "1") ∷ [] } ∷ []) []
   -- a transaction is made whole, or not at all with a reason for each action
   pub cancelled : said cancelled_three ≡ answer.Refused (refusal.Cancelled (reason.None ∷ reason.ConditionFalse None ∷ reason.None ∷ []))
   pub unchanged : (after cancelled_three).tables ≡ filled.tables
-  pub whole : said (get_item (after (transact_write filled (transact three_puts None) 0)) (get (codes "c"))) ≡ answer.Read (Some (item (codes "c") (codes "9")))
+  pub whole :
+      said (get_item (after (transact_write filled (transact three_puts None) 0)) (get (codes "c")))
+      ≡ answer.Read (Some (item (codes "c") (codes "9")))
   pub twice :
       said (transact_write filled (transact (put_action (codes "a") (codes "8") None ∷ put_action (codes "a") (codes "9") None ∷ []) None) 0)
       ≡ answer.Refused (refusal.Invalid invalid.Twice)
@@ -175,7 +190,7 @@ pub record Worked : Type 0 where
   pub other_actions : repeated made (one_put (codes "2")) 0 kept_put ≡ (made, answer.Refused refusal.Mismatch)
   -- names are listed in order, with the last where more follow
   pub listed :
-      said (list_tables (after (create_table (after (create_table empty_database (record { schema = schema_of (codes "bbb") }) 0)) (record { schema = schema_of (codes "aaa") }) 0)) (record { after = None; limit = 1 }))
+      said (list_tables two_tables (record { after = None; limit = 1 }))
       ≡ answer.Tables (record { names = codes "aaa" ∷ []; last = Some (codes "aaa") })
   -- a table that is dropped takes its items along
   pub dropped :

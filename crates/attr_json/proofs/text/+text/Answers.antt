@@ -6,7 +6,8 @@ use Rattle.attr_value.specs.Tree.{weight, trees_weight}
 use Rattle.attr_value.specs.View.{tree_of, trees_of, attributes_of}
 use Rattle.attr_json.specs.Text.{tokens_of}
 use Rattle.attr_json.specs.Written.{data_of, members_of}
-use Rattle.attr_json.proofs.Weights.{Attribute, attribute_weight, element_weight}
+use Rattle.attr_value.proofs.PartLaws.{attribute_weight, element_weight}
+use Rattle.attr_value.proofs.Views.{Entry as Attribute}
 use Rattle.attr_json.proofs.text.+text.Goals as goal
 
 regrouped : (before : List Token) (name : Token) (value rest : List Token) → ((before ++ name ∷ []) ++ value) ++ rest ≡ before ++ name ∷ (value ++ rest)

@@ -4,7 +4,7 @@ use Rattle.serde_json.specs.Written.{items_outline, members_outline}
 use Rattle.attr_value.specs.Tree.{tree_weight, trees_weight, weight}
 use Rattle.attr_value.specs.View.{tree_of, trees_of, attributes_of}
 use Rattle.attr_json.specs.Written.{items_of, members_of}
-use Rattle.attr_json.proofs.Weights.{Attribute}
+use Rattle.attr_value.proofs.Views.{Entry as Attribute}
 use Rattle.attr_json.proofs.text.+text.Given as goal
 
 abbrev pub invariant-write_list-loop-value : goal.invariant-write_list-loop-value

@@ -4,7 +4,7 @@ use Rattle.attr_value.specs.Tree.{tree_weight, trees_weight, weight}
 use Rattle.attr_value.specs.View.{tree_of, trees_of, attributes_of}
 use Rattle.attr_json.specs.ReadBack.{ElementsReadBack, AttributesReadBack}
 use Rattle.attr_json.specs.Written.{data_of, members_of}
-use Rattle.attr_json.proofs.Weights.{Attribute}
+use Rattle.attr_value.proofs.Views.{Entry as Attribute}
 use Rattle.attr_json.proofs.write.+write.Given as goal
 
 abbrev pub invariant-list_json-loop-value : goal.invariant-list_json-loop-value

@@ -7,8 +7,10 @@ use Rattle.attr_value.specs.View.{tree_of, trees_of, attributes_of}
 use Rattle.path_entries.specs.Entries.{below, is_name, entries_of}
 use Rattle.path_entries.specs.Order.{AreInOrder}
 use Rattle.projection.specs.Picked.{picked, picked_from, picked_inside, picked_list}
-use Rattle.projection.specs.Made.{put_kept, onto}
-use Rattle.projection.proofs.Kept.{Entry, picked_last, onto_none, nothing_inside, leads_on, no_items, weight_inside, element_weight}
+use Rattle.attr_value.specs.Parts.{put_some, onto}
+use Rattle.attr_value.proofs.Views.{Entry}
+use Rattle.attr_value.proofs.PartLaws.{onto_none, attribute_weight, element_weight}
+use Rattle.projection.proofs.Kept.{picked_last, nothing_inside, leads_on, no_items}
 use Rattle.projection.proofs.picked.+pick.Goals as goal
 
 not_both : (b : Bool) → b ≡ true → b ≡ false → ⊥
@@ -29,7 +31,7 @@ item_of-loop-name-preserved t c =
     let stays : option_map tree_of c.in_ok-stays.stays ≡ picked (tree_of e.1) deeper = c.in_ok-stays.ensures ∙ ap (λ vs. picked (tree_of e.1) vs) lent in (
       done ++ e ∷ [],
       ap attributes_of (append_assoc done (e ∷ []) left) ∙ whole,
-      c.in_ok-put_kept.ensures ∙ ap (λ o. put_kept e.0 o l.new) stays ∙ ap (put_kept e.0 (picked (tree_of e.1) deeper)) l.invariant.2 ∙ sym (picked_last done e left ps up),
+      c.in_ok-put_some.ensures ∙ ap (λ o. put_some e.0 o l.new) stays ∙ ap (put_some e.0 (picked (tree_of e.1) deeper)) l.invariant.2 ∙ sym (picked_last done e left ps up),
     )
 
 pub list_of-returns : goal.list_of-returns
@@ -60,7 +62,7 @@ item_of-value_of-requires t c =
     let left = c.next.new.self in
     let all : done ++ l.name-iterator ≡ done ++ e ∷ left = ap (λ es. done ++ es) c.in-Some.ensures.steps in
     let whole : weight (attributes_of (done ++ e ∷ left)) ≡ weight c.args.item.now = ap (λ es. weight (attributes_of es)) (sym all) ∙ ap weight l.invariant.1 in
-    (omega (arith, c.decreases, weight_inside done e left, whole), subst (λ es. AreInOrder (entries_of es)) (sym c.as_slice.ensures.value) c.in_ok-deeper.ensures.in_order)
+    (omega (arith, c.decreases, attribute_weight done e left, whole), subst (λ es. AreInOrder (entries_of es)) (sym c.as_slice.ensures.value) c.in_ok-deeper.ensures.in_order)
 
 pub list_of-value_of-requires : goal.list_of-value_of-requires
 list_of-value_of-requires t c =

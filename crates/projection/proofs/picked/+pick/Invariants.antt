@@ -3,8 +3,8 @@ use Rattle.attr_value.specs.Tree.{tree_weight, trees_weight, weight}
 use Rattle.attr_value.specs.View.{tree_of, trees_of, attributes_of}
 use Rattle.path_entries.specs.Entries.{entries_of}
 use Rattle.projection.specs.Picked.{picked_item, picked_from, picked_list}
-use Rattle.projection.specs.Made.{onto}
-use Rattle.projection.proofs.Kept.{Entry}
+use Rattle.attr_value.specs.Parts.{onto}
+use Rattle.attr_value.proofs.Views.{Entry}
 use Rattle.projection.proofs.picked.+pick.Given as goal
 
 abbrev pub invariant-item_of-loop-name : goal.invariant-item_of-loop-name
