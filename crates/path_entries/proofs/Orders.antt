@@ -1,5 +1,5 @@
 -- The order of paths is total, and a list that a sort leaves is in order.
-use Rattle.std.proofs.Common.{◌≡◌, ℕ, suc, ◌<◌, ◌≤◌, List, [], ◌∷◌, length, get_or, Bool, true, false, Ordering, Less, Equal, Greater, nat_cmp, refl, sym, ap, ◌∙◌, subst, arith}
+use Rattle.std.proofs.Common.{◌≡◌, ℕ, suc, ◌<◌, ◌≤◌, List, [], ◌∷◌, length, get_or, true, false, Ordering, Less, Equal, Greater, nat_cmp, refl, sym, ap, ◌∙◌, subst, arith}
 use Rattle.std.proofs.lemmas.Cmp.{nat_list_cmp_total, nat_cmp_total}
 use Rattle.std.proofs.lemmas.List.Sorted.{sorted_far}
 use Rattle.std.specs.Cmp.{IsTotalOrder, IsStrictWeakOrder, then_total, on_total}
@@ -10,7 +10,7 @@ use Rattle.std.specs.Ordering.{is_gt, is_lt, on, then_cmp, ordering_then, orderi
 use Rattle.base_types.specs.declared.path.Step.{Step}
 use Rattle.base_types.specs.declared.path.Step.TheVariants.{Name, Index}
 use Rattle.path_entries.specs.Entries.{entries_of}
-use Rattle.path_entries.specs.Order.{step_order, path_order, AreInOrder}
+use Rattle.path_entries.specs.Order.{step_order, path_order, is_before, AreInOrder}
 use Rattle.path_entries.specs.declared.key.Entry.{Entry}
 
 -- a step's kind, its name and its place, the latter two empty and zero at the other kind
@@ -68,10 +68,6 @@ module _ {K : Type 0} (R : K → K → Ordering) (total : IsTotalOrder R) where
 
   weak : IsStrictWeakOrder (λ x y. is_lt (R x y))
   weak = record { one_way = one_way; chain = λ x y z f g. chained x y z (R y x) (R z y) refl refl f g }
-
--- the order of entries by their paths
-abbrev pub is_before : {A : Type 0} → Entry A → Entry A → Bool
-is_before e f = is_lt (path_order e.steps.now f.steps.now)
 
 pub before_weak : {A : Type 0} → IsStrictWeakOrder (is_before {A = A})
 before_weak =

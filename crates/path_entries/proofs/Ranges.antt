@@ -1,46 +1,67 @@
 -- Among writes in order those below one step stand side by side.
-use Rattle.std.proofs.Common.{◌≡◌, ℕ, zero, suc, ◌<◌, ◌≤◌, List, [], ◌∷◌, length, take, drop, map, Some, None, Bool, true, false, Ordering, Less, Equal, Greater, nat_cmp, is_eq, refl, sym, ap, ◌∙◌, subst, arith, ⊎_elim}
+use Rattle.std.proofs.Common.{◌≡◌, ℕ, zero, suc, ◌+◌, ◌-◌, min, filter, ◌<◌, ◌≤◌, List, [], ◌∷◌, length, take, drop, map, Some, None, Bool, true, false, Ordering, Less, Equal, Greater, nat_cmp, is_eq, refl, sym, ap, ◌∙◌, subst, arith, ⊎_elim}
 use Rattle.std.proofs.lemmas.Bool.{cases_eq}
 use Rattle.std.proofs.lemmas.Bool.Decides.{Decides-eqb}
 use Rattle.std.proofs.lemmas.Cmp.{nat_list_cmp_total, nat_cmp_total}
 use Rattle.std.proofs.Common.{cond}
 use Rattle.std.proofs.lemmas.Slice.Eq.{bytes_eq-Decides}
+use Rattle.std.proofs.lemmas.List.{length-take, length-drop, get_or-take, get_or-drop}
 use Rattle.std.proofs.lemmas.Map.Text.{is_eq-slice_cmp}
 use Rattle.std.specs.Cmp.{IsTotalOrder, nat_cmp_is, Equal-is}
 use Rattle.std.proofs.lemmas.Map.Lookups.{exact_unsigned}
 use Rattle.std.specs.Cmp.Lexicographic.{slice_cmp}
-use Rattle.std.specs.List.{AllByRecursion}
+use Rattle.std.specs.List.{AllByRecursion, AllPass}
 use Rattle.std.specs.List.Sorted.{IsPartitionPoint}
 use Rattle.path_entries.specs.declared.key.Entry.{Entry}
 use Rattle.std.specs.Prelude.{slice_index_or, ◌==◌}
 use Rattle.std.specs.Ordering.{is_gt, is_lt, is_le, ordering_then, ordering_reverse}
 use Rattle.base_types.specs.declared.path.Step.{Step}
 use Rattle.base_types.specs.declared.path.Step.TheVariants as step
-use Rattle.path_entries.specs.Entries.{entry_of, entries_of, behind, below, passes, or_rest}
+use Rattle.path_entries.specs.Entries.{entries_of, begins, behind, below, passes, or_rest}
 use Rattle.path_entries.specs.Order.{step_order, step_key_order, path_order, key_order, AreInOrder}
 use Rattle.path_entries.specs.declared.key.Key.{Key}
 use Rattle.path_entries.specs.declared.key.Key.TheVariants.{Name, Place}
 
--- ---- writes that are left out because they pass nowhere
+-- ---- what a test leaves where it holds nowhere else
 
-module _ {A X : Type 0} (f : X → List Step × A) (test : Step → Bool) where
-  abbrev pub PassesNot : X → Type 0
-  PassesNot x = behind test (f x).0 (f x).1 ≡ None
+module _ {X : Type 0} (p : X → Bool) where
+  filter_drop : (a : ℕ) (xs : List X) → ((k : ℕ) (d : X) → k < a → k < length xs → p (slice_index_or xs k d) ≡ false) → filter p (drop a xs) ≡ filter p xs
+  filter_drop zero xs h = refl
+  filter_drop (suc a) [] h = refl
+  filter_drop (suc a) (x ∷ xs) h =
+      filter_drop a xs (λ k d low high. h (suc k) d (omega arith) (omega arith))
+      ∙ sym (ap (λ b. cond b (x ∷ filter p xs) (filter p xs)) (h 0 x (omega arith) (omega arith)))
 
-  pub below_drop : (a : ℕ) (xs : List X) → ((k : ℕ) (d : X) → k < a → k < length xs → PassesNot (slice_index_or xs k d)) → below test (map f (drop a xs)) ≡ below test (map f xs)
-  below_drop zero xs h = refl
-  below_drop (suc a) [] h = refl
-  below_drop (suc a) (x ∷ xs) h =
-      below_drop a xs (λ k d low high. h (suc k) d (omega arith) (omega arith))
-      ∙ sym (ap (λ o. or_rest o (below test (map f xs))) (h 0 x (omega arith) (omega arith)))
+  filter_take : (b : ℕ) (xs : List X) → ((k : ℕ) (d : X) → b ≤ k → k < length xs → p (slice_index_or xs k d) ≡ false) → filter p (take b xs) ≡ filter p xs
+  filter_take zero [] h = refl
+  filter_take zero (x ∷ xs) h =
+      filter_take zero xs (λ k d low high. h (suc k) d (omega arith) (omega arith))
+      ∙ sym (ap (λ b. cond b (x ∷ filter p xs) (filter p xs)) (h 0 x (omega arith) (omega arith)))
+  filter_take (suc b) [] h = refl
+  filter_take (suc b) (x ∷ xs) h = ap (λ ys. cond (p x) (x ∷ ys) ys) (filter_take b xs (λ k d low high. h (suc k) d (omega arith) (omega arith)))
 
-  pub below_take : (b : ℕ) (xs : List X) → ((k : ℕ) (d : X) → b ≤ k → k < length xs → PassesNot (slice_index_or xs k d)) → below test (map f (take b xs)) ≡ below test (map f xs)
-  below_take zero [] h = refl
-  below_take zero (x ∷ xs) h =
-      below_take zero xs (λ k d low high. h (suc k) d (omega arith) (omega arith))
-      ∙ sym (ap (λ o. or_rest o (below test (map f xs))) (h 0 x (omega arith) (omega arith)))
-  below_take (suc b) [] h = refl
-  below_take (suc b) (x ∷ xs) h = ap (or_rest _) (below_take b xs (λ k d low high. h (suc k) d (omega arith) (omega arith)))
+  filter_all : (xs : List X) → AllPass p xs → filter p xs ≡ xs
+  filter_all [] h = refl
+  filter_all (x ∷ xs) h =
+      ap (λ b. cond b (x ∷ filter p xs) (filter p xs)) (h 0 x (omega arith))
+      ∙ ap (λ ys. x ∷ ys) (filter_all xs (λ k d within. h (suc k) d (omega arith)))
+
+-- ---- entries that do not begin so add nothing
+
+nothing_behind : {A : Type 0} (test : Step → Bool) (steps : List Step) (v : A) → begins test steps ≡ false → behind test steps v ≡ None
+nothing_behind test [] v e = refl
+nothing_behind test (s ∷ steps) v e = ap (λ b. cond b (Some (steps, v)) None) e
+
+one_more : {A : Type 0} (test : Step → Bool) (e : Entry A) (es kept : List (Entry A)) → below test (entries_of kept) ≡ below test (entries_of es)
+    → (b : Bool) → begins test e.steps.now ≡ b → below test (entries_of (cond b (e ∷ kept) kept)) ≡ below test (entries_of (e ∷ es))
+one_more test e es kept same true here = ap (or_rest _) same
+one_more test e es kept same false here = same ∙ sym (ap (λ o. or_rest o (below test (entries_of es))) (nothing_behind test e.steps.now e.value here))
+
+pub below_filter : {A : Type 0} (test : Step → Bool) (es : List (Entry A)) → below test (entries_of (filter (λ e. begins test e.steps.now) es)) ≡ below test (entries_of es)
+below_filter test [] = refl
+below_filter test (e ∷ es) = one_more test e es (filter (λ f. begins test f.steps.now) es) (below_filter test es) (begins test e.steps.now) refl
+
+-- ---- a first step beside the one that is looked for
 
 only_false : (b : Bool) → (b ≡ true → ⊥) → b ≡ false
 only_false true never = absurd (never refl)
@@ -49,23 +70,42 @@ only_false false never = refl
 other_place : (i p : ℕ) → is_eq (nat_cmp i p) ≡ false → (i == p) ≡ false
 other_place i p e = only_false (i == p) (λ same. let h : ⊥ = let t : is_eq (nat_cmp i p) ≡ true = ap is_eq (sym (nat_cmp_is i p Equal ((Decides-eqb i p).0 same))) in cc in h)
 
--- a first step that is not equal to the one that is looked for
-pub elsewhere : {A : Type 0} (key : Key) (steps : List Step) (v : A) → is_eq (key_order key steps) ≡ false → behind (passes key) steps v ≡ None
-elsewhere key [] v e = refl
-elsewhere (Name n) (step.Name m ∷ steps) v e = rw (sym (is_eq-slice_cmp m n.now) ∙ e) refl
-elsewhere (Name n) (step.Index i ∷ steps) v e = refl
-elsewhere (Place p) (step.Name m ∷ steps) v e = refl
-elsewhere (Place p) (step.Index i ∷ steps) v e = rw (other_place i p e) refl
+-- a first step below it or above it
+begins_not : (key : Key) (steps : List Step) → is_eq (key_order key steps) ≡ false → begins (passes key) steps ≡ false
+begins_not key [] e = refl
+begins_not (Name n) (step.Name m ∷ steps) e = sym (is_eq-slice_cmp m n.now) ∙ e
+begins_not (Name n) (step.Index i ∷ steps) e = refl
+begins_not (Place p) (step.Name m ∷ steps) e = refl
+begins_not (Place p) (step.Index i ∷ steps) e = other_place i p e
 
-pub not_eq_below : (o : Ordering) → is_lt o ≡ true → is_eq o ≡ false
+pub elsewhere : {A : Type 0} (key : Key) (steps : List Step) (v : A) → is_eq (key_order key steps) ≡ false → behind (passes key) steps v ≡ None
+elsewhere key steps v e = nothing_behind (passes key) steps v (begins_not key steps e)
+
+not_eq_below : (o : Ordering) → is_lt o ≡ true → is_eq o ≡ false
 not_eq_below Less e = refl
 not_eq_below Equal e = cc
 not_eq_below Greater e = cc
 
-pub not_eq_above : (o : Ordering) → is_le o ≡ false → is_eq o ≡ false
+not_eq_above : (o : Ordering) → is_le o ≡ false → is_eq o ≡ false
 not_eq_above Less e = cc
 not_eq_above Equal e = cc
 not_eq_above Greater e = refl
+
+-- a first step neither below it nor above it
+passes_here : (key : Key) (first : Step) → is_eq (step_key_order key first) ≡ true → passes key first ≡ true
+passes_here (Name n) (step.Name m) t = sym (is_eq-slice_cmp m n.now) ∙ t
+passes_here (Name n) (step.Index i) t = cc
+passes_here (Place p) (step.Name m) t = cc
+passes_here (Place p) (step.Index i) t = (Decides-eqb i p).1 (exact_unsigned i p ((Equal-is (nat_cmp i p)).0 t))
+
+between : (o : Ordering) → is_lt o ≡ false → is_le o ≡ true → is_eq o ≡ true
+between Less low high = cc
+between Equal low high = refl
+between Greater low high = cc
+
+begins_here : (key : Key) (steps : List Step) → is_lt (key_order key steps) ≡ false → is_le (key_order key steps) ≡ true → begins (passes key) steps ≡ true
+begins_here key [] low high = cc
+begins_here key (first ∷ steps) low high = passes_here key first (between (step_key_order key first) low high)
 
 -- ---- along the order of paths the first step does not fall
 
@@ -147,27 +187,35 @@ module _ {A X : Type 0} (f : X → List Step × A) where
   order_drop (suc a) [] h = tt
   order_drop (suc a) (x ∷ xs) h = order_drop a xs h.1
 
--- ---- a first step that is equal to the one that is looked for
-
 first_is : {A : Type 0} (key : Key) (first : Step) (rest : List Step) (v : A) → is_eq (step_key_order key first) ≡ true → Some (rest, v) ≡ behind (passes key) (first ∷ rest) v
-first_is (Name n) (step.Name m) rest v t = rw (sym (is_eq-slice_cmp m n.now) ∙ t) refl
-first_is (Name n) (step.Index i) rest v t = cc
-first_is (Place p) (step.Name m) rest v t = cc
-first_is (Place p) (step.Index i) rest v t = rw ((Decides-eqb i p).1 (exact_unsigned i p ((Equal-is (nat_cmp i p)).0 t))) refl
+first_is key first rest v t = rw (passes_here key first t) refl
 
 pub first_here : {A : Type 0} (key : Key) (steps : List Step) (first : Step) (rest : List Step) (v : A) → steps ≡ first ∷ rest → is_eq (key_order key steps) ≡ true → Some (rest, v) ≡ behind (passes key) steps v
 first_here key steps first rest v e t = first_is key first rest v (subst (λ s. is_eq (key_order key s) ≡ true) e t) ∙ ap (λ s. behind (passes key) s v) (sym e)
 
 -- ---- what two searches by halves leave
 
-pub range_is : {A : Type 0} (key : Key) (xs rest : List (Entry A)) (from count : ℕ) → rest ≡ drop from xs
-    → IsPartitionPoint (λ e. is_lt (key_order key e.steps.now) ≡ true) (λ e. is_lt (key_order key e.steps.now) ≡ false) xs from
-    → IsPartitionPoint (λ e. is_le (key_order key e.steps.now) ≡ true) (λ e. is_le (key_order key e.steps.now) ≡ false) rest count
-    → below (passes key) (entries_of (take count rest)) ≡ below (passes key) (entries_of xs)
-range_is key xs rest from count e low high =
-    below_take entry_of (passes key) count rest (λ k d lo hi. let x = slice_index_or rest k d in elsewhere key x.steps.now x.value (not_eq_above _ (high.1 k d lo hi)))
-    ∙ ap (λ r. below (passes key) (entries_of r)) e
-    ∙ below_drop entry_of (passes key) from xs (λ k d lo hi. let x = slice_index_or xs k d in elsewhere key x.steps.now x.value (not_eq_below _ (low.0 k d (omega arith) lo)))
+module _ {A : Type 0} (key : Key) (xs rest : List (Entry A)) (from count : ℕ) (behind_from : rest ≡ drop from xs)
+    (low : IsPartitionPoint (λ e. is_lt (key_order key e.steps.now) ≡ true) (λ e. is_lt (key_order key e.steps.now) ≡ false) xs from)
+    (high : IsPartitionPoint (λ e. is_le (key_order key e.steps.now) ≡ true) (λ e. is_le (key_order key e.steps.now) ≡ false) rest count)
+  where
+    all_begin : AllPass (λ e. begins (passes key) e.steps.now) (take count rest)
+    all_begin k d within =
+        let shown : k < min count (length rest) = subst (λ n. k < n) (length-take count rest) within in
+        let in_rest : k < length xs - from = subst (λ n. k < n) (ap length behind_from ∙ length-drop from xs) (omega (arith, shown)) in
+        let here : slice_index_or rest k d ≡ slice_index_or xs (from + k) d = ap (λ r. slice_index_or r k d) behind_from ∙ get_or-drop from xs k d in
+        let not_below = subst (λ x. is_lt (key_order key x.steps.now) ≡ false) (sym here) (low.1 (from + k) d (omega arith) (omega (arith, in_rest))) in
+        subst (λ x. begins (passes key) x.steps.now ≡ true) (sym (get_or-take count rest k d (omega (arith, shown))))
+        (begins_here key (slice_index_or rest k d).steps.now not_below (high.0 k d (omega arith) (omega (arith, shown))))
+
+    pub range_is : take count rest ≡ filter (λ e. begins (passes key) e.steps.now) xs
+    range_is =
+        sym (filter_all (λ e. begins (passes key) e.steps.now) (take count rest) all_begin)
+        ∙ filter_take (λ e. begins (passes key) e.steps.now) count rest
+        (λ k d lo hi. begins_not key (slice_index_or rest k d).steps.now (not_eq_above _ (high.1 k d lo hi)))
+        ∙ ap (λ r. filter (λ e. begins (passes key) e.steps.now) r) behind_from
+        ∙ filter_drop (λ e. begins (passes key) e.steps.now) from xs
+        (λ k d lo hi. begins_not key (slice_index_or xs k d).steps.now (not_eq_below _ (low.0 k d (omega arith) lo)))
 
 -- ---- what is behind one step is in order
 

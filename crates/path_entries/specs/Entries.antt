@@ -18,6 +18,11 @@ abbrev pub passes : Key → Step → Bool
 passes (Name name) = is_name name.now
 passes (Place place) = is_place place
 
+-- there is a first step, and it passes
+abbrev pub begins : (Step → Bool) → List Step → Bool
+begins test [] = false
+begins test (first ∷ steps) = test first
+
 -- what is behind the first step, where that passes
 abbrev pub behind : {A : Type 0} → (Step → Bool) → List Step → A → Option (List Step × A)
 behind test [] value = None

@@ -1,12 +1,13 @@
 -- The order of paths, and of a path's first step beside a step that is looked for.
-use Rattle.std.specs.Prelude.{◌≡◌, List, [], ◌∷◌, ⊤, false}
+use Rattle.std.specs.Prelude.{◌≡◌, List, [], ◌∷◌, ⊤, Bool, false}
 use Rattle.std.specs.Cmp.Lexicographic.{slice_cmp}
 use Rattle.std.specs.List.{AllByRecursion}
-use Rattle.std.specs.Ordering.{nat_cmp, is_gt}
+use Rattle.std.specs.Ordering.{nat_cmp, is_gt, is_lt}
 use Rattle.std.specs.declared.cmp.Ordering.{Ordering}
 use Rattle.std.specs.declared.cmp.Ordering.TheVariants.{Less, Greater}
 use Rattle.base_types.specs.declared.path.Step.{Step}
 use Rattle.base_types.specs.declared.path.Step.TheVariants as step
+use Rattle.path_entries.specs.declared.key.Entry.{Entry}
 use Rattle.path_entries.specs.declared.key.Key.{Key}
 use Rattle.path_entries.specs.declared.key.Key.TheVariants.{Name, Place}
 
@@ -20,6 +21,10 @@ step_order (step.Index a) (step.Index b) = nat_cmp a b
 -- by the first different step, a proper front first
 abbrev pub path_order : List Step → List Step → Ordering
 path_order = slice_cmp step_order
+
+-- an entry stands before another by their paths
+abbrev pub is_before : {A : Type 0} → Entry A → Entry A → Bool
+is_before e f = is_lt (path_order e.steps.now f.steps.now)
 
 -- a step beside the one that is looked for
 abbrev pub step_key_order : Key → Step → Ordering

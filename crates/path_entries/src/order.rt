@@ -1,9 +1,9 @@
 //! Entries in order of their paths.
 
 ghost use Rattle.std.specs.Prelude.{◌≡◌, IfOk};
-ghost use Rattle.std.specs.List.Sorted.{IsPermutation};
+ghost use Rattle.std.specs.List.Sorted.{IsPermutation, IsStableBy};
 ghost use Rattle.path_entries.specs.Entries.{entries_of};
-ghost use Rattle.path_entries.specs.Order.{AreInOrder, path_order};
+ghost use Rattle.path_entries.specs.Order.{AreInOrder, is_before, path_order};
 
 use crate::key::Entry;
 use base_types::Step;
@@ -14,6 +14,7 @@ use std::cmp::Ordering;
 pub fn sorted<A: Drop>(entries: Vec<Entry<'_, A>>) -> Result<Vec<Entry<'_, A>>, NoMemory>
     ensures same { IfOk result (λ ordered. IsPermutation entries.entry.items ordered.items) }
     ensures in_order { IfOk result (λ ordered. AreInOrder (entries_of ordered.items)) }
+    ensures stable { IfOk result (λ ordered. IsStableBy is_before entries.entry.items ordered.items) }
 {
     let mut ordered = entries;
     ordered.sort_by(|first, second| path_order(first.steps, second.steps))?;
