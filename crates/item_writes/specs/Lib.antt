@@ -1,8 +1,6 @@
--- The definitions in reading order: sets of both; what is written; the item with all of it; how the code makes it.
+-- The definitions in reading order: sets of both; what is written; the item with all of it; what it has at each name.
 pub mod Union
-pub mod Lists
 pub mod NewTree
 pub mod Apart
 pub mod Edits
 pub mod ValuesByName
-pub mod Made

@@ -7,7 +7,7 @@ use Rattle.base_types.specs.declared.path.Step.{Step}
 use Rattle.attr_value.specs.Tree.{Tree, list, text_set, number_set, binary_set, Trees, no_trees}
 use Rattle.attr_value.specs.View.{tree_of}
 use Rattle.item_writes.specs.Union.{united}
-use Rattle.item_writes.specs.Lists.{onto}
+use Rattle.attr_value.specs.Parts.{onto}
 use Rattle.item_writes.specs.declared.new_value.NewValue.{NewValue}
 use Rattle.item_writes.specs.declared.new_value.NewValue.TheVariants.{Lent, Made, Joined, Texts, Numbers, Binaries}
 

@@ -1,19 +1,17 @@
 //! The new item, in one pass over the old one.
 
 ghost use Rattle.std.specs.Prelude.{◌≡◌, IfOk, OnOk, option_map};
+ghost use Rattle.attr_value.specs.Parts.{onto};
 ghost use Rattle.attr_value.specs.Tree.{Trees};
-ghost use Rattle.attr_value.specs.Paths.{kept_element};
 ghost use Rattle.attr_value.specs.View.{tree_of, trees_of};
 ghost use Rattle.path_entries.specs.Entries.{entries_of};
 ghost use Rattle.path_entries.specs.Order.{AreInOrder};
 ghost use Rattle.item_writes.specs.Edits.{append_one, element, inside, item_with_all, kept, list_with_all, put_one};
-ghost use Rattle.item_writes.specs.Lists.{onto};
-ghost use Rattle.item_writes.specs.Made.{put_kept};
 ghost use Rattle.item_writes.specs.NewTree.{new_tree, seen};
 
 use crate::new_value::NewValue;
-use attr_value::{Elements, Item, Value};
-use base_types::{Seq, Step, Text};
+use attr_value::{Elements, Item, Value, push_some};
+use base_types::{Seq, Step};
 use path_entries::{Entry, Key, below};
 use std::alloc::{AllocError as NoMemory, Global};
 
@@ -36,7 +34,7 @@ pub fn write_all(
     for (name, value) in item.iter() {
         let deeper = below(alloc, writes, Key::Name(name))?;
         let stays = kept(alloc, value, deeper.as_slice())?;
-        put_kept(&mut new, name, stays)?;
+        new.put_some(name, stays)?;
     }
     for write in writes {
         put_one(alloc, &mut new, write.steps, write.value)?;
@@ -116,16 +114,6 @@ fn inside(
     }
 }
 
-/// Gives the item an attribute where there is a value.
-fn put_kept(item: &mut Item, name: &Text, value: Option<Value>) -> Result<(), NoMemory>
-    ensures { OnOk result (item.new ≡ put_kept name.now (option_map tree_of value) item.old) }
-{
-    let Some(value) = value else {
-        return Ok(());
-    };
-    item.put(name.try_clone()?, value)
-}
-
 /// Gives the item the attribute that a write puts right here.
 fn put_one(
     alloc: Global,
@@ -159,7 +147,7 @@ fn list_of(
     for value in list.as_slice() {
         let deeper = below(alloc, writes, Key::Place(place))?;
         let stays = element(alloc, value, deeper.as_slice())?;
-        push_kept(&mut new, stays)?;
+        push_some(&mut new, stays)?;
         place += 1;
     }
     for write in writes {
@@ -168,21 +156,8 @@ fn list_of(
     Ok(Elements::from(new))
 }
 
-/// Appends a value where there is one.
-#[tactic(auto, using(crate::proofs::Kept::onto_push))]
-fn push_kept(list: &mut Seq<Value>, value: Option<Value>) -> Result<(), NoMemory>
-    ensures { OnOk result ((rest : Trees) → onto (trees_of list.new) rest
-        ≡ onto (trees_of list.old) (kept_element (option_map tree_of value) rest)) }
-{
-    let Some(value) = value else {
-        return Ok(()); // nothing stays of the element
-    };
-    list.push(value)?;
-    Ok(())
-}
-
 /// Appends what a write puts right here, past the end of the old list.
-#[tactic(auto, using(crate::proofs::Kept::onto_push))]
+#[tactic(auto, using(attr_value::proofs::PartLaws::onto_push))]
 fn push_one(
     alloc: Global,
     list: &mut Seq<Value>,

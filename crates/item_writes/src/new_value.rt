@@ -1,9 +1,9 @@
 //! What is written at a path: nothing of it is copied before the new item is made.
 
 ghost use Rattle.std.specs.Prelude.{◌≡◌, IfOk, OnOk};
+ghost use Rattle.attr_value.specs.Parts.{onto};
 ghost use Rattle.attr_value.specs.Tree.{Trees};
 ghost use Rattle.attr_value.specs.View.{tree_of, trees_of};
-ghost use Rattle.item_writes.specs.Lists.{onto};
 ghost use Rattle.item_writes.specs.NewTree.{new_tree, joined};
 
 use attr_value::{Elements, Value};

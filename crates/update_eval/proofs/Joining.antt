@@ -2,7 +2,7 @@
 use Rattle.std.proofs.Common.{◌≡◌, List, [], ◌∷◌, ◌++◌, Ok, refl, sym, ap, ◌∙◌}
 use Rattle.std.specs.Borrow.{Bor}
 use Rattle.attr_value.specs.Tree.{Tree, list, Trees, no_trees, tree}
-use Rattle.item_writes.specs.Lists.{onto}
+use Rattle.attr_value.specs.Parts.{onto}
 use Rattle.item_writes.specs.NewTree.{joined}
 use Rattle.update_eval.specs.Answers.{after}
 use Rattle.update_eval.specs.Terms.{elements_in, lists_joined}

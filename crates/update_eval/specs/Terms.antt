@@ -5,7 +5,7 @@ use Rattle.attr_value.specs.Paths.{found}
 use Rattle.attr_value.specs.View.{tree_of}
 use Rattle.attr_value.specs.declared.value.Value.{Value}
 use Rattle.expr_words.specs.Trees.{TermTree, Located, OfValue, OrElse, Appended}
-use Rattle.item_writes.specs.Lists.{onto}
+use Rattle.attr_value.specs.Parts.{onto}
 use Rattle.update_eval.specs.Answers.{Answer, after}
 use Rattle.update_eval.specs.declared.fault.EvalFault.TheVariants.{MissingOperand, OperandType}
 

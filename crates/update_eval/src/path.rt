@@ -2,8 +2,7 @@
 
 ghost use Rattle.std.specs.Prelude.{◌≡◌, map};
 ghost use Rattle.std.specs.List.{list_any};
-ghost use Rattle.attr_value.specs.Paths.{child};
-ghost use Rattle.attr_value.specs.View.{lent_tree, tree_of};
+ghost use Rattle.attr_value.specs.View.{tree_of};
 ghost use Rattle.expr_parse.specs.Update.{update_tree};
 ghost use Rattle.expr_words.specs.Trees.{set_tree};
 ghost use Rattle.update_eval.specs.Places.{begins_with, has_place, place_in, takes, touches, touches_by_kind};
@@ -107,7 +106,7 @@ fn place_in(value: &Value, steps: &[Step]) -> bool
     if rest.is_empty() {
         return takes(value, first);
     }
-    match child(value, first) {
+    match value.child(first) {
         Some(deeper) => place_in(deeper, rest),
         None => false,
     }
@@ -121,21 +120,5 @@ fn takes(value: &Value, step: &Step) -> bool
         (Step::Name(_), Value::M(_)) => true,
         (Step::Index(_), Value::L(_)) => true,
         _ => false,
-    }
-}
-
-/// The value one step below.
-fn child<'v>(value: &'v Value, step: &Step) -> Option<&'v Value>
-    ensures { lent_tree result ≡ child step.now (tree_of value.now) }
-{
-    match step {
-        Step::Name(name) => match value {
-            Value::M(item) => item.attribute(name),
-            _ => None,
-        },
-        Step::Index(place) => match value {
-            Value::L(list) => list.get(*place as usize),
-            _ => None,
-        },
     }
 }

@@ -2,15 +2,16 @@ use Rattle.std.proofs.Common.{◌≡◌, List, [], ◌∷◌, ◌++◌, ◌+◌,
 use Rattle.std.proofs.lemmas.List.{at_drop_more, at_drop_all}
 use Rattle.attr_value.specs.Tree.{weight, trees_weight, no_trees, AreInOrder as AreNamesInOrder}
 use Rattle.attr_value.specs.View.{tree_of, trees_of, attributes_of}
+use Rattle.attr_value.specs.Parts.{onto, put_some}
 use Rattle.attr_value.specs.Paths.{kept_element}
 use Rattle.attr_value.specs.declared.value.Value.{Value}
 use Rattle.path_entries.specs.Entries.{below, is_name, is_place, entries_of}
 use Rattle.path_entries.specs.Order.{AreInOrder}
 use Rattle.item_writes.specs.Edits.{appended, element, elements_from, kept, list_with_all}
-use Rattle.item_writes.specs.Lists.{onto}
-use Rattle.item_writes.specs.Made.{put_kept}
 use Rattle.item_writes.specs.NewTree.{seen}
-use Rattle.item_writes.proofs.Kept.{Entry, kept_last, below_seen, onto_none, weight_inside, element_weight}
+use Rattle.attr_value.proofs.PartLaws.{attribute_weight, element_weight, onto_none}
+use Rattle.attr_value.proofs.Views.{Entry}
+use Rattle.item_writes.proofs.Kept.{kept_last, below_seen}
 use Rattle.item_writes.proofs.edit.+edit.Goals as goal
 
 pub write_all-loop-name-preserved : goal.write_all-loop-name-preserved
@@ -29,7 +30,7 @@ write_all-loop-name-preserved t c =
     let stays : option_map tree_of c.in_ok-stays.stays ≡ kept (tree_of e.1) deeper = c.in_ok-stays.ensures ∙ ap (λ vs. kept (tree_of e.1) vs) lent in (
       done ++ e ∷ [],
       ap attributes_of (append_assoc done (e ∷ []) left) ∙ whole,
-      c.in_ok-put_kept.ensures ∙ ap (λ o. put_kept e.0 o l.new) stays ∙ ap (put_kept e.0 (kept (tree_of e.1) deeper)) l.invariant.2 ∙ sym (kept_last done e left ws up),
+      c.in_ok-put_some.ensures ∙ ap (λ o. put_some e.0 o l.new) stays ∙ ap (put_some e.0 (kept (tree_of e.1) deeper)) l.invariant.2 ∙ sym (kept_last done e left ws up),
     )
 
 pub list_of-loop-value-preserved : goal.list_of-loop-value-preserved
@@ -47,7 +48,7 @@ list_of-loop-value-preserved t c =
     let stays : option_map tree_of c.in_ok-stays.stays ≡ element (tree_of x) deeper = c.in_ok-stays.ensures ∙ ap (λ vs. element (tree_of x) vs) lent in
     let whole = λ (es : List Value). onto (trees_of l.new) (elements_from (trees_of es) l.place ws) in (
       omega (arith, l.invariant.0),
-      c.in_ok-push_kept.ensures us
+      c.in_ok-push_some.ensures us
           ∙ ap (λ o. onto (trees_of l.new) (kept_element o us)) stays
           ∙ ap (λ n. onto (trees_of l.new) (kept_element (element (tree_of x) deeper) (elements_from (trees_of (drop (i + 1) xs)) n ws))) next
           ∙ ap (λ v. whole (v ∷ drop (i + 1) xs)) c.value-item.is
@@ -72,7 +73,7 @@ write_all-kept-requires t c =
     let left = c.next.new.self in
     let all : done ++ l.name-iterator ≡ done ++ e ∷ left = ap (λ es. done ++ es) c.in-Some.ensures.steps in
     let whole : weight (attributes_of (done ++ e ∷ left)) ≡ weight c.args.item.now = ap (λ es. weight (attributes_of es)) (sym all) ∙ ap weight l.invariant.1 in
-    (omega (arith, c.decreases, weight_inside done e left, whole), subst (λ es. AreInOrder (entries_of es)) (sym c.as_slice.ensures.value) c.in_ok-deeper.ensures.in_order)
+    (omega (arith, c.decreases, attribute_weight done e left, whole), subst (λ es. AreInOrder (entries_of es)) (sym c.as_slice.ensures.value) c.in_ok-deeper.ensures.in_order)
 
 pub list_of-element-requires : goal.list_of-element-requires
 list_of-element-requires t c =

@@ -3,9 +3,9 @@ use Rattle.attr_value.specs.Tree.{tree_weight, trees_weight, weight}
 use Rattle.attr_value.specs.View.{tree_of, trees_of, attributes_of}
 use Rattle.path_entries.specs.Entries.{entries_of}
 use Rattle.item_writes.specs.Edits.{appended, elements_from, item_with_all, kept_attributes, list_with_all, put_all}
-use Rattle.item_writes.specs.Lists.{onto}
+use Rattle.attr_value.specs.Parts.{onto}
 use Rattle.item_writes.specs.NewTree.{seen}
-use Rattle.item_writes.proofs.Kept.{Entry}
+use Rattle.attr_value.proofs.Views.{Entry}
 use Rattle.item_writes.proofs.edit.+edit.Given as goal
 
 abbrev pub invariant-write_all-loop-name : goal.invariant-write_all-loop-name

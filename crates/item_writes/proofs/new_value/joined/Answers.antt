@@ -2,9 +2,9 @@ use Rattle.std.proofs.Common.{◌≡◌, drop, sym, ◌∙◌}
 use Rattle.std.proofs.lemmas.List.{at_drop_all}
 use Rattle.attr_value.specs.Tree.{no_trees}
 use Rattle.attr_value.specs.View.{trees_of}
-use Rattle.item_writes.specs.Lists.{onto}
+use Rattle.attr_value.specs.Parts.{onto}
 use Rattle.item_writes.specs.NewTree.{joined}
-use Rattle.item_writes.proofs.Kept.{onto_none}
+use Rattle.attr_value.proofs.PartLaws.{onto_none}
 use Rattle.item_writes.proofs.new_value.joined.Goals as goal
 
 pub returns : goal.returns

@@ -1,6 +1,6 @@
 use Rattle.std.proofs.Common.{◌≡◌, drop}
 use Rattle.attr_value.specs.View.{trees_of}
-use Rattle.item_writes.specs.Lists.{onto}
+use Rattle.attr_value.specs.Parts.{onto}
 use Rattle.item_writes.specs.NewTree.{joined}
 use Rattle.item_writes.proofs.new_value.joined.Given as goal
 

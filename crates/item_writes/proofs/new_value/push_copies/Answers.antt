@@ -2,8 +2,8 @@ use Rattle.std.proofs.Common.{◌≡◌, ◌+◌, List, [], ◌∷◌, ◌++◌,
 use Rattle.std.proofs.lemmas.List.{at_drop_more}
 use Rattle.attr_value.specs.View.{tree_of, trees_of}
 use Rattle.attr_value.specs.declared.value.Value.{Value}
-use Rattle.item_writes.specs.Lists.{onto}
-use Rattle.item_writes.proofs.Kept.{onto_push}
+use Rattle.attr_value.specs.Parts.{onto}
+use Rattle.attr_value.proofs.PartLaws.{onto_push}
 use Rattle.item_writes.proofs.new_value.push_copies.Goals as goal
 
 pub loop-value-preserved : goal.loop-value-preserved

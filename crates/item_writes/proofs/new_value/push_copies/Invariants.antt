@@ -1,7 +1,7 @@
 use Rattle.std.proofs.Common.{◌≡◌, drop}
 use Rattle.attr_value.specs.Tree.{Trees}
 use Rattle.attr_value.specs.View.{trees_of}
-use Rattle.item_writes.specs.Lists.{onto}
+use Rattle.attr_value.specs.Parts.{onto}
 use Rattle.item_writes.proofs.new_value.push_copies.Given as goal
 
 abbrev pub invariant-loop-value : goal.invariant-loop-value
