@@ -10,7 +10,7 @@ use Rattle.attr_value.specs.Tree.{Tree, Attributes, no_attributes, attribute, Is
 use Rattle.attr_value.specs.Paths.{put, kept_attribute, value_at}
 use Rattle.path_entries.specs.Entries.{below, is_name, or_rest}
 use Rattle.item_writes.specs.NewTree.{Written}
-use Rattle.item_writes.specs.Edits.{kept, kept_attributes, put_one, put_all, item_with_all}
+use Rattle.item_writes.specs.Edits.{kept, kept_attributes, put_one, put_all}
 use Rattle.item_writes.specs.ValuesByName.{put_or, last_put, IsByName, KeepsOthers}
 
 -- ---- what is put is found
@@ -44,7 +44,7 @@ unlike name here other e same = only_false (bytes_eq name other) (λ also.
     let equal : bytes_eq here other ≡ true = (bytes_eq-Decides here other).1 (sym ((bytes_eq-Decides name here).0 same) ∙ (bytes_eq-Decides name other).0 also) in
     let h : ⊥ = cc in h)
 
-put_found : (name here : List ℕ) (v : Tree) (item : Attributes) → value_at name (put here v item) ≡ cond (bytes_eq name here) (Some v) (value_at name item)
+pub put_found : (name here : List ℕ) (v : Tree) (item : Attributes) → value_at name (put here v item) ≡ cond (bytes_eq name here) (Some v) (value_at name item)
 put_found name here v no_attributes = refl
 put_found name here v (attribute other t rest) =
     put_found_step (slice_cmp nat_cmp here other) (bytes_eq name here) (bytes_eq name other) name here other v t rest (put here v rest) refl refl
@@ -84,7 +84,7 @@ kept_case : (b : Bool) (name other : List ℕ) (t : Tree) (ws : List Written) (r
 kept_case true name other t ws rest e = ap (λ n. kept t (below (is_name n) ws)) (sym ((bytes_eq-Decides name other).0 e))
 kept_case false name other t ws rest e = refl
 
-kept_found : (name : List ℕ) (ws : List Written) (item : Attributes) → AreInOrder item
+pub kept_found : (name : List ℕ) (ws : List Written) (item : Attributes) → AreInOrder item
     → value_at name (kept_attributes item ws) ≡ option_and_then (λ t. kept t (below (is_name name) ws)) (value_at name item)
 kept_found name ws no_attributes up = refl
 kept_found name ws (attribute other t rest) up =

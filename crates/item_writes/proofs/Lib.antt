@@ -2,3 +2,5 @@ pub mod Kept
 pub mod Sets
 pub mod Apart
 pub mod ByName
+pub mod Extents
+pub mod Limits

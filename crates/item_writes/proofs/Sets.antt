@@ -1,5 +1,5 @@
 -- Lists in order with the same elements are the same, so a set has one list.
-use Rattle.std.proofs.Common.{◌≡◌, ℕ, ℤ, ◌<ℤ◌, List, [], ◌∷◌, ◌++◌, Bool, true, false, cond, filter, not, ◌||◌, Ordering, Less, Equal, Greater, int_cmp, nat_cmp, is_eq, refl, sym, ap, ◌∙◌, subst}
+use Rattle.std.proofs.Common.{◌≡◌, ℕ, ℤ, List, [], ◌∷◌, ◌++◌, Bool, true, false, cond, filter, not, ◌||◌, Ordering, Less, Equal, Greater, int_cmp, nat_cmp, is_eq, refl, sym, ap, ◌∙◌, subst, ◌+◌, sum_by, arith}
 use Rattle.std.proofs.Math.Logic.{◌⊎◌, inl, inr}
 use Rattle.std.proofs.lemmas.Cmp.{tied_itself, int_ranked}
 use Rattle.std.proofs.lemmas.Map.Text.{is_eq-slice_cmp}
@@ -11,6 +11,7 @@ use Rattle.std.specs.List.Sorted.{IsPermutation, IsStrictlySortedBy}
 use Rattle.std.specs.Ordering.{match_ordering, ordering_reverse}
 use Rattle.std.proofs.lemmas.List.Elements.{All-from_recursion, recursion_from_All}
 use Rattle.std.proofs.lemmas.List.Sorted.{All-permutation, IsPermutation-sym}
+use Rattle.std.proofs.lemmas.List.Sums.{sum_by-cons}
 use Rattle.ordered_set.specs.Sets.{IsSetOf, has}
 use Rattle.item_writes.specs.Union.{put_in, in_order, united}
 
@@ -24,7 +25,7 @@ module _ {A : Type 0} where
   at_in P (y ∷ ys) all z (inl e) = subst P (sym e) all.0
   at_in P (y ∷ ys) all z (inr h) = at_in P ys all.1 z h
 
-  all_in : (P : A → Type 0) (ys : List A) → ((z : A) → In z ys → P z) → AllByRecursion P ys
+  pub all_in : (P : A → Type 0) (ys : List A) → ((z : A) → In z ys → P z) → AllByRecursion P ys
   all_in P [] h = tt
   all_in P (y ∷ ys) h = (h y (inl refl), all_in P ys (λ z k. h z (inr k)))
 
@@ -231,6 +232,71 @@ module _ {A : Type 0} {cmp : A → A → Ordering} (laws : IsTotalOrder cmp) whe
     pub union_is : (xs ys xs' ys' both : List A) → xs' ≡ xs → ys' ≡ ys → IsSetOf cmp (xs' ++ filter (λ y. not (has cmp y xs')) ys') both → both ≡ united cmp xs ys
     union_is xs ys xs' ys' both e f set =
         sym (united_is xs' ys' both set (IsPermutation-sym _ both set.same_elements)) ∙ ap (λ zs. united cmp zs ys') e ∙ ap (united cmp xs) f
+
+    has_from : (x : A) (ys : List A) → In x ys → has cmp x ys ≡ true
+    has_from x [] h = absurd h
+    has_from x (y ∷ ys) (inl e) = ap (λ z. is_eq (cmp z x) || has cmp x ys) (sym e) ∙ ap (λ o. is_eq o || has cmp x ys) (tied_itself laws x)
+    has_from x (y ∷ ys) (inr h) = rw (has_from x ys h) (or_true (is_eq (cmp y x)))
+      where
+        or_true : (b : Bool) → (b || true) ≡ true
+        or_true true = refl
+        or_true false = refl
+
+    alike : (b c : Bool) → (b ≡ true → c ≡ true) → (c ≡ true → b ≡ true) → b ≡ c
+    alike true true f g = refl
+    alike true false f g = sym (f refl)
+    alike false true f g = g refl
+    alike false false f g = refl
+
+    only_second : (x : A) (xs ys : List A) → AllByRecursion (λ z. cmp x z ≡ Less) xs → In x xs ⊎ In x ys → In x ys
+    only_second x xs ys up (inl h) = absurd (not_below_itself x x refl (at_in (λ z. cmp x z ≡ Less) xs up x h))
+    only_second x xs ys up (inr h) = h
+
+    -- an element below all of the first list is in both put in order where the second has it
+    has_united : (x : A) (xs ys : List A) → AllByRecursion (λ z. cmp x z ≡ Less) xs → has cmp x (in_order cmp (xs ++ ys)) ≡ has cmp x ys
+    has_united x xs ys up = alike (has cmp x (in_order cmp (xs ++ ys))) (has cmp x ys)
+        (λ t. has_from x ys (only_second x xs ys up (in_either x xs ys (in_order_from x (xs ++ ys) (has_in x (in_order cmp (xs ++ ys)) t)))))
+        (λ t. has_from x (in_order cmp (xs ++ ys)) (in_order_to x (xs ++ ys) (λ v w h k. exact v w) (in_second x xs ys (has_in x ys t))))
+
+    none_tied : (x : A) (ys : List A) (b : Bool) → has cmp x ys ≡ b → AllByRecursion (λ z. cmp x z ≡ Less) ys → has cmp x ys ≡ false
+    none_tied x ys true e up = absurd (not_below_itself x x refl (at_in (λ z. cmp x z ≡ Less) ys up x (has_in x ys e)))
+    none_tied x ys false e up = e
+
+    module _ (f : A → ℕ) where
+      put_sum_step : (o : Ordering) (x y : A) (ys : List A) → cmp x y ≡ o → AllByRecursion (λ w. cmp y w ≡ Less) ys
+          → sum_by f (put_in cmp x ys) ≡ cond (has cmp x ys) 0 (f x) + sum_by f ys
+          → sum_by f (match_ordering o (x ∷ y ∷ ys) (y ∷ ys) (y ∷ put_in cmp x ys)) ≡ cond (is_eq (cmp y x) || has cmp x ys) 0 (f x) + sum_by f (y ∷ ys)
+      put_sum_step Less x y ys e up later =
+          let turn : cmp y x ≡ Greater = laws.antisymm y x ∙ ap ordering_reverse e in
+          let above : AllByRecursion (λ w. cmp x w ≡ Less) ys = all_in (λ w. cmp x w ≡ Less) ys (λ z h. laws.trans x y z e (at_in (λ w. cmp y w ≡ Less) ys up z h)) in
+          sum_by-cons f x (y ∷ ys) ∙ ap (λ b. cond b 0 (f x) + sum_by f (y ∷ ys)) (sym (ap (λ o. is_eq o || has cmp x ys) turn ∙ none_tied x ys (has cmp x ys) refl above))
+      put_sum_step Equal x y ys e up later =
+          let turn : cmp y x ≡ Equal = laws.antisymm y x ∙ ap ordering_reverse e in
+          let tied : ◌≡◌ {A = ℕ} (cond (is_eq (cmp y x) || has cmp x ys) 0 (f x)) 0 = ap (λ o. cond (is_eq o || has cmp x ys) 0 (f x)) turn in
+          omega (arith, tied)
+      put_sum_step Greater x y ys e up later =
+          let turn : cmp y x ≡ Less = laws.antisymm y x ∙ ap ordering_reverse e in
+          let same : cond (is_eq (cmp y x) || has cmp x ys) 0 (f x) ≡ cond (has cmp x ys) 0 (f x) = ap (λ o. cond (is_eq o || has cmp x ys) 0 (f x)) turn in
+          omega (arith, same, later, sum_by-cons f y ys, sum_by-cons f y (put_in cmp x ys))
+
+      -- an element put into a list in order adds what it has, where none there ties with it
+      put_sum : (x : A) (ys : List A) → IsStrictlySortedBy cmp ys → sum_by f (put_in cmp x ys) ≡ cond (has cmp x ys) 0 (f x) + sum_by f ys
+      unfolding IsStrictlySortedBy
+      put_sum x [] up = omega (arith, sum_by-cons f x [])
+      put_sum x (y ∷ ys) up = put_sum_step (cmp x y) x y ys refl up.0 (put_sum x ys up.1)
+
+      filter_sum : (b : Bool) (x : A) (xs : List A) → sum_by f (cond (not b) (x ∷ xs) xs) ≡ cond b 0 (f x) + sum_by f xs
+      filter_sum true x xs = omega arith
+      filter_sum false x xs = sum_by-cons f x xs
+
+      -- the elements of both sets have what the second has, and those of the first that the second has not
+      pub united_sum : (xs ys : List A) → IsStrictlySortedBy cmp xs → IsStrictlySortedBy cmp ys → sum_by f (united cmp xs ys) ≡ sum_by f (filter (λ x. not (has cmp x ys)) xs) + sum_by f ys
+      unfolding IsStrictlySortedBy
+      united_sum [] ys up vp = let same = in_order_same ys ys vp (λ x y h k. exact x y) (λ z h. h) (λ z h. h) in omega (arith, ap (sum_by f) same)
+      united_sum (x ∷ xs) ys up vp =
+          let rest = in_order cmp (xs ++ ys) in
+          let one : cond (has cmp x rest) 0 (f x) ≡ cond (has cmp x ys) 0 (f x) = ap (λ b. cond b 0 (f x)) (has_united x xs ys up.0) in
+          omega (arith, put_sum x rest (in_order_up (xs ++ ys)), one, united_sum xs ys up.1 vp, filter_sum (has cmp x ys) x (filter (λ z. not (has cmp z ys)) xs))
 
 -- ---- the elements of the three kinds of sets
 

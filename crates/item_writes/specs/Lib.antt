@@ -1,6 +1,7 @@
--- The definitions in reading order: sets of both; what is written; the item with all of it; what it has at each name.
+-- The definitions in reading order: sets of both; what is written; the item with all of it; its bytes and levels, part by part; what it has at each name.
 pub mod Union
 pub mod NewTree
 pub mod Apart
 pub mod Edits
+pub mod Extents
 pub mod ValuesByName

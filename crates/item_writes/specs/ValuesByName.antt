@@ -1,7 +1,7 @@
 -- What an item with all writes made has at each name.
-use Rattle.std.specs.Prelude.{◌≡◌, ℕ, List, [], ◌∷◌, if◌then◌else◌, bytes_eq, Option, Some, None, option_and_then}
+use Rattle.std.specs.Prelude.{◌≡◌, ℕ, List, [], ◌∷◌, if◌then◌else◌, bytes_eq, Option, Some, option_and_then}
 use Rattle.base_types.specs.declared.path.Step.{Step}
-use Rattle.base_types.specs.declared.path.Step.TheVariants.{Name, Index}
+use Rattle.base_types.specs.declared.path.Step.TheVariants.{Name}
 use Rattle.attr_value.specs.Tree.{Tree, Attributes}
 use Rattle.attr_value.specs.Paths.{value_at}
 use Rattle.path_entries.specs.Entries.{below, is_name}

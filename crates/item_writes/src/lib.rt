@@ -7,9 +7,12 @@
 #![tactic(auto)]
 
 mod edit;
+mod extent;
 mod laws;
 mod new_value;
+mod union;
 
 pub use edit::write_all;
+pub use extent::{Extent, extent_with_all};
 pub use laws::values_by_name;
 pub use new_value::NewValue;

@@ -1,11 +1,14 @@
 //! What is written at a path: nothing of it is copied before the new item is made.
 
-ghost use Rattle.std.specs.Prelude.{◌≡◌, IfOk, OnOk};
+ghost use Rattle.std.specs.Prelude.{◌≡◌, IfOk, OnOk, min};
 ghost use Rattle.attr_value.specs.Parts.{onto};
+ghost use Rattle.attr_value.specs.Sizes.{depth, elements_depth, list_size, size};
 ghost use Rattle.attr_value.specs.Tree.{Trees};
 ghost use Rattle.attr_value.specs.View.{tree_of, trees_of};
 ghost use Rattle.item_writes.specs.NewTree.{new_tree, joined};
 
+use crate::extent::{Extent, up_to};
+use crate::union::both_bytes;
 use attr_value::{Elements, Value};
 use base_types::{Bytes, Seq, Text};
 use number38::Number;
@@ -49,6 +52,51 @@ impl NewValue<'_> {
             }
         }
     }
+
+    /// The extent of the value, which is not made for it.
+    pub(crate) fn extent(&self, limit: u64) -> Extent
+        ensures bytes { result.bytes ≡ min (size (new_tree self.now)) limit }
+        ensures levels { result.levels ≡ min (depth (new_tree self.now)) u32.MAX }
+    {
+        match self {
+            NewValue::Lent(value) => Extent::of(value, limit),
+            NewValue::Made(value) => Extent::of(value, limit),
+            NewValue::Joined(lists) => {
+                let head = up_to(limit, 3);
+                joined_extent(lists.as_slice(), limit - head).inside(head)
+            }
+            NewValue::Texts(set, more) => Extent::flat(both_bytes(set, more, limit)),
+            NewValue::Numbers(set, more) => Extent::flat(both_bytes(set, more, limit)),
+            NewValue::Binaries(set, more) => Extent::flat(both_bytes(set, more, limit)),
+        }
+    }
+}
+
+/// The extent of the elements of all lists, 1 byte more for each.
+fn joined_extent(lists: &[&Elements], limit: u64) -> Extent
+    ensures bytes { result.bytes ≡ min (list_size (joined lists.now)) limit }
+    ensures levels { result.levels ≡ min (elements_depth (joined lists.now)) u32.MAX }
+{
+    let mut all = Extent::NOTHING;
+    for list in lists {
+        let room = limit - all.bytes;
+        all = all.beside(list_extent(list, room));
+    }
+    all
+}
+
+/// That of the elements of one list.
+fn list_extent(list: &Elements, limit: u64) -> Extent
+    ensures bytes { result.bytes ≡ min (list_size list.now) limit }
+    ensures levels { result.levels ≡ min (elements_depth list.now) u32.MAX }
+{
+    let mut all = Extent::NOTHING;
+    for value in list.as_slice() {
+        let room = limit - all.bytes;
+        let head = up_to(room, 1);
+        all = all.beside(Extent::of(value, room - head).behind(head));
+    }
+    all
 }
 
 /// One list of the elements of all.

@@ -1,4 +1,4 @@
-use Rattle.std.proofs.Common.{◌≡◌, List, [], ◌∷◌, ◌++◌, ◌+◌, suc, ℕ, drop, option_map, sym, ap, ◌∙◌, subst, append_assoc, arith}
+use Rattle.std.proofs.Common.{◌≡◌, List, [], ◌∷◌, ◌++◌, ◌+◌, suc, drop, option_map, sym, ap, ◌∙◌, subst, append_assoc, arith}
 use Rattle.std.proofs.lemmas.List.{at_drop_more, at_drop_all}
 use Rattle.attr_value.specs.Tree.{weight, trees_weight, no_trees, AreInOrder as AreNamesInOrder}
 use Rattle.attr_value.specs.View.{tree_of, trees_of, attributes_of}
@@ -7,7 +7,7 @@ use Rattle.attr_value.specs.Paths.{kept_element}
 use Rattle.attr_value.specs.declared.value.Value.{Value}
 use Rattle.path_entries.specs.Entries.{below, is_name, is_place, entries_of}
 use Rattle.path_entries.specs.Order.{AreInOrder}
-use Rattle.item_writes.specs.Edits.{appended, element, elements_from, kept, list_with_all}
+use Rattle.item_writes.specs.Edits.{appended, element, elements_from, kept}
 use Rattle.item_writes.specs.NewTree.{seen}
 use Rattle.attr_value.proofs.PartLaws.{attribute_weight, element_weight, onto_none}
 use Rattle.attr_value.proofs.Views.{Entry}

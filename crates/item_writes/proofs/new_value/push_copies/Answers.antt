@@ -1,6 +1,6 @@
-use Rattle.std.proofs.Common.{◌≡◌, ◌+◌, List, [], ◌∷◌, ◌++◌, drop, sym, ap, ◌∙◌}
+use Rattle.std.proofs.Common.{◌+◌, List, [], ◌∷◌, ◌++◌, drop, sym, ap, ◌∙◌}
 use Rattle.std.proofs.lemmas.List.{at_drop_more}
-use Rattle.attr_value.specs.View.{tree_of, trees_of}
+use Rattle.attr_value.specs.View.{trees_of}
 use Rattle.attr_value.specs.declared.value.Value.{Value}
 use Rattle.attr_value.specs.Parts.{onto}
 use Rattle.attr_value.proofs.PartLaws.{onto_push}
