@@ -4,3 +4,4 @@ pub mod Apart
 pub mod ByName
 pub mod Extents
 pub mod Limits
+pub mod WholePaths

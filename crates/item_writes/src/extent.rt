@@ -329,7 +329,8 @@ fn puts(writes: &[Entry<'_, Option<&NewValue<'_>>>], each: u64, limit: u64) -> E
 
 /// That of the attribute that a write puts.
 fn put(steps: &[Step], value: Option<&NewValue<'_>>, each: u64, limit: u64) -> Extent
-    ensures bytes { result.bytes ≡ min (attributes_bytes each (put_one steps.now (option_map (λ value. new_tree value.now) value.entry) no_attributes)) limit }
+    ensures bytes { result.bytes
+        ≡ min (attributes_bytes each (put_one steps.now (option_map (λ value. new_tree value.now) value.entry) no_attributes)) limit }
     ensures levels { result.levels ≡ min (item_depth (put_one steps.now (option_map (λ value. new_tree value.now) value.entry) no_attributes)) u32.MAX }
 {
     let [Step::Name(name)] = steps else {
