@@ -76,11 +76,19 @@ seen_in_order : (es : List (List Step × Option (Bor NewValue))) → AreInOrder 
 seen_in_order [] up = tt
 seen_in_order (e ∷ es) up = (all_seen e.0 es up.0, seen_in_order es up.1)
 
+-- what is sorted is apart where it was before
+pub ordered_apart : (made ordered : List (Entry (Option (Bor NewValue)))) → IsPermutation made ordered → AreApart (paths_of (seen (entries_of made)))
+    → AreApart (paths_of (seen (entries_of ordered)))
+ordered_apart made ordered moved apart =
+    let ws = seen (entries_of made) in
+    let vs = seen (entries_of ordered) in
+    let along : IsPermutation ws vs = IsPermutation-map see (entries_of made) (entries_of ordered) (IsPermutation-map entry_of made ordered moved) in
+    apart_permuted (paths_of ws) (paths_of vs) (IsPermutation-map (λ (w : Written). w.0) ws vs along) apart
+
 pub by_path_is : (made ordered : List (Entry (Option (Bor NewValue)))) → IsPermutation made ordered → AreInOrder (entries_of ordered) → AreApart (paths_of (seen (entries_of made)))
     → by_path (seen (entries_of made)) ≡ seen (entries_of ordered)
 by_path_is made ordered moved up apart =
     let ws = seen (entries_of made) in
     let vs = seen (entries_of ordered) in
     let along : IsPermutation ws vs = IsPermutation-map see (entries_of made) (entries_of ordered) (IsPermutation-map entry_of made ordered moved) in
-    let paths : IsPermutation (paths_of ws) (paths_of vs) = IsPermutation-map (λ (w : Written). w.0) ws vs along in
-    in_order_is write_total ws vs along (IsPermutation-sym ws vs along) (strictly vs (seen_in_order (entries_of ordered) up) (apart_permuted (paths_of ws) (paths_of vs) paths apart))
+    in_order_is write_total ws vs along (IsPermutation-sym ws vs along) (strictly vs (seen_in_order (entries_of ordered) up) (ordered_apart made ordered moved apart))

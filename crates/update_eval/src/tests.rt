@@ -403,3 +403,60 @@ fn too_deep_comes_before_too_large(rt: HostRuntime) -> Result<(), Fail> {
     assert!(rt; both.err() == Some(EvalEnd::Fault(EvalFault::TooDeep)));
     Ok(())
 }
+
+/// `SET` of so many attributes to `:n`.
+fn copies(alloc: Global, count: u32) -> Result<String, AllocError> {
+    let mut made = format!(in alloc; "SET a=:n")?;
+    for place in 0..count {
+        made.push_str(format!(in alloc; ",a{place}=:n")?.as_str())?;
+    }
+    Ok(made)
+}
+
+/// `SET` of an attribute to `:n` so many times behind itself.
+fn appends(alloc: Global, levels: u32) -> Result<String, AllocError> {
+    let mut made = format!(in alloc; "SET a=")?;
+    for _ in 0..levels {
+        made.push_str("list_append(")?;
+    }
+    made.push_str(":n")?;
+    for _ in 0..levels {
+        made.push_str(",:n)")?;
+    }
+    Ok(made)
+}
+
+#[test]
+fn copies_of_a_large_value(rt: HostRuntime) -> Result<(), Fail> {
+    let alloc = rt.alloc();
+    let update = copies(alloc, 480)?;
+    let refused = size_or_fault(alloc, update.as_str(), Value::S(long(alloc, 400_000)?))?;
+    assert!(rt; refused.err() == Some(EvalEnd::Fault(EvalFault::ItemTooLarge)));
+    // beside the names stand a byte for each value, and the empty map
+    let made = size_or_fault(alloc, update.as_str(), Value::S(long(alloc, 1)?))?;
+    assert!(rt; made.ok() == Some(2_296));
+    Ok(())
+}
+
+/// A list of one text.
+fn list_of(alloc: Global, text: Text) -> Result<Value, AllocError> {
+    let mut list = Elements::new(alloc);
+    list.push(Value::S(text))?;
+    Ok(Value::L(list))
+}
+
+#[test]
+fn a_large_list_behind_itself(rt: HostRuntime) -> Result<(), Fail> {
+    let alloc = rt.alloc();
+    let update = appends(alloc, 127)?;
+    let refused = size_or_fault(
+        alloc,
+        update.as_str(),
+        list_of(alloc, long(alloc, 400_000)?)?,
+    )?;
+    assert!(rt; refused.err() == Some(EvalEnd::Fault(EvalFault::ItemTooLarge)));
+    // a name, 3 bytes, and 3,198 and 1 for each of 128 elements; and the empty map
+    let made = size_or_fault(alloc, update.as_str(), list_of(alloc, long(alloc, 3_198)?)?)?;
+    assert!(rt; made.ok() == Some(409_480));
+    Ok(())
+}

@@ -3,8 +3,11 @@
 ghost use Rattle.std.specs.Prelude.{◌≡◌, OnOk, ◌++◌, IfOk, Ok, map};
 ghost use Rattle.expr_parse.specs.Update.{update_tree};
 ghost use Rattle.expr_words.specs.Trees.{set_tree};
+ghost use Rattle.item_writes.specs.Apart.{AreApart, paths_of};
+ghost use Rattle.item_writes.specs.Edits.{item_with_all};
 ghost use Rattle.item_writes.specs.NewTree.{seen};
 ghost use Rattle.path_entries.specs.Entries.{entries_of};
+ghost use Rattle.path_entries.specs.Order.{AreInOrder};
 ghost use Rattle.update_eval.specs.Answers.{Gives, GivesOn};
 ghost use Rattle.update_eval.specs.Actions.{add_writes, delete_writes, remove_writes, set_writes, with_writes};
 ghost use Rattle.update_eval.specs.Updated.{behind_removes, behind_sets, updated, within, writes_of};
@@ -16,7 +19,7 @@ use attr_value::{Item, MAX_DEPTH, Value};
 use base_types::{DocPath, Seq};
 use expr_parse::Update;
 use expr_words::{PathValue, SetTo};
-use item_writes::{NewValue, write_all};
+use item_writes::{NewValue, extent_with_all, write_all};
 use path_entries::{Entry, sorted};
 use std::alloc::{AllocError as NoMemory, Global};
 
@@ -27,27 +30,37 @@ pub const MAX_SIZE: u64 = 409_600;
 /// holds the key alone.
 ///
 /// The first fault is answered, of the actions in the order SET, REMOVE, ADD, DELETE, each in order of the text; then
-/// `TooDeep` and `ItemTooLarge` of the new item. `IndexKey` is never answered.
+/// `TooDeep` and `ItemTooLarge` of the new item, which is made only where it has neither. `IndexKey` is never answered.
+///
+/// Values are lent until then, so what is refused takes memory for its writes alone, and for numbers and rests of sets
+/// that are computed. Bytes are counted up to the most that an item has: of what is written, each value that comes
+/// after is not looked at. How deep it nests is asked of each value as often as it is written.
 pub fn apply(alloc: Global, tree: &Update, values: &Seq<Value>, old: &Item) -> Result<Item, EvalEnd>
     ensures { Gives (λ item. item) (updated values.now old.now (update_tree tree.now)) result }
 {
     let writes = writes_of(alloc, tree, values, old)?;
     let entries = sorted(entries(alloc, &writes)?)?;
-    let new = write_all(alloc, old, &entries)?;
-    within(new)
+    new_item(alloc, old, &entries)
 }
 
-/// The item, where it is neither too deep nor too large.
-fn within(item: Item) -> Result<Item, EvalEnd>
-    ensures { Gives (λ item. item) (within item) result }
+/// The item with these writes, where it is neither too deep nor too large.
+fn new_item(
+    alloc: Global,
+    old: &Item,
+    writes: &[Entry<'_, Option<&NewValue<'_>>>],
+) -> Result<Item, EvalEnd>
+    requires in_order { AreInOrder (entries_of writes.now) }
+    requires apart { AreApart (paths_of (seen (entries_of writes.now))) }
+    ensures { Gives (λ item. item) (within (item_with_all old.now (seen (entries_of writes.now)))) result }
 {
-    if item.depth() > MAX_DEPTH {
+    let extent = extent_with_all(alloc, old, writes, MAX_SIZE + 1)?;
+    if extent.levels > MAX_DEPTH {
         return Err(EvalEnd::Fault(EvalFault::TooDeep));
     }
-    if item.size() > MAX_SIZE {
+    if extent.bytes > MAX_SIZE {
         return Err(EvalEnd::Fault(EvalFault::ItemTooLarge));
     }
-    Ok(item)
+    Ok(write_all(alloc, old, writes)?)
 }
 
 /// The writes, lent.
@@ -115,7 +128,8 @@ fn push_sets<'u>(
     old: &'u Item,
     writes: &mut Vec<Write<'u>>,
 ) -> Result<(), EvalEnd>
-    ensures { GivesOn (seen_writes writes.new.items) (with_writes (set_writes values.now old.now) (map set_tree sets.now) (seen_writes writes.old.items)) result }
+    ensures { GivesOn (seen_writes writes.new.items)
+        (with_writes (set_writes values.now old.now) (map set_tree sets.now) (seen_writes writes.old.items)) result }
 {
     for set in sets {
         let write = set_write(alloc, set, values, old)?;
