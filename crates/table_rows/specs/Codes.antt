@@ -1,0 +1,21 @@
+-- How what a table and its slots show is stored in the logic's own tree of numbers. Nothing that a caller relies on hangs on it.
+use Rattle.std.specs.Prelude.{List, Option, refl}
+use Rattle.std.specs.Coded.{Coded, code_by, coded_list, coded_option, coded×}
+use Rattle.attr_value.specs.Codes.{attributes_code}
+use Rattle.table_schema.specs.declared.schema.Schema.{Schema}
+use Rattle.table_schema.specs.contracts.schema.Schema.{the_row as schema_row}
+use Rattle.row_keys.specs.contracts.row_key.RowKey.{the_row as key_row}
+use Rattle.row_keys.specs.Rows.{Rows}
+use Rattle.table_rows.specs.declared.change.Change.{Change}
+use Rattle.table_rows.specs.contracts.change.Change.{the_row as change_row}
+use Rattle.table_rows.specs.View.{TableView}
+use Rattle.table_rows.specs.Slots.{SlotList}
+
+abbrev pub slots_code : Coded SlotList
+slots_code = coded_list (coded× key_row.coded (coded_option attributes_code))
+
+abbrev pub table_code : Coded TableView
+table_code =
+    code_by (Schema × (Rows × List Change))
+    (coded× schema_row.coded (coded× (coded_list (coded× key_row.coded attributes_code)) (coded_list change_row.coded)))
+    (λ t. (t.schema, (t.rows, t.pending))) (λ p. record { schema = p.0; rows = p.1.0; pending = p.1.1 }) (λ _. refl)

@@ -1,0 +1,187 @@
+//! Tables.
+
+ghost use Rattle.std.specs.Prelude.{◌≡◌, [], ◌∷◌, ◌++◌, map, slice_get, false, None, IfNone, IfSome, IfOk, OnOk, OnErr};
+ghost use Rattle.std.specs.Option.{option_copied};
+ghost use Rattle.std.specs.Map.{keys_of};
+ghost use Rattle.std.specs.BTreeMap.Range.{entries_between};
+ghost use Rattle.std.specs.Range.Bound.{bound_map};
+ghost use Rattle.row_keys.specs.Keys.{row_order, position_order};
+ghost use Rattle.row_keys.specs.Rows.{item_at, index_of, index_keys};
+ghost use Rattle.table_rows.specs.Slots.{rows_of};
+ghost use Rattle.table_rows.specs.View.{is_pending, committed};
+ghost use Rattle.table_rows.specs.State.{empty_index};
+
+use crate::change::Change;
+use crate::index::Index;
+use crate::prepare::{make_all, prepare_in, release_all, settle_all, undo_all};
+use crate::slots::Slots;
+use attr_value::Item;
+use base_types::Seq;
+use paging::MapRange;
+use row_keys::{Position, RowKey};
+use std::alloc::{AllocError as NoMemory, Global};
+use std::marker::Model;
+use std::ops::Bound;
+use table_schema::{GlobalIndex, LocalIndex, Schema};
+
+/// Adds an empty index for each local index.
+fn add_locals(
+    alloc: Global,
+    indexes: &mut Seq<Index>,
+    locals: &[LocalIndex],
+) -> Result<(), NoMemory>
+    ensures { OnOk result (indexes.new ≡ indexes.old ++ map (λ index. empty_index index.keys) locals.now) }
+{
+    for index in locals {
+        indexes.push(Index::new(alloc, index.keys.try_clone()?))?;
+    }
+    Ok(())
+}
+
+/// Adds an empty index for each global index.
+fn add_globals(
+    alloc: Global,
+    indexes: &mut Seq<Index>,
+    globals: &[GlobalIndex],
+) -> Result<(), NoMemory>
+    ensures { OnOk result (indexes.new ≡ indexes.old ++ map (λ index. empty_index index.keys) globals.now) }
+{
+    for index in globals {
+        indexes.push(Index::new(alloc, index.keys.try_clone()?))?;
+    }
+    Ok(())
+}
+
+/// The indexes of a table without rows, those that are local first.
+fn indexes_of(alloc: Global, schema: &Schema) -> Result<Seq<Index>, NoMemory>
+    ensures { IfOk result (λ indexes. indexes ≡ map empty_index (index_keys schema.now)) }
+{
+    let mut indexes = Seq::new(alloc);
+    add_locals(alloc, &mut indexes, schema.locals.as_slice())?;
+    add_globals(alloc, &mut indexes, schema.globals.as_slice())?;
+    Ok(indexes)
+}
+
+/// A table: its schema, its rows in the order of a Scan, and the changes that are prepared.
+///
+/// Contracts see these alone: the places of the indexes follow from them.
+#[derive(Drop)]
+pub struct TableRows {
+    schema: Schema,
+    slots: Slots,
+    pending: Seq<Change>,
+    /// Those that are local first, each in the order of the schema.
+    indexes: Seq<Index>,
+}
+
+impl Model for TableRows {
+    ghost use Rattle.table_rows.specs.View.{TableView};
+    ghost use Rattle.table_rows.specs.Slots.{rows_of};
+    ghost use Rattle.table_rows.specs.State.{IsKept};
+    ghost use Rattle.table_rows.specs.Codes.{table_code};
+
+    ghost Value = { TableView };
+
+    ghost coded = { table_code };
+
+    ghost view = { λ t. record { schema = t.schema; rows = rows_of t.slots; pending = t.pending } };
+
+    ghost invariant = { λ t. IsKept t.schema t.slots t.pending t.indexes };
+}
+
+impl TableRows {
+    /// A table of this schema without rows. Memory is taken for the names of its indexes' keys.
+    pub fn new(alloc: Global, schema: Schema) -> Result<TableRows, NoMemory>
+        ensures { IfOk result (λ table. table ≡ record { schema = schema; rows = []; pending = [] }) }
+    {
+        let indexes = indexes_of(alloc, &schema)?;
+        Ok(TableRows {
+            schema,
+            slots: Slots::new(alloc),
+            pending: Seq::new(alloc),
+            indexes,
+        })
+    }
+
+    /// What the table was made with.
+    pub fn schema(&self) -> &Schema
+        ensures { result.now ≡ self.now.schema }
+    {
+        &self.schema
+    }
+
+    /// The item at a key, whatever is prepared. It costs the logarithm of the rows, and takes no memory.
+    pub fn get(&self, key: &RowKey) -> Option<&Item>
+        ensures { option_copied result ≡ item_at self.now.rows key.now }
+    {
+        self.slots.get(key)
+    }
+
+    /// The rows between two ends, in the order of a Scan, whatever is prepared. A key for which an item is prepared may
+    /// stand among them without one.
+    pub fn rows_between<'a>(
+        &'a self,
+        low: Bound<&'a RowKey>,
+        high: Bound<&'a RowKey>,
+    ) -> MapRange<'a, RowKey, Option<Item>>
+        ensures { rows_of result
+            ≡ entries_between row_order (bound_map (λ end. end.now) low.entry) (bound_map (λ end. end.now) high.entry) self.now.rows }
+    {
+        self.slots.between(low, high)
+    }
+
+    /// The places of the rows of an index between two ends, in its order, where nothing is prepared. Indexes are numbered
+    /// from 0: those that are local first, each in the order of the schema. There is `None` where there are not so many.
+    pub fn places_between<'a>(
+        &'a self,
+        index: usize,
+        low: Bound<&'a Position>,
+        high: Bound<&'a Position>,
+    ) -> Option<MapRange<'a, Position, ()>>
+        ensures none { IfNone result (slice_get (index_keys self.now.schema) index ≡ None) }
+        ensures places { self.now.pending ≡ [] → IfSome result (λ range. IfSome (slice_get (index_keys self.now.schema) index) (λ keys.
+            keys_of range ≡ keys_of (entries_between position_order (bound_map (λ end. end.now) low.entry) (bound_map (λ end. end.now) high.entry)
+            (index_of self.now.schema keys self.now.rows)))) }
+    {
+        match self.indexes.get(index) {
+            Some(index) => Some(index.between(low, high)),
+            None => None,
+        }
+    }
+
+    /// Prepares that the item at a key is this one, or none: takes all memory that is needed. The rows stay as they are
+    /// until [`TableRows::commit`]. No other change of the key is prepared.
+    ///
+    /// Where memory is refused nothing changes.
+    pub fn prepare(&mut self, alloc: Global, key: RowKey, new: Option<Item>) -> Result<(), NoMemory>
+        requires { is_pending self.old.pending key ≡ false }
+        ensures ok { OnOk result (self.new ≡ record self.old { pending = self.old.pending ++ record { key = key; new = new } ∷ [] }) }
+        ensures err { OnErr result (self.new ≡ self.old) }
+    {
+        let change = Change { key, new };
+        prepare_in(
+            alloc,
+            &self.schema,
+            self.indexes.as_mut_slice(),
+            &mut self.slots,
+            &mut self.pending,
+            change,
+        )
+    }
+
+    /// Makes all changes that are prepared. It takes no memory.
+    pub fn commit(&mut self)
+        ensures { self.new ≡ record { schema = self.old.schema; rows = committed self.old.rows self.old.pending; pending = [] } }
+    {
+        settle_all(self.indexes.as_mut_slice());
+        make_all(&mut self.slots, &mut self.pending);
+    }
+
+    /// Drops all changes that are prepared. It takes no memory.
+    pub fn abort(&mut self)
+        ensures { self.new ≡ record self.old { pending = [] } }
+    {
+        undo_all(self.indexes.as_mut_slice());
+        release_all(&mut self.slots, &mut self.pending);
+    }
+}
