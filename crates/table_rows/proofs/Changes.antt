@@ -1,11 +1,10 @@
 -- Changes that are prepared: their keys, their slots, and the rows with them made.
 use Rattle.std.specs.Prelude.{◌||◌, ◌++◌}
-use Rattle.std.specs.List.{AllByRecursion, list_any}
 use Rattle.std.specs.List.Sorted.{IsStrictlySortedBy}
-use Rattle.std.specs.Map.{keys_of, lookup}
+use Rattle.std.specs.Map.{keys_of}
 use Rattle.std.specs.BTreeMap.{is_at}
-use Rattle.std.proofs.Common.{◌≡◌, Bool, true, false, cond, List, [], ◌∷◌, Option, None, Some, refl, sym, ap, ◌∙◌, subst}
-use Rattle.std.proofs.lemmas.Bool.{cond-true, cond-false}
+use Rattle.std.proofs.Common.{◌≡◌, Bool, true, false, cond, List, [], ◌∷◌, Option, None, Some, refl, sym, ap, ◌∙◌}
+use Rattle.std.proofs.lemmas.Bool.{cond-false}
 use Rattle.std.proofs.lemmas.List.Folds.{list_any-append}
 use Rattle.attr_value.specs.Tree.{Attributes}
 use Rattle.row_keys.specs.declared.row_key.RowKey.{RowKey}
@@ -16,7 +15,7 @@ use Rattle.table_rows.specs.declared.change.Change.{Change}
 use Rattle.table_rows.specs.View.{is_pending, committed}
 use Rattle.table_rows.specs.Slots.{SlotList, has_slot, KeepsOtherSlots}
 use Rattle.table_rows.specs.State.{AreDistinct, HaveSlots}
-use Rattle.table_rows.proofs.Entries.{by_bool, flip}
+use Rattle.table_rows.proofs.Entries.{flip}
 use Rattle.table_rows.proofs.Exact.{row_exact}
 use Rattle.table_rows.proofs.SlotLists.{with_sorted, with_at}
 

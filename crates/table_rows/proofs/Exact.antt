@@ -1,5 +1,5 @@
 -- Points, keys and positions that tie in their order are equal.
-use Rattle.std.proofs.Common.{◌≡◌, ◌∙◌, refl, ap, sym, ℕ, ℤ, pos, List, [], ◌∷◌}
+use Rattle.std.proofs.Common.{◌≡◌, ◌∙◌, refl, ap, sym, ℕ, List, [], ◌∷◌}
 use Rattle.std.specs.Cmp.Lexicographic.{slice_cmp}
 use Rattle.std.specs.Ordering.{nat_cmp, int_cmp, ordering_then}
 use Rattle.std.specs.declared.cmp.Ordering.{Ordering}
@@ -9,10 +9,7 @@ use Rattle.item_keys.specs.declared.value.KeyValue.{KeyValue}
 use Rattle.item_keys.specs.declared.value.KeyValue.TheVariants.{S, N, B}
 use Rattle.item_keys.specs.Order.{value_order}
 use Rattle.item_keys.specs.OrderLaws.{value_exact}
-use Rattle.row_keys.specs.declared.point.SortPoint.{SortPoint}
 use Rattle.row_keys.specs.declared.point.SortPoint.TheVariants.{Least, At, After, AfterPrefix, Greatest}
-use Rattle.row_keys.specs.declared.row_key.RowKey.{RowKey}
-use Rattle.row_keys.specs.declared.position.Position.{Position}
 use Rattle.row_keys.specs.Points.{marked, values_order, point_order}
 use Rattle.row_keys.specs.Keys.{row_order, item_order, position_order}
 

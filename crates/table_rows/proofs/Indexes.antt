@@ -4,7 +4,7 @@ use Rattle.std.specs.List.{AllByRecursion, AllZip, list_any}
 use Rattle.std.specs.List.Sorted.{IsStrictlySortedBy}
 use Rattle.std.specs.Map.{keys_of, lookup}
 use Rattle.std.specs.BTreeMap.{is_at}
-use Rattle.std.proofs.Common.{◌≡◌, Bool, true, false, cond, List, [], ◌∷◌, Option, None, Some, refl, sym, ap, ◌∙◌, subst}
+use Rattle.std.proofs.Common.{◌≡◌, Bool, true, false, List, [], ◌∷◌, Option, None, Some, refl, sym, ap, ◌∙◌}
 use Rattle.std.proofs.lemmas.Bool.{cond-true, cond-false}
 use Rattle.std.proofs.lemmas.List.Folds.{list_any-append}
 use Rattle.attr_value.specs.Tree.{Attributes}
@@ -24,7 +24,7 @@ use Rattle.table_rows.specs.State.{told, moves_by, step_in, IsIndex, AreDistinct
 use Rattle.table_rows.proofs.Entries.{by_bool, clash, false_from, at_is, at_self, same_entries}
 use Rattle.table_rows.proofs.Exact.{row_exact, position_exact}
 use Rattle.table_rows.proofs.Moved.{come_is, gone_is, and_not, come_key, gone_key}
-use Rattle.table_rows.proofs.Changes.{or_none, or_both, new_at, changed_to, not_pending, committed_at}
+use Rattle.table_rows.proofs.Changes.{or_none, or_both, new_at, changed_to, committed_at}
 
 or_false : (a b : Bool) → b ≡ false → (a || b) ≡ a
 or_false true b e = refl

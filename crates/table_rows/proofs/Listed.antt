@@ -1,9 +1,9 @@
 -- The places that an index keeps are those of its rows.
-use Rattle.std.specs.Prelude.{not, ◌&&◌, ◌||◌, ℕ, zero, suc, map, filter, is_some, option_map, slice_get, IfSome}
+use Rattle.std.specs.Prelude.{◌||◌, ℕ, zero, suc, map, filter, is_some, option_map, slice_get, IfSome}
 use Rattle.std.specs.List.{AllByRecursion}
 use Rattle.std.specs.List.Sorted.{IsStrictlySortedBy}
 use Rattle.std.specs.Map.{keys_of, lookup}
-use Rattle.std.specs.BTreeMap.{is_at, insert_entry}
+use Rattle.std.specs.BTreeMap.{is_at}
 use Rattle.std.specs.BTreeMap.Range.{entries_between, range_contains}
 use Rattle.std.specs.declared.ops.Bound.{Bound}
 use Rattle.std.proofs.Common.{◌≡◌, Bool, true, false, cond, List, [], ◌∷◌, Option, None, Some, refl, sym, ap, ◌∙◌, subst}
@@ -18,7 +18,7 @@ use Rattle.row_keys.specs.KeyLaws.{row_total, position_total}
 use Rattle.row_keys.specs.Rows.{Rows, Entries, item_at, position_in, entered, index_of, index_keys}
 use Rattle.table_rows.specs.declared.change.Change.{Change}
 use Rattle.table_rows.specs.Moves.{is_place, comes, spot_of}
-use Rattle.table_rows.specs.Places.{PlaceList, IndexView, has_place}
+use Rattle.table_rows.specs.Places.{PlaceList, IndexView}
 use Rattle.table_rows.specs.Slots.{SlotList, row_if, rows_of}
 use Rattle.table_rows.specs.State.{told, IsIndex, IsKept}
 use Rattle.table_rows.proofs.Entries.{by_bool, clash, false_from, at_is, at_self, past_head, same_entries, sorted_in, lookup_in}

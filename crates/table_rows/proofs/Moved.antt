@@ -1,7 +1,7 @@
 -- What one change moves in an index.
-use Rattle.std.specs.Prelude.{not, ◌&&◌, ◌||◌, if◌then◌else◌}
+use Rattle.std.specs.Prelude.{not, ◌&&◌, if◌then◌else◌}
 use Rattle.std.specs.BTreeMap.{is_at}
-use Rattle.std.proofs.Common.{◌≡◌, Bool, true, false, List, [], ◌∷◌, Option, None, Some, Result, Ok, Err, refl, sym, ap, ◌∙◌, subst}
+use Rattle.std.proofs.Common.{◌≡◌, Bool, true, false, Option, None, Some, Result, Ok, Err, refl, sym, ap, ◌∙◌}
 use Rattle.attr_value.specs.Tree.{Attributes}
 use Rattle.item_keys.specs.declared.fault.KeyFault.{KeyFault}
 use Rattle.item_keys.specs.declared.key.Key.{Key}
@@ -12,9 +12,9 @@ use Rattle.row_keys.specs.declared.position.Position.{Position}
 use Rattle.row_keys.specs.declared.row_key.RowKey.{RowKey}
 use Rattle.row_keys.specs.Keys.{row_key, position_order}
 use Rattle.row_keys.specs.KeyLaws.{position_total}
-use Rattle.row_keys.specs.Rows.{position, position_if, position_in}
+use Rattle.row_keys.specs.Rows.{position, position_if}
 use Rattle.table_rows.specs.declared.moves.Move.{Move}
-use Rattle.table_rows.specs.Moves.{is_place, same_place, move_of, spot_of, move_in}
+use Rattle.table_rows.specs.Moves.{is_place, move_of, spot_of, move_in}
 use Rattle.table_rows.proofs.Entries.{by_bool, clash, at_is, at_self}
 use Rattle.table_rows.proofs.Exact.{position_exact}
 

@@ -4,15 +4,15 @@ use Rattle.std.specs.List.Sorted.{IsStrictlySortedBy}
 use Rattle.std.specs.Map.{keys_of, lookup, remove_entry}
 use Rattle.std.specs.BTreeMap.{is_at}
 use Rattle.std.specs.declared.cmp.Ordering.TheVariants.{Less}
-use Rattle.std.proofs.Common.{◌≡◌, Bool, true, false, cond, List, [], ◌∷◌, Option, None, Some, is_some, Result, Ok, Err, OnOk, OnErr, refl, sym, ap, ◌∙◌}
+use Rattle.std.proofs.Common.{◌≡◌, Bool, true, false, cond, [], ◌∷◌, Option, None, Some, is_some, Result, Ok, Err, OnOk, OnErr, refl, sym, ap, ◌∙◌}
 use Rattle.std.proofs.lemmas.Bool.{cond-true, cond-false}
 use Rattle.attr_value.specs.Tree.{Attributes}
 use Rattle.row_keys.specs.declared.row_key.RowKey.{RowKey}
 use Rattle.row_keys.specs.Keys.{row_order}
 use Rattle.row_keys.specs.KeyLaws.{row_total}
 use Rattle.row_keys.specs.Rows.{Rows, item_at, with_item}
-use Rattle.table_rows.specs.Slots.{SlotList, row_if, rows_of, has_slot}
-use Rattle.table_rows.proofs.Entries.{by_bool, flip, past_head, same_entries, sorted_in, lookup_in, sorted_out, lookup_out}
+use Rattle.table_rows.specs.Slots.{SlotList, row_if, rows_of}
+use Rattle.table_rows.proofs.Entries.{by_bool, past_head, same_entries, sorted_in, lookup_in, sorted_out, lookup_out}
 use Rattle.table_rows.proofs.Exact.{row_exact}
 
 pub none_from : {X : Type 0} (o : Option X) → is_some o ≡ false → o ≡ None

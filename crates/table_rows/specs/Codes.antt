@@ -1,5 +1,5 @@
 -- How what a table and its slots show is stored in the logic's own tree of numbers. Nothing that a caller relies on hangs on it.
-use Rattle.std.specs.Prelude.{List, Option, refl}
+use Rattle.std.specs.Prelude.{List, refl}
 use Rattle.std.specs.Coded.{Coded, code_by, coded_list, coded_option, coded×}
 use Rattle.attr_value.specs.Codes.{attributes_code}
 use Rattle.table_schema.specs.declared.schema.Schema.{Schema}

@@ -1,9 +1,8 @@
 -- What is kept in a table: slots, changes that are prepared, and indexes in step with the rows.
-use Rattle.std.specs.Prelude.{◌≡◌, List, [], ◌∷◌, ◌++◌, map, Bool, true, false, not, ◌&&◌, ◌||◌, Option, ⊤}
+use Rattle.std.specs.Prelude.{◌≡◌, List, [], ◌∷◌, ◌++◌, map, Bool, true, false, not, ◌&&◌, ◌||◌, ⊤}
 use Rattle.std.specs.List.{AllByRecursion}
 use Rattle.std.specs.List.Sorted.{IsStrictlySortedBy}
 use Rattle.std.specs.Map.{keys_of}
-use Rattle.attr_value.specs.Tree.{Attributes}
 use Rattle.table_schema.specs.declared.keys.KeyNames.{KeyNames}
 use Rattle.table_schema.specs.declared.schema.Schema.{Schema}
 use Rattle.row_keys.specs.declared.position.Position.{Position}

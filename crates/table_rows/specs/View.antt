@@ -1,5 +1,5 @@
 -- What a table shows: its schema, its rows, and the changes that are prepared.
-use Rattle.std.specs.Prelude.{◌≡◌, List, [], ◌∷◌, Bool}
+use Rattle.std.specs.Prelude.{List, [], ◌∷◌, Bool}
 use Rattle.std.specs.List.{list_any}
 use Rattle.std.specs.BTreeMap.{is_at}
 use Rattle.table_schema.specs.declared.schema.Schema.{Schema}

@@ -1,6 +1,5 @@
-use Rattle.std.proofs.Common.{rules, ◌≡◌, List, [], ◌∷◌, ◌++◌, ap, ◌∙◌, sym}
+use Rattle.std.proofs.Common.{rules, ◌≡◌, [], ◌∷◌, ◌++◌, ap, ◌∙◌}
 use Rattle.std.specs.Prelude.{not, ◌&&◌}
-use Rattle.table_rows.specs.declared.moves.Move.{Move}
 use Rattle.table_rows.specs.Moves.{is_place}
 use Rattle.table_rows.specs.Places.{IndexView, has_place}
 use Rattle.table_rows.proofs.Indexes.{taken_back}

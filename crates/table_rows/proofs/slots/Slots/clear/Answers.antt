@@ -1,4 +1,4 @@
-use Rattle.std.proofs.Common.{Option, None, is_some, ◌∙◌, ap}
+use Rattle.std.proofs.Common.{None, is_some, ◌∙◌, ap}
 use Rattle.row_keys.specs.Rows.{with_item}
 use Rattle.table_rows.specs.Slots.{SlotList, rows_of, has_slot}
 use Rattle.table_rows.proofs.SlotLists.{slot_changed}

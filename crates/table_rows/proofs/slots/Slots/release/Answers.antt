@@ -1,4 +1,4 @@
-use Rattle.std.proofs.Common.{rules, ◌≡◌, Option, None, Some, is_some, ◌∙◌, ap, sym, refl}
+use Rattle.std.proofs.Common.{rules, ◌≡◌, None, is_some, ◌∙◌, ap, refl}
 use Rattle.row_keys.specs.Rows.{item_at}
 use Rattle.table_rows.specs.Slots.{SlotList, rows_of, has_slot}
 use Rattle.table_rows.proofs.SlotLists.{slot_blank}

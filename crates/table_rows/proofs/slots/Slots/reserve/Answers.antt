@@ -1,4 +1,4 @@
-use Rattle.std.proofs.Common.{◌≡◌, Option, None, Some, is_some, ◌∙◌, ap, sym, refl}
+use Rattle.std.proofs.Common.{None, Some, is_some, ◌∙◌, ap, sym, refl}
 use Rattle.table_rows.specs.Slots.{SlotList, rows_of, has_slot}
 use Rattle.table_rows.proofs.SlotLists.{item_in, rows_at, slot_blank, none_from}
 use Rattle.table_rows.proofs.slots.Slots.reserve.Goals as goal

@@ -1,4 +1,4 @@
-use Rattle.std.proofs.Common.{◌≡◌, Option, None, Some, is_some, true, ◌∙◌, ap, sym}
+use Rattle.std.proofs.Common.{◌≡◌, Some, is_some, true, ◌∙◌, ap}
 use Rattle.std.specs.Map.{lookup}
 use Rattle.std.specs.BTreeMap.{is_at, Updates}
 use Rattle.row_keys.specs.Keys.{row_order}
