@@ -1,4 +1,3 @@
 pub mod Bodies
 pub mod Floats
-pub mod Progress
 pub mod OnlyWord

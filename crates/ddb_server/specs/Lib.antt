@@ -3,5 +3,5 @@ pub mod Json
 pub mod Requests
 pub mod Tables
 pub mod Replies
-pub mod Sessions
+pub mod Services
 pub mod Programs

@@ -3,8 +3,11 @@ use Rattle.std.specs.Prelude.{◌≡◌, ◌⊎◌, ℕ, List, [], ◌∷◌, ma
 use Rattle.std.specs.declared.alloc.Global.{Global}
 use Rattle.std.specs.Io.KnownBytes.{Appends}
 use Rattle.ddb_outside.specs.Writes.{AppendsFront}
-use Rattle.ddb_server.specs.declared.session.SessionEnd.{SessionEnd}
-use Rattle.ddb_server.specs.Sessions.{Served}
+use Rattle.http_session.specs.declared.end.SessionEnd.{SessionEnd}
+use Rattle.http_session.specs.Sessions.{Served}
+use Rattle.ddb_server.specs.declared.model.Database.{Database}
+use Rattle.ddb_server.specs.Database.{empty_database}
+use Rattle.ddb_server.specs.Services.{Steps}
 
 -- the words are the one word `stdio`
 abbrev pub IsStdio : List (String Global) → Type 0
@@ -28,8 +31,8 @@ usage = codes "usage: ddb_server stdio|serve|load [--partitions N] [--port N] [-
 -- the status is that of a session from the empty database on, over this input where it is known
 abbrev pub RunsSession : Option (List ℕ) → Option (ℕ → ℕ) → Option (List ℕ) → Option (List ℕ) → ℕ → Type 0
 RunsSession input coming old new status =
-    (end : SessionEnd) × (status ≡ exit_status end)
-    × IfSome input (λ bytes. Served bytes coming old new end)
+    (end : SessionEnd) × (after : Database) × (status ≡ exit_status end)
+    × IfSome input (λ bytes. Served Steps bytes coming empty_database after old new end)
 
 -- other words are answered by the usage line and 2, or by 3 where the sink failed at it
 abbrev pub RefusesWords : Option (List ℕ) → Option (List ℕ) → ℕ → Type 0

@@ -13,7 +13,7 @@ pub mod model;
 mod program;
 mod reply;
 mod request;
-mod session;
+mod service;
 
 use ddb_outside::{StdSink, StdSource, SystemClock};
 pub use program::run;

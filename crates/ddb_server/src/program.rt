@@ -2,8 +2,9 @@ ghost use Rattle.std.specs.Prelude.{◌≡◌, ◌↔◌, IsTrue};
 ghost use Rattle.ddb_outside.specs.Causes.{Rose};
 ghost use Rattle.ddb_server.specs.Programs.{IsStdio, RunsSession, RefusesWords, exit_status, usage};
 
-use crate::session::{SessionEnd, serve_session};
+use crate::model::Database;
 use ddb_outside::{Clock, Failed, Sink, Source, write_all};
+use http_session::{SessionEnd, serve_session};
 
 /// What is written where the words are none of the commands.
 const USAGE: &str =
@@ -32,7 +33,8 @@ pub fn run<S: Source, K: Sink, C: Clock>(
     if !is_stdio(words) {
         return refuse_words(sink);
     }
-    exit_status(serve_session(rt.alloc(), source, sink, clock))
+    let mut database = Database::new(rt.alloc());
+    exit_status(serve_session(rt.alloc(), source, sink, clock, &mut database))
 }
 
 // Whether the words are the one word `stdio`.
