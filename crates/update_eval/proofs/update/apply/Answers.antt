@@ -18,10 +18,12 @@ new_item-requires c =
     let ordered = c.in_ok-entries-2.entries.items in
     let lent : seen (entries_of made) ≡ seen_writes c.in_ok-writes.writes.items = c.in_ok-entries.ensures ∙ ap seen_writes c.deref.ensures.value in
     let written : writes_of c.args.values.now c.args.old.now (update_tree c.args.tree.now) ≡ Ok (seen (entries_of made)) = c.in_ok-writes.ensures ∙ ap Ok (sym lent) in
-    let apart = writes_apart c.args.values.now c.args.old.now (update_tree c.args.tree.now) (seen (entries_of made)) c.args.tree.now.apart written in (
-      subst (λ es. AreInOrder (entries_of es)) (sym c.deref-2.ensures.value) c.in_ok-entries-2.ensures.in_order,
-      subst (λ es. AreApart (paths_of (seen (entries_of es)))) (sym c.deref-2.ensures.value) (ordered_apart made ordered c.in_ok-entries-2.ensures.same apart),
-    )
+    let apart = writes_apart c.args.values.now c.args.old.now (update_tree c.args.tree.now) (seen (entries_of made)) c.args.tree.now.apart written in
+    record {
+      in_order = subst (λ es. AreInOrder (entries_of es)) (sym c.deref-2.ensures.value) c.in_ok-entries-2.ensures.in_order;
+      apart = subst (λ es. AreApart (paths_of (seen (entries_of es)))) (sym c.deref-2.ensures.value)
+          (ordered_apart made ordered c.in_ok-entries-2.ensures.same apart);
+    }
 
 pub returns : goal.returns
 returns c =
