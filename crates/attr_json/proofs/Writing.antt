@@ -1,5 +1,6 @@
 -- Members that are written in order of their names, and elements as a list.
-use Rattle.std.proofs.Common.{◌≡◌, List, [], ◌∷◌, ◌++◌, map, String, Global, string_bytes, string_cmp, refl, ap}
+use Rattle.std.proofs.Common.{◌≡◌, List, [], ◌∷◌, ◌++◌, map, Greater, nat_cmp, String, Global, string_bytes, string_cmp, refl, ap}
+use Rattle.std.specs.Cmp.Lexicographic.{slice_cmp}
 use Rattle.serde_json.specs.Data.{item, member, put}
 use Rattle.serde_json.specs.View.{items_of as listed}
 use Rattle.attr_value.specs.Tree.{AreInOrder}
@@ -23,7 +24,8 @@ pub put_last : (done : List Attribute) (e : Attribute) (more : List Attribute) �
     → put e.0 (data_of (tree_of e.1)) (members_of (attributes_of done)) ≡ members_of (attributes_of (done ++ e ∷ []))
 put_last [] e more up = refl
 put_last (d ∷ done) e more up =
-    rw above_first d done e more up (ap (member d.0 (data_of (tree_of d.1))) (put_last done e more up.1))
+    let above : slice_cmp nat_cmp e.0 d.0 ≡ Greater = above_first d done e more up in
+    rw above (ap (member d.0 (data_of (tree_of d.1))) (put_last done e more up.1))
 
 -- a member that is put into an object's map
 pub inserted : (es : List Entry) (name : String Global) (v : Json) → members_view (insert_entry string_cmp es name v) ≡ put (string_bytes name) (view v) (members_view es)
