@@ -8,6 +8,7 @@ use std::alloc::Global;
 use std::test::Fail;
 
 /// Counts its messages. It keeps the moment of the last one.
+#[derive(Drop)]
 struct Counter {
     count: u64,
     moment: u64,
