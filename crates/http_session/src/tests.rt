@@ -15,7 +15,7 @@ struct Counter {
 }
 
 impl Service for Counter {
-    ghost use Rattle.std.specs.Prelude.{◌≡◌, ◌×◌};
+    ghost use Rattle.std.specs.Prelude.{◌≡◌};
 
     ghost steps = { λ old message moment status body new. (status ≡ 200) × (new.moment ≡ moment) };
 
