@@ -20,6 +20,3 @@ mod table;
 
 pub use change::Change;
 pub use table::TableRows;
-
-#[cfg(test)]
-mod tests;
