@@ -24,6 +24,3 @@ pub use check::check_body;
 pub use fault::Fault;
 pub use form::Form;
 pub use name::Name;
-
-#[cfg(test)]
-mod tests;

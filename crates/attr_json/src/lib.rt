@@ -27,6 +27,3 @@ pub use fault::{JsonEnd, JsonFault};
 pub use read::{item_from, value_fault, value_from};
 pub use text::{push_item, push_value, write_item, write_value};
 pub use write::{item_to, value_to};
-
-#[cfg(test)]
-mod tests;

@@ -39,6 +39,3 @@ pub use fault::{ValueEnd, ValueFault};
 pub use parts::push_some;
 pub use set::{binary_set, number_set, string_set};
 pub use value::{Elements, Item, Value};
-
-#[cfg(test)]
-mod tests;

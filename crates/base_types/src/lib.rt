@@ -14,6 +14,3 @@ pub use binary::Bytes;
 pub use path::{DocPath, Step};
 pub use seq::Seq;
 pub use text::Text;
-
-#[cfg(test)]
-mod tests;

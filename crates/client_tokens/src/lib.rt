@@ -17,6 +17,3 @@ mod tokens;
 
 pub use kept::Kept;
 pub use tokens::Tokens;
-
-#[cfg(test)]
-mod tests;

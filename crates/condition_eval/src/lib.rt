@@ -10,6 +10,3 @@ mod seen;
 mod truth;
 
 pub use truth::holds;
-
-#[cfg(test)]
-mod tests;

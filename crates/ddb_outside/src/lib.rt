@@ -16,6 +16,3 @@ pub use clock::{Clock, ListClock, StepClock, SystemClock};
 pub use failed::Failed;
 pub use sink::{MemSink, Sink, StdSink, write_all};
 pub use source::{MemSource, Source, StdSource};
-
-#[cfg(test)]
-mod tests;

@@ -13,6 +13,3 @@ mod token;
 pub use base_types::{Bytes, DocPath, Seq, Step, Text};
 pub use lexer::{one_reading, tokens};
 pub use token::{LexEnd, Token, TokenKind};
-
-#[cfg(test)]
-mod tests;

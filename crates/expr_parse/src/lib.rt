@@ -27,8 +27,3 @@ pub use expression::{condition, paths};
 pub use laws::{one_reading, one_tree};
 pub use tree::Update;
 pub use update_expression::update;
-
-#[cfg(test)]
-mod tests;
-#[cfg(test)]
-mod update_tests;

@@ -5,6 +5,18 @@
 #[cfg(test)]
 mod conditions;
 #[cfg(test)]
+mod key_ranges;
+#[cfg(test)]
+mod new_items;
+#[cfg(test)]
 mod projections;
 #[cfg(test)]
 mod samples;
+#[cfg(test)]
+mod tokens;
+#[cfg(test)]
+mod trees;
+#[cfg(test)]
+mod truths;
+#[cfg(test)]
+mod updates;

@@ -22,6 +22,3 @@ pub use end::SessionEnd;
 pub use exchange::serve_message;
 pub use service::Service;
 pub use session::{MAX_MESSAGES, serve_session};
-
-#[cfg(test)]
-mod tests;

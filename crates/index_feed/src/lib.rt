@@ -14,6 +14,3 @@ mod laws;
 
 pub use change::{Change, Row};
 pub use laws::{drained_is_projection, feeds_harmless, index_rows_project};
-
-#[cfg(test)]
-mod tests;

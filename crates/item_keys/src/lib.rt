@@ -28,6 +28,3 @@ pub use places::{PlaceRange, cell_of, place, segment_places};
 pub use row::project;
 pub use unfit::is_unfit;
 pub use value::KeyValue;
-
-#[cfg(test)]
-mod tests;

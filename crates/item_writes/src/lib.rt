@@ -16,6 +16,3 @@ pub use edit::write_all;
 pub use extent::{Extent, extent_with_all};
 pub use laws::{other_paths_are_kept, values_by_name, written_values_stand};
 pub use new_value::NewValue;
-
-#[cfg(test)]
-mod tests;

@@ -13,6 +13,3 @@ mod key_range;
 pub use condition::range;
 pub use fault::{RangeEnd, RangeFault};
 pub use key_range::{Bound, KeyRange};
-
-#[cfg(test)]
-mod tests;

@@ -24,6 +24,3 @@ mod text;
 
 pub use number::{Number, NumberFault, from_u64};
 pub use text::{nothing_is_rounded, parse};
-
-#[cfg(test)]
-mod tests;

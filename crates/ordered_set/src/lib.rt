@@ -8,6 +8,3 @@
 mod set;
 
 pub use set::{OrderedSet, SetFault};
-
-#[cfg(test)]
-mod tests;

@@ -22,6 +22,3 @@ pub use page::{Judged, Offer, PageState, one_page};
 pub use range::MapRange;
 pub use steps::Steps;
 pub use walk::{Judge, Walk, Walked, walk_page};
-
-#[cfg(test)]
-mod tests;

@@ -14,6 +14,3 @@ pub use group::below;
 pub use key::{Entry, Key};
 pub use order::sorted;
 pub use search::range;
-
-#[cfg(test)]
-mod tests;

@@ -19,6 +19,3 @@ pub use laws::{end_behind_fronts, end_behind_prefixes, end_behind_values, stand_
 pub use point::SortPoint;
 pub use position::Position;
 pub use row_key::RowKey;
-
-#[cfg(test)]
-mod tests;

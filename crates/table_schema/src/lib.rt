@@ -33,8 +33,3 @@ pub use index::{GlobalIndex, LocalIndex, Projection};
 pub use keys::KeyNames;
 pub use schema::Schema;
 pub use stated::{KeyElement, KeyRole, StatedIndex, StatedSchema};
-
-#[cfg(test)]
-mod stated_tests;
-#[cfg(test)]
-mod tests;

@@ -65,6 +65,3 @@ pub use rules::Rules;
 pub use ruling::Ruling;
 pub use stamp::Stamp;
 pub use verdict::Verdict;
-
-#[cfg(test)]
-mod tests;

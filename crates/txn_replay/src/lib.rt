@@ -31,6 +31,3 @@ mod token;
 mod tracked;
 
 pub use replay::{ReplayEnd, replay_check};
-
-#[cfg(test)]
-mod tests;

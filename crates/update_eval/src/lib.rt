@@ -15,6 +15,3 @@ mod update;
 pub use fault::{EvalEnd, EvalFault};
 pub use path::touches;
 pub use update::{MAX_SIZE, apply};
-
-#[cfg(test)]
-mod tests;

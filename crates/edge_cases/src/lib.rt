@@ -1,0 +1,11 @@
+//! What comes in and goes out: cases by hand of the crates that read and write it.
+#![tactic(auto)]
+
+#[cfg(test)]
+mod bodies;
+#[cfg(test)]
+mod outside;
+#[cfg(test)]
+mod sessions;
+#[cfg(test)]
+mod values;

@@ -1,0 +1,107 @@
+//! Tests of sessions over a service that counts.
+
+use base_types::{Bytes, Seq};
+use ddb_outside::{MemSink, MemSource, StepClock};
+use http_front::{HttpFault, Message};
+use http_session::{Answer, Body, Service, SessionEnd, serve_session};
+use std::alloc::Global;
+use std::test::Fail;
+
+/// Counts its messages. It keeps the moment of the last one.
+#[derive(Drop)]
+struct Counter {
+    count: u64,
+    moment: u64,
+}
+
+impl Service for Counter {
+    ghost use Rattle.std.specs.Prelude.{◌≡◌};
+
+    ghost steps = { λ old message moment status body new. (status ≡ 200) × (new.moment ≡ moment) };
+
+    fn answer(&mut self, _alloc: Global, _message: &Message, moment: u64) -> Answer {
+        self.count = self.count.saturating_add(1);
+        self.moment = moment;
+        Answer {
+            status: 200,
+            body: Body::Fixed("{}"),
+        }
+    }
+}
+
+const MESSAGE: &str = "POST / HTTP/1.1\r\nContent-Length: 2\r\n\r\nhi";
+
+const LAST: &str = "POST / HTTP/1.1\r\nConnection: close\r\n\r\n";
+
+const FIRST_REPLY: &str =
+    "HTTP/1.1 200 OK\r\nContent-Type: application/x-amz-json-1.0\r\nContent-Length: 2\r\n\
+    x-amzn-RequestId: 00000000000000000000000000000001\r\n\r\n{}";
+
+const LAST_REPLY: &str =
+    "HTTP/1.1 200 OK\r\nContent-Type: application/x-amz-json-1.0\r\nContent-Length: 2\r\n\
+    x-amzn-RequestId: 00000000000000000000000000000002\r\nConnection: close\r\n\r\n{}";
+
+/// Messages in pieces, the first reply, the end, how many messages were answered and the last moment, where a clock begins
+/// at 7 and goes on by 5.
+static SESSIONS: [(&str, &str, usize, &str, SessionEnd, u64, u64); 5] = [
+    ("", "", 1, "", SessionEnd::Ended, 0, 0),
+    (MESSAGE, "", 1, FIRST_REPLY, SessionEnd::Ended, 1, 7),
+    (MESSAGE, LAST, 3, FIRST_REPLY, SessionEnd::Asked, 2, 12),
+    (
+        MESSAGE,
+        "GET / HTTP/1.1\r\n\r\n",
+        4_096,
+        FIRST_REPLY,
+        SessionEnd::Refused(HttpFault::Method),
+        1,
+        7,
+    ),
+    (
+        MESSAGE,
+        "POST / HT",
+        5,
+        FIRST_REPLY,
+        SessionEnd::Cut { got: 9 },
+        1,
+        7,
+    ),
+];
+
+/// What is written behind the first reply.
+fn second(end: SessionEnd) -> &'static str {
+    match end {
+        SessionEnd::Asked => LAST_REPLY,
+        SessionEnd::Refused(_) => {
+            "HTTP/1.1 405 Method Not Allowed\r\nContent-Length: 0\r\nConnection: close\r\n\r\n"
+        }
+        _ => "",
+    }
+}
+
+/// The end of a session, what was written, and its service afterwards.
+fn served(alloc: Global, input: &str, piece: usize) -> Result<(SessionEnd, Bytes, Counter), Fail> {
+    let content = Bytes::copied(alloc, input.as_bytes())?;
+    let mut source = MemSource::make(content, piece.max(1), Seq::new(alloc));
+    let mut sink = MemSink::make(alloc, piece.max(1), Seq::new(alloc));
+    let mut clock = StepClock::make(7, 5);
+    let mut counter = Counter {
+        count: 0,
+        moment: 0,
+    };
+    let end = serve_session(alloc, &mut source, &mut sink, &mut clock, &mut counter);
+    Ok((end, sink.into_parts().0, counter))
+}
+
+#[test]
+fn sessions(rt: HostRuntime) -> Result<(), Fail> {
+    let alloc = rt.alloc();
+    for (first, behind, piece, reply, end, count, moment) in SESSIONS {
+        let input = format!(in alloc; "{first}{behind}")?;
+        let expected = format!(in alloc; "{reply}{}", second(end))?;
+        let (ended, written, counter) = served(alloc, input.as_str(), piece)?;
+        assert!(rt; ended == end);
+        assert_eq!(rt; written.as_slice(), expected.as_bytes());
+        assert_eq!(rt; (counter.count, counter.moment), (count, moment));
+    }
+    Ok(())
+}
