@@ -1,10 +1,10 @@
 -- Changes that are prepared: their keys, their slots, and the rows with them made.
-use Rattle.std.specs.Prelude.{◌||◌, ◌++◌}
+use Rattle.std.specs.Prelude.{◌||◌, ◌++◌, is_some}
 use Rattle.std.specs.List.Sorted.{IsStrictlySortedBy}
 use Rattle.std.specs.Map.{keys_of}
 use Rattle.std.specs.BTreeMap.{is_at}
-use Rattle.std.proofs.Common.{◌≡◌, Bool, true, false, cond, List, [], ◌∷◌, Option, None, Some, refl, sym, ap, ◌∙◌}
-use Rattle.std.proofs.lemmas.Bool.{cond-false}
+use Rattle.std.proofs.Common.{◌≡◌, Bool, true, false, cond, List, [], ◌∷◌, Option, None, Some, refl, sym, ap, ◌∙◌, subst}
+use Rattle.std.proofs.lemmas.Bool.{cond-true, cond-false}
 use Rattle.std.proofs.lemmas.List.Folds.{list_any-append}
 use Rattle.attr_value.specs.Tree.{Attributes}
 use Rattle.row_keys.specs.declared.row_key.RowKey.{RowKey}
@@ -13,15 +13,19 @@ use Rattle.row_keys.specs.KeyLaws.{row_total}
 use Rattle.row_keys.specs.Rows.{Rows, item_at, with_item}
 use Rattle.table_rows.specs.declared.change.Change.{Change}
 use Rattle.table_rows.specs.View.{is_pending, committed}
-use Rattle.table_rows.specs.Slots.{SlotList, has_slot, KeepsOtherSlots}
-use Rattle.table_rows.specs.State.{AreDistinct, HaveSlots}
-use Rattle.table_rows.proofs.Entries.{flip}
+use Rattle.table_rows.specs.Slots.{SlotList, rows_of, has_slot, KeepsOtherSlots}
+use Rattle.table_rows.specs.State.{AreDistinct, AreInStep}
+use Rattle.table_rows.proofs.Entries.{by_bool, at_is, at_self, flip}
 use Rattle.table_rows.proofs.Exact.{row_exact}
 use Rattle.table_rows.proofs.SlotLists.{with_sorted, with_at}
 
 pub or_none : (a b : Bool) → (a || b) ≡ false → (a ≡ false) × (b ≡ false)
 or_none true b e = absurd (cc)
 or_none false b e = (refl, e)
+
+or_false : (a : Bool) → (a || false) ≡ a
+or_false true = refl
+or_false false = refl
 
 pub or_both : (a b : Bool) → a ≡ false → b ≡ false → (a || b) ≡ false
 or_both true b e f = absurd (cc)
@@ -84,19 +88,79 @@ module _ (c : Change) where
       let apart = or_none (is_at (row_order x.key) c.key) false parts.1 in
       ((parts.0, rest.0), or_both (is_at (row_order c.key) x.key) (is_pending cs c.key) (flip row_total row_exact c.key x.key ∙ apart.0) rest.1)
 
-  pub slots_less : (slots : SlotList) (cs : List Change) → HaveSlots slots (cs ++ c ∷ []) → HaveSlots slots cs × (has_slot slots c.key ≡ true)
-  slots_less slots [] all = (tt, all.0)
-  slots_less slots (x ∷ cs) all = let rest = slots_less slots cs all.1 in ((all.0, rest.0), rest.1)
+  -- one change more is of its own key, and of no other
+  own_pending : (cs : List Change) → is_pending (cs ++ c ∷ []) c.key ≡ true
+  own_pending cs =
+      list_any-append (λ change. is_at (row_order c.key) change.key) cs (c ∷ [])
+      ∙ last_true (is_pending cs c.key) (is_at (row_order c.key) c.key) (at_self row_total row_exact c.key)
+    where
+      last_true : (a b : Bool) → b ≡ true → (a || (b || false)) ≡ true
+      last_true true b e = refl
+      last_true false true e = refl
+      last_true false false e = e
+
+  other_pending : (cs : List Change) (q : RowKey) → is_at (row_order c.key) q ≡ false → is_pending (cs ++ c ∷ []) q ≡ is_pending cs q
+  other_pending cs q h =
+      list_any-append (λ change. is_at (row_order q) change.key) cs (c ∷ [])
+      ∙ last_false (is_pending cs q) (is_at (row_order q) c.key) (flip row_total row_exact q c.key ∙ h)
+    where
+      last_false : (a b : Bool) → b ≡ false → (a || (b || false)) ≡ a
+      last_false true b e = refl
+      last_false false true e = e
+      last_false false false e = refl
+
+  -- a change that is prepared has a slot
+  pub slot_there : (slots : SlotList) (cs : List Change) → AreInStep slots (cs ++ c ∷ []) → has_slot slots c.key ≡ true
+  slot_there slots cs step =
+      step c.key ∙ ap (λ b. is_some (item_at (rows_of slots) c.key) || b) (own_pending cs) ∙ either (is_some (item_at (rows_of slots) c.key))
+    where
+      either : (a : Bool) → (a || true) ≡ true
+      either true = refl
+      either false = refl
 
   module _ (old new : SlotList) (keeps : KeepsOtherSlots c.key old new) where
-    pub slots_kept : (cs : List Change) → HaveSlots old cs → is_pending cs c.key ≡ false → HaveSlots new cs
-    slots_kept [] all h = tt
-    slots_kept (x ∷ cs) all h =
-        let parts = or_none (is_at (row_order c.key) x.key) (is_pending cs c.key) h in
-        (keeps x.key parts.0 ∙ all.0, slots_kept cs all.1 parts.1)
+    -- a step at one key keeps the others in step
+    others_in_step : (cs ds : List Change) → ((q : RowKey) → is_at (row_order c.key) q ≡ false → item_at (rows_of new) q ≡ item_at (rows_of old) q)
+        → ((q : RowKey) → is_at (row_order c.key) q ≡ false → is_pending ds q ≡ is_pending cs q) → AreInStep old cs
+        → has_slot new c.key ≡ (is_some (item_at (rows_of new) c.key) || is_pending ds c.key) → AreInStep new ds
+    others_in_step cs ds items changes step own = λ q. by_bool (is_at (row_order c.key) q) _
+        (λ h. subst (λ (k : RowKey). has_slot new k ≡ (is_some (item_at (rows_of new) k) || is_pending ds k)) (at_is row_total row_exact c.key q h) own)
+        (λ h. keeps q h ∙ step q ∙ (λ i. is_some (sym (items q h) i) || sym (changes q h) i))
 
-    pub slots_more : (cs : List Change) → HaveSlots old cs → is_pending cs c.key ≡ false → has_slot new c.key ≡ true → HaveSlots new (cs ++ c ∷ [])
-    slots_more [] all h has = (has, tt)
-    slots_more (x ∷ cs) all h has =
-        let parts = or_none (is_at (row_order c.key) x.key) (is_pending cs c.key) h in
-        (keeps x.key parts.0 ∙ all.0, slots_more cs all.1 parts.1 has)
+    -- one change more is prepared
+    pub more_in_step : (cs : List Change) → rows_of new ≡ rows_of old → AreInStep old cs → has_slot new c.key ≡ true → AreInStep new (cs ++ c ∷ [])
+    more_in_step cs rows step has =
+        others_in_step cs (cs ++ c ∷ []) (λ q h. ap (λ (r : Rows). item_at r q) rows) (other_pending cs) step
+        (has ∙ sym (ap (λ b. is_some (item_at (rows_of new) c.key) || b) (own_pending cs) ∙ either (is_some (item_at (rows_of new) c.key))))
+      where
+        either : (a : Bool) → (a || true) ≡ true
+        either true = refl
+        either false = refl
+
+    -- no change more is
+    pub same_in_step : (cs : List Change) → rows_of new ≡ rows_of old → AreInStep old cs → has_slot new c.key ≡ has_slot old c.key → AreInStep new cs
+    same_in_step cs rows step has =
+        others_in_step cs cs (λ q h. ap (λ (r : Rows). item_at r q) rows) (λ q h. refl) step
+        (has ∙ step c.key ∙ ap (λ (r : Rows). is_some (item_at r c.key) || is_pending cs c.key) (sym rows))
+
+    module _ (cs : List Change) (apart : is_pending cs c.key ≡ false) (step : AreInStep old (cs ++ c ∷ [])) where
+      fewer : (q : RowKey) → is_at (row_order c.key) q ≡ false → is_pending cs q ≡ is_pending (cs ++ c ∷ []) q
+      fewer q h = sym (other_pending cs q h)
+
+      -- the change is made
+      pub made_in_step : IsStrictlySortedBy row_order (keys_of (rows_of old)) → rows_of new ≡ with_item (rows_of old) c.key c.new
+          → has_slot new c.key ≡ is_some c.new → AreInStep new cs
+      made_in_step up rows has =
+          let found : (q : RowKey) → item_at (rows_of new) q ≡ cond (is_at (row_order c.key) q) c.new (item_at (rows_of old) q) =
+          λ q. ap (λ (r : Rows). item_at r q) rows ∙ with_at (rows_of old) c.key c.new up q in
+          let own : item_at (rows_of new) c.key ≡ c.new =
+          found c.key ∙ cond-true (is_at (row_order c.key) c.key) c.new (item_at (rows_of old) c.key) (at_self row_total row_exact c.key) in
+          others_in_step (cs ++ c ∷ []) cs
+          (λ q h. found q ∙ cond-false (is_at (row_order c.key) q) c.new (item_at (rows_of old) q) h) fewer step
+          (has ∙ sym ((λ i. is_some (own i) || apart i) ∙ or_false (is_some c.new)))
+
+      -- the change is given up
+      pub dropped_in_step : rows_of new ≡ rows_of old → has_slot new c.key ≡ is_some (item_at (rows_of old) c.key) → AreInStep new cs
+      dropped_in_step rows has =
+          others_in_step (cs ++ c ∷ []) cs (λ q h. ap (λ (r : Rows). item_at r q) rows) fewer step
+          (has ∙ sym ((λ i. is_some (item_at (rows i) c.key) || apart i) ∙ or_false (is_some (item_at (rows_of old) c.key))))

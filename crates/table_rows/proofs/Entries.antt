@@ -181,3 +181,15 @@ module _ {K X : Type 0} {R : K → K → Ordering} (o : IsTotalOrder R) (exact :
   lookup_out q k es s =
       lookup-remove_entry (eq_by_cmp_equiv o) (is_at (R k)) (λ x y h. ap (λ (z : K). is_at (R z) y) (at_is o exact k x h)) q es
       (IsDistinct-from_sorted R (keys_of es) s)
+
+  -- in order, each entry is what its key finds
+  pub each_found : (es : List (K × X)) → IsStrictlySortedBy R (keys_of es) → AllByRecursion (λ e. lookup (is_at (R e.0)) es ≡ Some e.1) es
+  unfolding IsStrictlySortedBy
+  each_found [] s = tt
+  each_found (e ∷ es) s = (at_head o e es, tail es s.0 (each_found es s.1))
+    where
+      tail : (fs : List (K × X)) → AllByRecursion (λ y. R e.0 y ≡ Less) (keys_of fs) → AllByRecursion (λ f. lookup (is_at (R f.0)) es ≡ Some f.1) fs
+          → AllByRecursion (λ f. cond (is_at (R f.0) e.0) (Some e.1) (lookup (is_at (R f.0)) es) ≡ Some f.1) fs
+      tail [] a b = tt
+      tail (f ∷ fs) a b =
+          (cond-false (is_at (R f.0) e.0) (Some e.1) (lookup (is_at (R f.0)) es) (ap is_eq (back o exact e.0 f.0 Less a.0)) ∙ b.0, tail fs a.1 b.1)

@@ -6,3 +6,6 @@ pub mod Changes
 pub mod Indexes
 pub mod Kept
 pub mod Listed
+pub mod Found
+pub mod Same
+pub mod Looked

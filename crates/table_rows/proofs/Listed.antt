@@ -1,5 +1,5 @@
 -- The places that an index keeps are those of its rows.
-use Rattle.std.specs.Prelude.{◌||◌, ℕ, zero, suc, map, filter, is_some, option_map, slice_get, IfSome}
+use Rattle.std.specs.Prelude.{◌||◌, ℕ, zero, suc, map, filter, is_some, option_map, slice_get}
 use Rattle.std.specs.List.{AllByRecursion}
 use Rattle.std.specs.List.Sorted.{IsStrictlySortedBy}
 use Rattle.std.specs.Map.{keys_of, lookup}
@@ -15,12 +15,11 @@ use Rattle.row_keys.specs.declared.position.Position.{Position}
 use Rattle.row_keys.specs.declared.row_key.RowKey.{RowKey}
 use Rattle.row_keys.specs.Keys.{row_order, position_order}
 use Rattle.row_keys.specs.KeyLaws.{row_total, position_total}
-use Rattle.row_keys.specs.Rows.{Rows, Entries, item_at, position_in, entered, index_of, index_keys}
-use Rattle.table_rows.specs.declared.change.Change.{Change}
-use Rattle.table_rows.specs.Moves.{is_place, comes, spot_of}
-use Rattle.table_rows.specs.Places.{PlaceList, IndexView}
+use Rattle.row_keys.specs.Rows.{Rows, Entries, item_at, position_in, entered, index_of}
+use Rattle.table_rows.specs.Moves.{is_place, comes, spot_of, enters}
+use Rattle.table_rows.specs.Places.{IndexView, places_of, index_over, has_place}
 use Rattle.table_rows.specs.Slots.{SlotList, row_if, rows_of}
-use Rattle.table_rows.specs.State.{told, IsIndex, IsKept}
+use Rattle.table_rows.specs.State.{told, IsIndex, empty_index}
 use Rattle.table_rows.proofs.Entries.{by_bool, clash, false_from, at_is, at_self, past_head, same_entries, sorted_in, lookup_in}
 use Rattle.table_rows.proofs.Exact.{row_exact, position_exact}
 use Rattle.table_rows.proofs.Moved.{spot_key}
@@ -30,7 +29,7 @@ entered_sorted : (p : Option Position) (item : Attributes) (es : Entries) → Is
 entered_sorted None item es s = s
 entered_sorted (Some at) item es s = sorted_in position_total position_exact at item es s
 
-entered_found : (p : Option Position) (item : Attributes) (es : Entries) (q : Position)
+pub entered_found : (p : Option Position) (item : Attributes) (es : Entries) (q : Position)
     → lookup (is_at (position_order q)) (entered p item es) ≡ cond (is_place p q) (Some item) (lookup (is_at (position_order q)) es)
 entered_found None item es q = refl
 entered_found (Some at) item es q = lookup_in position_total position_exact q at item es
@@ -91,50 +90,87 @@ index_has schema keys rows s q =
     ap is_some (index_found schema keys rows s q)
     ∙ told_some (told schema keys rows q) (item_at rows q.item) (spot_some schema keys q (item_at rows q.item))
 
--- entries without their items
-abbrev pub units : Entries → PlaceList
-units es = map (λ e. (e.0, tt)) es
+keys_of_places : (es : Entries) → keys_of (places_of es) ≡ keys_of es
+keys_of_places [] = refl
+keys_of_places (e ∷ es) = ap (λ l. e.0 ∷ l) (keys_of_places es)
 
-keys_units : (es : Entries) → keys_of (units es) ≡ keys_of es
-keys_units [] = refl
-keys_units (e ∷ es) = ap (λ l. e.0 ∷ l) (keys_units es)
-
-found_units : (test : Position → Bool) (es : Entries) → is_some (lookup test (units es)) ≡ is_some (lookup test es)
-found_units test [] = refl
-found_units test (e ∷ es) = go (test e.0) (found_units test es)
+found_in_places : (test : Position → Bool) (es : Entries) → is_some (lookup test (places_of es)) ≡ is_some (lookup test es)
+found_in_places test [] = refl
+found_in_places test (e ∷ es) = go (test e.0) (found_in_places test es)
   where
-    go : (b : Bool) → is_some (lookup test (units es)) ≡ is_some (lookup test es)
-        → is_some (cond b (Some tt) (lookup test (units es))) ≡ is_some (cond b (Some e.1) (lookup test es))
+    go : (b : Bool) → is_some (lookup test (places_of es)) ≡ is_some (lookup test es)
+        → is_some (cond b (Some tt) (lookup test (places_of es))) ≡ is_some (cond b (Some e.1) (lookup test es))
     go true h = refl
     go false h = h
 
-same_units : (a b : Option (Unit {0})) → is_some a ≡ is_some b → a ≡ b
-same_units None None e = refl
-same_units None (Some u) e = absurd (cc)
-same_units (Some u) None e = absurd (cc)
-same_units (Some u) (Some v) e = refl
+pub same_unit : (a b : Option (Unit {0})) → is_some a ≡ is_some b → a ≡ b
+same_unit None None e = refl
+same_unit None (Some u) e = absurd (cc)
+same_unit (Some u) None e = absurd (cc)
+same_unit (Some u) (Some v) e = refl
 
-or_false : (a : Bool) → (a || false) ≡ a
+pub or_false : (a : Bool) → (a || false) ≡ a
 or_false true = refl
 or_false false = refl
 
 -- where nothing is prepared, an index keeps the places of its rows
 pub places_are : (schema : Schema) (rows : Rows) (x : IndexView) → IsStrictlySortedBy row_order (keys_of rows)
-    → IsStrictlySortedBy position_order (keys_of x.places) → IsIndex schema rows [] x → x.places ≡ units (index_of schema x.keys rows)
+    → IsStrictlySortedBy position_order (keys_of x.places) → IsIndex schema rows [] x → x.places ≡ places_of (index_of schema x.keys rows)
 places_are schema rows x s up is =
-    same_entries position_total position_exact x.places (units (index_of schema x.keys rows)) up
-    (subst (IsStrictlySortedBy position_order) (sym (keys_units (index_of schema x.keys rows))) (index_sorted schema x.keys rows))
-    (λ q. same_units (lookup (is_at (position_order q)) x.places) (lookup (is_at (position_order q)) (units (index_of schema x.keys rows)))
+    same_entries position_total position_exact x.places (places_of (index_of schema x.keys rows)) up
+    (subst (IsStrictlySortedBy position_order) (sym (keys_of_places (index_of schema x.keys rows))) (index_sorted schema x.keys rows))
+    (λ q. same_unit (lookup (is_at (position_order q)) x.places) (lookup (is_at (position_order q)) (places_of (index_of schema x.keys rows)))
     (is.places q ∙ ap (λ ms. told schema x.keys rows q || comes ms q) is.moves ∙ or_false (told schema x.keys rows q)
-    ∙ sym (found_units (is_at (position_order q)) (index_of schema x.keys rows) ∙ index_has schema x.keys rows s q)))
+    ∙ sym (found_in_places (is_at (position_order q)) (index_of schema x.keys rows) ∙ index_has schema x.keys rows s q)))
 
-filter_units : (p : Position → Bool) (es : Entries) → filter (λ e. p e.0) (units es) ≡ units (filter (λ e. p e.0) es)
-filter_units p [] = refl
-filter_units p (e ∷ es) = go (p e.0) (filter_units p es)
+-- the index of rows is in step with them
+pub over_in_step : (schema : Schema) (keys : KeyNames) (rows : Rows) → IsStrictlySortedBy row_order (keys_of rows)
+    → IsIndex schema rows [] (index_over schema rows keys)
+over_in_step schema keys rows s = record {
+  moves = refl;
+  places = λ q. found_in_places (is_at (position_order q)) (index_of schema keys rows) ∙ index_has schema keys rows s q
+      ∙ sym (or_false (told schema keys rows q));
+}
+
+-- the places that the items in slots enter are those of the index
+enters_are : (schema : Schema) (keys : KeyNames) (slots : SlotList) (q : Position)
+    → enters schema keys slots q ≡ is_some (lookup (is_at (position_order q)) (index_of schema keys (rows_of slots)))
+enters_are schema keys [] q = refl
+enters_are schema keys (slot ∷ slots) q = go slot.1 (enters_are schema keys slots q)
   where
-    go : (b : Bool) → filter (λ e. p e.0) (units es) ≡ units (filter (λ e. p e.0) es)
-        → cond b ((e.0, tt) ∷ filter (λ e. p e.0) (units es)) (filter (λ e. p e.0) (units es))
-        ≡ units (cond b (e ∷ filter (λ e. p e.0) es) (filter (λ e. p e.0) es))
+    some_if : (b : Bool) (item : Attributes) (l : Option Attributes) → (b || is_some l) ≡ is_some (cond b (Some item) l)
+    some_if true item l = refl
+    some_if false item l = refl
+
+    go : (item : Option Attributes) → enters schema keys slots q ≡ is_some (lookup (is_at (position_order q)) (index_of schema keys (rows_of slots)))
+        → (is_place (spot_of schema keys slot.0 item) q || enters schema keys slots q)
+        ≡ is_some (lookup (is_at (position_order q)) (index_of schema keys (row_if slot.0 item (rows_of slots))))
+    go None h = h
+    go (Some item) h =
+        ap (λ b. is_place (position_in schema keys slot.0 item) q || b) h
+        ∙ some_if (is_place (position_in schema keys slot.0 item) q) item (lookup (is_at (position_order q)) (index_of schema keys (rows_of slots)))
+        ∙ ap is_some (sym (entered_found (position_in schema keys slot.0 item) item (index_of schema keys (rows_of slots)) q))
+
+-- an index without places, into which those of all slots were entered, is the index of the rows
+pub filled_over : (schema : Schema) (keys : KeyNames) (slots : SlotList) (old new : IndexView) → old ≡ empty_index keys → new.keys ≡ old.keys → new.moves ≡ old.moves
+    → ((q : Position) → has_place new.places q ≡ (has_place old.places q || enters schema old.keys slots q))
+    → IsStrictlySortedBy position_order (keys_of new.places) → new ≡ index_over schema (rows_of slots) keys
+filled_over schema keys slots old new empty same moves places up =
+    let rest : new.places ≡ places_of (index_of schema keys (rows_of slots)) =
+    same_entries position_total position_exact new.places (places_of (index_of schema keys (rows_of slots))) up
+    (subst (IsStrictlySortedBy position_order) (sym (keys_of_places (index_of schema keys (rows_of slots)))) (index_sorted schema keys (rows_of slots)))
+    (λ q. same_unit (lookup (is_at (position_order q)) new.places) (lookup (is_at (position_order q)) (places_of (index_of schema keys (rows_of slots))))
+    (places q ∙ (λ i. has_place (empty i).places q || enters schema (empty i).keys slots q) ∙ enters_are schema keys slots q
+    ∙ sym (found_in_places (is_at (position_order q)) (index_of schema keys (rows_of slots))))) in
+    λ i. record { keys = (same ∙ ap (λ (x : IndexView). x.keys) empty) i; places = rest i; moves = (moves ∙ ap (λ (x : IndexView). x.moves) empty) i }
+
+filter_places : (p : Position → Bool) (es : Entries) → filter (λ e. p e.0) (places_of es) ≡ places_of (filter (λ e. p e.0) es)
+filter_places p [] = refl
+filter_places p (e ∷ es) = go (p e.0) (filter_places p es)
+  where
+    go : (b : Bool) → filter (λ e. p e.0) (places_of es) ≡ places_of (filter (λ e. p e.0) es)
+        → cond b ((e.0, tt) ∷ filter (λ e. p e.0) (places_of es)) (filter (λ e. p e.0) (places_of es))
+        ≡ places_of (cond b (e ∷ filter (λ e. p e.0) es) (filter (λ e. p e.0) es))
     go true h = ap (λ l. (e.0, tt) ∷ l) h
     go false h = h
 
@@ -157,8 +193,8 @@ pub rows_in_range : (low high : Bound RowKey) (slots : SlotList) → rows_of (en
 rows_in_range low high slots = filter_rows (range_contains row_order low high) slots
 
 -- a range of places is a range of the index
-pub places_in_range : (low high : Bound Position) (es : Entries) → entries_between position_order low high (units es) ≡ units (entries_between position_order low high es)
-places_in_range low high es = filter_units (range_contains position_order low high) es
+pub places_in_range : (low high : Bound Position) (es : Entries) → entries_between position_order low high (places_of es) ≡ places_of (entries_between position_order low high es)
+places_in_range low high es = filter_places (range_contains position_order low high) es
 
 -- ---- the index of a number
 
@@ -170,26 +206,7 @@ nth P (y ∷ ys) zero x all h = subst P (the_same h) all.0
     the_same e = cc
 nth P (y ∷ ys) (suc n) x all h = nth P ys n x all.1 h
 
-keys_at : (xs : List IndexView) (n : ℕ) (x : IndexView) → slice_get xs n ≡ Some x → slice_get (map (λ y. y.keys) xs) n ≡ Some x.keys
+pub keys_at : (xs : List IndexView) (n : ℕ) (x : IndexView) → slice_get xs n ≡ Some x → slice_get (map (λ y. y.keys) xs) n ≡ Some x.keys
 keys_at [] n x h = absurd (cc)
 keys_at (y ∷ ys) zero x h = ap (option_map (λ (v : IndexView). v.keys)) h
 keys_at (y ∷ ys) (suc n) x h = keys_at ys n x h
-
-module _ (schema : Schema) (slots : SlotList) (pending : List Change) (xs : List IndexView) (kept : IsKept schema slots pending xs) (none : pending ≡ [])
-    (n : ℕ) (x : IndexView) (found : slice_get xs n ≡ Some x) (up : IsStrictlySortedBy position_order (keys_of x.places)) (low high : Bound Position) where
-  in_range : keys_of (entries_between position_order low high x.places)
-      ≡ keys_of (entries_between position_order low high (index_of schema x.keys (rows_of slots)))
-  in_range =
-      let is : IsIndex schema (rows_of slots) [] x = subst (λ p. IsIndex schema (rows_of slots) p x) none (nth (IsIndex schema (rows_of slots) pending) xs n x kept.in_step found) in
-      ap (λ (es : PlaceList). keys_of (entries_between position_order low high es)) (places_are schema (rows_of slots) x kept.ordered up is)
-      ∙ ap keys_of (places_in_range low high (index_of schema x.keys (rows_of slots)))
-      ∙ keys_units (entries_between position_order low high (index_of schema x.keys (rows_of slots)))
-
-  -- the places of the index in a range are those of its rows
-  pub index_range : IfSome (slice_get (index_keys schema) n) (λ keys. keys_of (entries_between position_order low high x.places)
-      ≡ keys_of (entries_between position_order low high (index_of schema keys (rows_of slots))))
-  index_range =
-      subst (λ ks. IfSome (slice_get ks n) (λ keys. keys_of (entries_between position_order low high x.places)
-      ≡ keys_of (entries_between position_order low high (index_of schema keys (rows_of slots))))) kept.have_keys
-      (subst (λ o. IfSome o (λ keys. keys_of (entries_between position_order low high x.places)
-      ≡ keys_of (entries_between position_order low high (index_of schema keys (rows_of slots))))) (sym (keys_at xs n x found)) in_range)

@@ -11,7 +11,7 @@ use Rattle.row_keys.specs.declared.row_key.RowKey.{RowKey}
 use Rattle.row_keys.specs.Keys.{row_order}
 use Rattle.row_keys.specs.KeyLaws.{row_total}
 use Rattle.row_keys.specs.Rows.{Rows, item_at, with_item}
-use Rattle.table_rows.specs.Slots.{SlotList, row_if, rows_of}
+use Rattle.table_rows.specs.Slots.{SlotList, row_if, rows_of, has_slot}
 use Rattle.table_rows.proofs.Entries.{by_bool, past_head, same_entries, sorted_in, lookup_in, sorted_out, lookup_out}
 use Rattle.table_rows.proofs.Exact.{row_exact}
 
@@ -60,6 +60,15 @@ rows_at (slot ∷ slots) s q = by_bool (is_at (row_order q) slot.0) _
     ∙ ap item_in (sym (cond-true (is_at (row_order q) slot.0) (Some slot.1) (lookup (is_at (row_order q)) slots) h)))
     (λ h. passed slot slots q slot.1 h ∙ rows_at slots s.1 q
     ∙ ap item_in (sym (cond-false (is_at (row_order q) slot.0) (Some slot.1) (lookup (is_at (row_order q)) slots) h)))
+
+-- where there is an item there is a slot
+pub slot_filled : (slots : SlotList) → IsStrictlySortedBy row_order (keys_of slots) → (q : RowKey) → is_some (item_at (rows_of slots) q) ≡ true
+    → has_slot slots q ≡ is_some (item_at (rows_of slots) q)
+slot_filled slots up q there = go (lookup (is_at (row_order q)) slots) (ap is_some (sym (rows_at slots up q)) ∙ there) ∙ sym there
+  where
+    go : (slot : Option (Option Attributes)) → is_some (item_in slot) ≡ true → is_some slot ≡ true
+    go None h = absurd (cc)
+    go (Some item) h = refl
 
 pub with_sorted : (rows : Rows) (k : RowKey) (item : Option Attributes) → IsStrictlySortedBy row_order (keys_of rows)
     → IsStrictlySortedBy row_order (keys_of (with_item rows k item))

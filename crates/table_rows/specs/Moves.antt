@@ -10,6 +10,7 @@ use Rattle.row_keys.specs.declared.row_key.RowKey.{RowKey}
 use Rattle.row_keys.specs.Keys.{position_order}
 use Rattle.row_keys.specs.Rows.{position_in}
 use Rattle.table_rows.specs.declared.moves.Move.{Move}
+use Rattle.table_rows.specs.Slots.{SlotList}
 
 -- the place is this one
 abbrev pub is_place : Option Position → Position → Bool
@@ -32,6 +33,10 @@ spot_of schema keys key item = option_and_then (position_in schema keys key) ite
 -- what a change of the item of a key moves
 abbrev pub move_in : Schema → KeyNames → RowKey → Option Attributes → Option Attributes → Move
 move_in schema keys key old new = move_of (spot_of schema keys key old) (spot_of schema keys key new)
+
+-- some slot has an item that stands at the place
+abbrev pub enters : Schema → KeyNames → SlotList → Position → Bool
+enters schema keys slots place = list_any (λ slot. is_place (spot_of schema keys slot.0 slot.1) place) slots
 
 -- some move brings the place
 abbrev pub comes : List Move → Position → Bool

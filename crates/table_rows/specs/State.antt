@@ -1,11 +1,12 @@
 -- What is kept in a table: slots, changes that are prepared, and indexes in step with the rows.
-use Rattle.std.specs.Prelude.{◌≡◌, List, [], ◌∷◌, ◌++◌, map, Bool, true, false, not, ◌&&◌, ◌||◌, ⊤}
+use Rattle.std.specs.Prelude.{◌≡◌, List, [], ◌∷◌, ◌++◌, map, Bool, true, false, not, ◌&&◌, ◌||◌, ⊤, is_some}
 use Rattle.std.specs.List.{AllByRecursion}
 use Rattle.std.specs.List.Sorted.{IsStrictlySortedBy}
 use Rattle.std.specs.Map.{keys_of}
 use Rattle.table_schema.specs.declared.keys.KeyNames.{KeyNames}
 use Rattle.table_schema.specs.declared.schema.Schema.{Schema}
 use Rattle.row_keys.specs.declared.position.Position.{Position}
+use Rattle.row_keys.specs.declared.row_key.RowKey.{RowKey}
 use Rattle.row_keys.specs.Keys.{row_order, position_order}
 use Rattle.row_keys.specs.Rows.{Rows, item_at, index_keys}
 use Rattle.table_rows.specs.declared.change.Change.{Change}
@@ -33,15 +34,15 @@ abbrev pub AreDistinct : List Change → Type 0
 AreDistinct [] = ⊤
 AreDistinct (change ∷ changes) = (is_pending changes change.key ≡ false) × AreDistinct changes
 
--- each change has a slot for its item
-abbrev pub HaveSlots : SlotList → List Change → Type 0
-HaveSlots slots changes = AllByRecursion (λ change. has_slot slots change.key ≡ true) changes
+-- a key has a slot exactly where it has an item or a change of its item is prepared
+abbrev pub AreInStep : SlotList → List Change → Type 0
+AreInStep slots changes = (key : RowKey) → has_slot slots key ≡ (is_some (item_at (rows_of slots) key) || is_pending changes key)
 
 -- what is kept belongs together
 pub record IsKept (schema : Schema) (slots : SlotList) (pending : List Change) (indexes : List IndexView) : Type 0 where
   pub ordered : IsStrictlySortedBy row_order (keys_of (rows_of slots))
   pub distinct : AreDistinct pending
-  pub have_slots : HaveSlots slots pending
+  pub slots_in_step : AreInStep slots pending
   pub have_keys : map (λ index. index.keys) indexes ≡ index_keys schema
   pub in_step : AllByRecursion (IsIndex schema (rows_of slots) pending) indexes
 

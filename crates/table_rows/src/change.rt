@@ -1,5 +1,8 @@
 //! Changes of items.
 
+ghost use Rattle.std.specs.Prelude.{◌≡◌};
+ghost use Rattle.table_rows.specs.View.{is_pending};
+
 use attr_value::Item;
 use row_keys::RowKey;
 
@@ -8,4 +11,16 @@ use row_keys::RowKey;
 pub struct Change {
     pub key: RowKey,
     pub new: Option<Item>,
+}
+
+/// Whether one of the changes is of the item at this key.
+pub(crate) fn is_pending(changes: &[Change], key: &RowKey) -> bool
+    ensures { result ≡ is_pending changes.now key.now }
+{
+    for change in changes {
+        if key.cmp(&change.key).is_eq() {
+            return true;
+        }
+    }
+    false
 }

@@ -7,12 +7,14 @@ ghost use Rattle.std.specs.Map.{keys_of};
 ghost use Rattle.std.specs.BTreeMap.Range.{entries_between};
 ghost use Rattle.std.specs.Range.Bound.{bound_map};
 ghost use Rattle.row_keys.specs.Keys.{position_order};
-ghost use Rattle.table_rows.specs.Moves.{is_place, spot_of, move_in};
-ghost use Rattle.table_rows.specs.Places.{has_place};
+ghost use Rattle.table_rows.specs.Moves.{is_place, spot_of, move_in, enters};
+ghost use Rattle.table_rows.specs.Places.{has_place, index_over};
+ghost use Rattle.table_rows.specs.Slots.{rows_of};
 ghost use Rattle.table_rows.specs.State.{empty_index, IsHeld, IsFresh, IsSettled, IsUndone};
 
 use crate::change::Change;
 use crate::moves::Move;
+use crate::slots::Slots;
 use attr_value::Item;
 use paging::MapRange;
 use row_keys::{Position, RowKey, position_of};
@@ -83,6 +85,37 @@ impl Index {
         ensures ordered { IsStrictlySortedBy position_order (keys_of self.now.places) }
     {
         MapRange::new(&self.places, low, high)
+    }
+
+    /// The index of these rows, whose key has these names. A row costs the logarithm of the rows.
+    pub fn over(
+        alloc: Global,
+        schema: &Schema,
+        keys: KeyNames,
+        slots: &Slots,
+    ) -> Result<Index, NoMemory>
+        ensures { IfOk result (λ index. index ≡ index_over schema.now (rows_of slots.now) keys) }
+    {
+        let mut index = Index::new(alloc, keys);
+        index.fill(alloc, schema, slots)?;
+        Ok(index)
+    }
+
+    /// Enters the places of all rows.
+    fn fill(&mut self, alloc: Global, schema: &Schema, slots: &Slots) -> Result<(), NoMemory>
+        ensures keys { self.new.keys ≡ self.old.keys }
+        ensures moves { self.new.moves ≡ self.old.moves }
+        ensures places { OnOk result ((q : _) → has_place self.new.places q
+            ≡ (has_place self.old.places q || enters schema.now self.old.keys slots.now q)) }
+        ensures ordered { IsStrictlySortedBy position_order (keys_of self.new.places) }
+    {
+        for (key, slot) in slots.iter() {
+            let come = spot_of(alloc, schema, &self.keys, key, slot.as_ref())?;
+            self.enter(come)?;
+        }
+        // What `len` tells of a map: that its keys ascend.
+        let _ = self.places.len();
+        Ok(())
     }
 
     /// Adds a place, if there is one and it is not there. Where memory is refused nothing changes.

@@ -8,15 +8,22 @@
 //! stay as they are. [`TableRows::commit`] makes all changes that are prepared, and [`TableRows::abort`] drops them, both
 //! without memory. A write of one item is one change, and a transaction prepares many and commits them together.
 //!
+//! Where nothing is prepared, [`TableRows::rows`] and [`TableRows::index_rows`] are walks over the rows between two ends, of
+//! which `paging` fills a page, and [`TableRows::change_schema`] gives the table other indexes.
+//!
 //! `specs/View.antt` says what a table shows.
 #![tactic(auto)]
 
 mod change;
 mod index;
+mod index_range;
 mod moves;
 mod prepare;
+mod row_range;
 mod slots;
 mod table;
 
 pub use change::Change;
+pub use index_range::IndexRange;
+pub use row_range::RowRange;
 pub use table::TableRows;

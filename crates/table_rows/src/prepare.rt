@@ -1,11 +1,14 @@
 //! Changes on all indexes of a table, its slots and what is prepared.
 
-ghost use Rattle.std.specs.Prelude.{◌≡◌, true, [], ◌∷◌, ◌++◌, OnOk, OnErr};
+ghost use Rattle.std.specs.Prelude.{◌≡◌, true, [], ◌∷◌, ◌++◌, is_some, OnOk, OnErr};
 ghost use Rattle.std.specs.List.{AllZip, AllByRecursion};
+ghost use Rattle.std.specs.List.Sorted.{IsStrictlySortedBy};
+ghost use Rattle.std.specs.Map.{keys_of};
+ghost use Rattle.row_keys.specs.Keys.{row_order};
 ghost use Rattle.row_keys.specs.Rows.{with_item};
 ghost use Rattle.table_rows.specs.View.{committed};
-ghost use Rattle.table_rows.specs.Slots.{rows_of, has_slot, KeepsOtherSlots};
-ghost use Rattle.table_rows.specs.State.{AreDistinct, HaveSlots, IsFresh, IsHeld, IsSettled, IsUndone, step_in};
+ghost use Rattle.table_rows.specs.Slots.{rows_of, has_slot, IsFilled, KeepsOtherSlots};
+ghost use Rattle.table_rows.specs.State.{AreDistinct, AreInStep, IsFresh, IsHeld, IsSettled, IsUndone, step_in};
 
 use crate::change::Change;
 use crate::index::Index;
@@ -14,13 +17,15 @@ use base_types::Seq;
 use std::alloc::{AllocError as NoMemory, Global};
 use table_schema::Schema;
 
-/// Makes the slot of a change and holds the change. Where memory is refused it is not held.
+/// Makes the slot of a change and holds the change. Where memory is refused it is not held, and no slot is left.
 fn hold(slots: &mut Slots, pending: &mut Seq<Change>, change: Change) -> Result<(), NoMemory>
+    requires { IsFilled slots.old change.key }
     ensures rows { rows_of slots.new ≡ rows_of slots.old }
     ensures others { KeepsOtherSlots change.key slots.old slots.new }
     ensures slot { OnOk result (has_slot slots.new change.key ≡ true) }
     ensures pending { OnOk result (pending.new ≡ pending.old ++ change ∷ []) }
     ensures err { OnErr result (pending.new ≡ pending.old) }
+    ensures err_slot { OnErr result (has_slot slots.new change.key ≡ has_slot slots.old change.key) }
 {
     slots.reserve(change.key.try_clone()?)?;
     match pending.push(change) {
@@ -43,6 +48,7 @@ pub(crate) fn prepare_in(
     pending: &mut Seq<Change>,
     change: Change,
 ) -> Result<(), NoMemory>
+    requires filled { IsFilled slots.old change.key }
     requires fresh { AllByRecursion (λ index. IsFresh (step_in schema.now (rows_of slots.old) change index) index) indexes.old }
     ensures rows { rows_of slots.new ≡ rows_of slots.old }
     ensures others { KeepsOtherSlots change.key slots.old slots.new }
@@ -50,6 +56,7 @@ pub(crate) fn prepare_in(
     ensures pending { OnOk result (pending.new ≡ pending.old ++ change ∷ []) }
     ensures indexes { OnOk result
         (AllZip (λ old new. IsHeld (step_in schema.now (rows_of slots.old) change old) old new) indexes.old indexes.new) }
+    ensures err_slot { OnErr result (has_slot slots.new change.key ≡ has_slot slots.old change.key) }
     ensures err_pending { OnErr result (pending.new ≡ pending.old) }
     ensures err_indexes { OnErr result (indexes.new ≡ indexes.old) }
 {
@@ -92,6 +99,7 @@ pub(crate) fn undo_all(indexes: &mut [Index])
 fn make(slots: &mut Slots, change: Change)
     requires { has_slot slots.old change.key ≡ true }
     ensures rows { rows_of slots.new ≡ with_item (rows_of slots.old) change.key change.new }
+    ensures slot { has_slot slots.new change.key ≡ is_some change.new }
     ensures others { KeepsOtherSlots change.key slots.old slots.new }
 {
     let Change { key, new } = change;
@@ -106,9 +114,11 @@ fn make(slots: &mut Slots, change: Change)
 
 /// Makes what is prepared.
 pub(crate) fn make_all(slots: &mut Slots, pending: &mut Seq<Change>)
+    requires ordered { IsStrictlySortedBy row_order (keys_of (rows_of slots.old)) }
     requires distinct { AreDistinct pending.old }
-    requires slots { HaveSlots slots.old pending.old }
+    requires slots { AreInStep slots.old pending.old }
     ensures rows { rows_of slots.new ≡ committed (rows_of slots.old) pending.old }
+    ensures slots { AreInStep slots.new [] }
     ensures pending { pending.new ≡ [] }
 {
     while let Some(change) = pending.pop() {
@@ -118,7 +128,10 @@ pub(crate) fn make_all(slots: &mut Slots, pending: &mut Seq<Change>)
 
 /// Drops what is prepared, with the slots that have no item.
 pub(crate) fn release_all(slots: &mut Slots, pending: &mut Seq<Change>)
+    requires distinct { AreDistinct pending.old }
+    requires slots { AreInStep slots.old pending.old }
     ensures rows { rows_of slots.new ≡ rows_of slots.old }
+    ensures slots { AreInStep slots.new [] }
     ensures pending { pending.new ≡ [] }
 {
     while let Some(change) = pending.pop() {

@@ -1,7 +1,9 @@
 //! The rows of a table with room for rows that are prepared.
 
-ghost use Rattle.std.specs.Prelude.{◌≡◌, [], true, None, Some, OnOk};
+ghost use Rattle.std.specs.Prelude.{◌≡◌, [], true, false, None, Some, is_some, OnOk, OnErr};
 ghost use Rattle.std.specs.Option.{option_copied};
+ghost use Rattle.std.specs.List.Sorted.{IsStrictlySortedBy};
+ghost use Rattle.std.specs.Map.{keys_of};
 ghost use Rattle.std.specs.BTreeMap.Range.{entries_between};
 ghost use Rattle.std.specs.Range.Bound.{bound_map};
 ghost use Rattle.row_keys.specs.Keys.{row_order};
@@ -13,6 +15,7 @@ use paging::MapRange;
 use row_keys::RowKey;
 use std::alloc::{AllocError as NoMemory, Global};
 use std::collections::BTreeMap;
+use std::collections::btree_map::Iter;
 use std::marker::Model;
 use std::ops::Bound;
 
@@ -65,15 +68,24 @@ impl Slots {
         low: Bound<&'a RowKey>,
         high: Bound<&'a RowKey>,
     ) -> MapRange<'a, RowKey, Option<Item>>
-        ensures { result ≡ entries_between row_order (bound_map (λ end. end.now) low.entry) (bound_map (λ end. end.now) high.entry) self.now }
+        ensures slots { result ≡ entries_between row_order (bound_map (λ end. end.now) low.entry) (bound_map (λ end. end.now) high.entry) self.now }
+        ensures ordered { IsStrictlySortedBy row_order (keys_of self.now) }
     {
         MapRange::new(&self.slots, low, high)
+    }
+
+    /// The slots in the order of their keys.
+    pub fn iter(&self) -> Iter<'_, RowKey, Option<Item>>
+        ensures { result ≡ self.now }
+    {
+        self.slots.iter()
     }
 
     /// Makes a slot for a key, where it has none. Where memory is refused nothing changes.
     pub fn reserve(&mut self, key: RowKey) -> Result<(), NoMemory>
         ensures rows { rows_of self.new ≡ rows_of self.old }
         ensures slot { OnOk result (has_slot self.new key ≡ true) }
+        ensures err { OnErr result (self.new ≡ self.old) }
         ensures others { KeepsOtherSlots key self.old self.new }
     {
         if self.slots.contains_key(&key) {
@@ -93,6 +105,7 @@ impl Slots {
     pub fn write(&mut self, key: RowKey, item: Item)
         requires { has_slot self.old key ≡ true }
         ensures rows { rows_of self.new ≡ with_item (rows_of self.old) key (Some item) }
+        ensures slot { has_slot self.new key ≡ true }
         ensures others { KeepsOtherSlots key self.old self.new }
     {
         // Only a key without a slot can want memory.
@@ -102,6 +115,7 @@ impl Slots {
     /// Takes out the item at a key, with its slot.
     pub fn clear(&mut self, key: &RowKey)
         ensures rows { rows_of self.new ≡ with_item (rows_of self.old) key.now None }
+        ensures slot { has_slot self.new key.now ≡ false }
         ensures others { KeepsOtherSlots key.now self.old self.new }
     {
         drop(self.slots.remove(key));
@@ -110,6 +124,7 @@ impl Slots {
     /// Takes out the slot of a key, where it has no item.
     pub fn release(&mut self, key: &RowKey)
         ensures rows { rows_of self.new ≡ rows_of self.old }
+        ensures slot { has_slot self.new key.now ≡ is_some (item_at (rows_of self.old) key.now) }
         ensures others { KeepsOtherSlots key.now self.old self.new }
     {
         if self.get(key).is_some() {

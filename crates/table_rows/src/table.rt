@@ -1,65 +1,87 @@
 //! Tables.
 
-ghost use Rattle.std.specs.Prelude.{◌≡◌, [], ◌∷◌, ◌++◌, map, slice_get, false, None, IfNone, IfSome, IfOk, OnOk, OnErr};
+ghost use Rattle.std.specs.Prelude.{◌≡◌, [], ◌∷◌, ◌++◌, map, slice_get, false, None, IfNone, IfSome, IfOk, OnOk, OnErr, IsTrue};
 ghost use Rattle.std.specs.Option.{option_copied};
-ghost use Rattle.std.specs.Map.{keys_of};
 ghost use Rattle.std.specs.BTreeMap.Range.{entries_between};
 ghost use Rattle.std.specs.Range.Bound.{bound_map};
 ghost use Rattle.row_keys.specs.Keys.{row_order, position_order};
 ghost use Rattle.row_keys.specs.Rows.{item_at, index_of, index_keys};
 ghost use Rattle.table_rows.specs.Slots.{rows_of};
 ghost use Rattle.table_rows.specs.View.{is_pending, committed};
-ghost use Rattle.table_rows.specs.State.{empty_index};
+ghost use Rattle.table_rows.specs.Places.{index_over};
 
-use crate::change::Change;
+use crate::change::{Change, is_pending};
 use crate::index::Index;
+use crate::index_range::IndexRange;
 use crate::prepare::{make_all, prepare_in, release_all, settle_all, undo_all};
+use crate::row_range::RowRange;
 use crate::slots::Slots;
 use attr_value::Item;
 use base_types::Seq;
-use paging::MapRange;
 use row_keys::{Position, RowKey};
 use std::alloc::{AllocError as NoMemory, Global};
 use std::marker::Model;
+use std::mem::replace;
 use std::ops::Bound;
 use table_schema::{GlobalIndex, LocalIndex, Schema};
 
-/// Adds an empty index for each local index.
+/// Adds the index of the rows for each local index.
 fn add_locals(
     alloc: Global,
     indexes: &mut Seq<Index>,
     locals: &[LocalIndex],
+    schema: &Schema,
+    slots: &Slots,
 ) -> Result<(), NoMemory>
-    ensures { OnOk result (indexes.new ≡ indexes.old ++ map (λ index. empty_index index.keys) locals.now) }
+    ensures { OnOk result (indexes.new ≡ indexes.old ++ map (λ index. index_over schema.now (rows_of slots.now) index.keys) locals.now) }
 {
     for index in locals {
-        indexes.push(Index::new(alloc, index.keys.try_clone()?))?;
+        indexes.push(Index::over(alloc, schema, index.keys.try_clone()?, slots)?)?;
     }
     Ok(())
 }
 
-/// Adds an empty index for each global index.
+/// Adds the index of the rows for each global index.
 fn add_globals(
     alloc: Global,
     indexes: &mut Seq<Index>,
     globals: &[GlobalIndex],
+    schema: &Schema,
+    slots: &Slots,
 ) -> Result<(), NoMemory>
-    ensures { OnOk result (indexes.new ≡ indexes.old ++ map (λ index. empty_index index.keys) globals.now) }
+    ensures { OnOk result (indexes.new ≡ indexes.old ++ map (λ index. index_over schema.now (rows_of slots.now) index.keys) globals.now) }
 {
     for index in globals {
-        indexes.push(Index::new(alloc, index.keys.try_clone()?))?;
+        indexes.push(Index::over(alloc, schema, index.keys.try_clone()?, slots)?)?;
     }
     Ok(())
 }
 
-/// The indexes of a table without rows, those that are local first.
-fn indexes_of(alloc: Global, schema: &Schema) -> Result<Seq<Index>, NoMemory>
-    ensures { IfOk result (λ indexes. indexes ≡ map empty_index (index_keys schema.now)) }
+/// The indexes of a table with these rows, those that are local first.
+fn indexes_of(alloc: Global, schema: &Schema, slots: &Slots) -> Result<Seq<Index>, NoMemory>
+    ensures { IfOk result (λ indexes. indexes ≡ map (index_over schema.now (rows_of slots.now)) (index_keys schema.now)) }
 {
     let mut indexes = Seq::new(alloc);
-    add_locals(alloc, &mut indexes, schema.locals.as_slice())?;
-    add_globals(alloc, &mut indexes, schema.globals.as_slice())?;
+    add_locals(alloc, &mut indexes, schema.locals.as_slice(), schema, slots)?;
+    add_globals(
+        alloc,
+        &mut indexes,
+        schema.globals.as_slice(),
+        schema,
+        slots,
+    )?;
     Ok(indexes)
+}
+
+/// Whether each row stands at the same place in the same indexes by both schemas.
+fn have_same_indexes(old: &Schema, new: &Schema) -> bool
+    ensures definitions { IsTrue result → old.now.definitions ≡ new.now.definitions }
+    ensures keys { IsTrue result → index_keys old.now ≡ index_keys new.now }
+{
+    if old.definitions != new.definitions {
+        return false;
+    }
+    old.locals == new.locals && old.globals == new.globals
 }
 
 /// A table: its schema, its rows in the order of a Scan, and the changes that are prepared.
@@ -94,10 +116,11 @@ impl TableRows {
     pub fn new(alloc: Global, schema: Schema) -> Result<TableRows, NoMemory>
         ensures { IfOk result (λ table. table ≡ record { schema = schema; rows = []; pending = [] }) }
     {
-        let indexes = indexes_of(alloc, &schema)?;
+        let slots = Slots::new(alloc);
+        let indexes = indexes_of(alloc, &schema, &slots)?;
         Ok(TableRows {
             schema,
-            slots: Slots::new(alloc),
+            slots,
             pending: Seq::new(alloc),
             indexes,
         })
@@ -117,36 +140,60 @@ impl TableRows {
         self.slots.get(key)
     }
 
-    /// The rows between two ends, in the order of a Scan, whatever is prepared. A key for which an item is prepared may
-    /// stand among them without one.
-    pub fn rows_between<'a>(
-        &'a self,
-        low: Bound<&'a RowKey>,
-        high: Bound<&'a RowKey>,
-    ) -> MapRange<'a, RowKey, Option<Item>>
-        ensures { rows_of result
-            ≡ entries_between row_order (bound_map (λ end. end.now) low.entry) (bound_map (λ end. end.now) high.entry) self.now.rows }
+    /// Whether a change of the item at a key is prepared. It goes over all that are.
+    pub fn is_pending(&self, key: &RowKey) -> bool
+        ensures { result ≡ is_pending self.now.pending key.now }
     {
-        self.slots.between(low, high)
+        is_pending(self.pending.as_slice(), key)
     }
 
-    /// The places of the rows of an index between two ends, in its order, where nothing is prepared. Indexes are numbered
-    /// from 0: those that are local first, each in the order of the schema. There is `None` where there are not so many.
-    pub fn places_between<'a>(
+    /// The rows between two ends, in the order of a Scan, where nothing is prepared.
+    pub fn rows<'a>(&'a self, low: Bound<&'a RowKey>, high: Bound<&'a RowKey>) -> RowRange<'a>
+        requires { self.now.pending ≡ [] }
+        ensures { result
+            ≡ entries_between row_order (bound_map (λ end. end.now) low.entry) (bound_map (λ end. end.now) high.entry) self.now.rows }
+    {
+        RowRange::new(self.slots.between(low, high))
+    }
+
+    /// The rows of an index between two ends, in its order, where nothing is prepared. Indexes are numbered from 0: those
+    /// that are local first, each in the order of the schema. There is `None` where there are not so many.
+    pub fn index_rows<'a>(
         &'a self,
         index: usize,
         low: Bound<&'a Position>,
         high: Bound<&'a Position>,
-    ) -> Option<MapRange<'a, Position, ()>>
+    ) -> Option<IndexRange<'a>>
+        requires { self.now.pending ≡ [] }
         ensures none { IfNone result (slice_get (index_keys self.now.schema) index ≡ None) }
-        ensures places { self.now.pending ≡ [] → IfSome result (λ range. IfSome (slice_get (index_keys self.now.schema) index) (λ keys.
-            keys_of range ≡ keys_of (entries_between position_order (bound_map (λ end. end.now) low.entry) (bound_map (λ end. end.now) high.entry)
-            (index_of self.now.schema keys self.now.rows)))) }
+        ensures rows { IfSome result (λ rows. IfSome (slice_get (index_keys self.now.schema) index) (λ keys.
+            rows ≡ entries_between position_order (bound_map (λ end. end.now) low.entry) (bound_map (λ end. end.now) high.entry)
+            (index_of self.now.schema keys self.now.rows))) }
     {
         match self.indexes.get(index) {
-            Some(index) => Some(index.between(low, high)),
+            Some(index) => Some(IndexRange::new(index.between(low, high), &self.slots)),
             None => None,
         }
+    }
+
+    /// Gives the table another schema, where nothing is prepared: its items stay, and its indexes are those of the new
+    /// schema. They are built again, each row in each index for the logarithm of the rows, if there are other indexes
+    /// than before or other definitions. The key of the table is to stay (API Reference: UpdateTable).
+    ///
+    /// Where memory is refused nothing changes.
+    pub fn change_schema(&mut self, alloc: Global, schema: Schema) -> Result<(), NoMemory>
+        requires { self.old.pending ≡ [] }
+        ensures ok { OnOk result (self.new ≡ record self.old { schema = schema }) }
+        ensures err { OnErr result (self.new ≡ self.old) }
+    {
+        if have_same_indexes(&self.schema, &schema) {
+            drop(replace(&mut self.schema, schema));
+            return Ok(());
+        }
+        let indexes = indexes_of(alloc, &schema, &self.slots)?;
+        drop(replace(&mut self.indexes, indexes));
+        drop(replace(&mut self.schema, schema));
+        Ok(())
     }
 
     /// Prepares that the item at a key is this one, or none: takes all memory that is needed. The rows stay as they are

@@ -1,13 +1,17 @@
+use Rattle.std.specs.List.Sorted.{IsStrictlySortedBy}
+use Rattle.std.specs.Map.{keys_of}
 use Rattle.std.proofs.Common.{◌≡◌, length}
+use Rattle.row_keys.specs.Keys.{row_order}
 use Rattle.table_rows.specs.View.{committed}
 use Rattle.table_rows.specs.Slots.{rows_of}
-use Rattle.table_rows.specs.State.{AreDistinct, HaveSlots}
+use Rattle.table_rows.specs.State.{AreDistinct, AreInStep}
 use Rattle.table_rows.proofs.prepare.make_all.Given as goal
 
 abbrev pub invariant-loop-change : goal.invariant-loop-change
 invariant-loop-change l = record {
+  ordered : IsStrictlySortedBy row_order (keys_of (rows_of l.slots));
   distinct : AreDistinct l.pending;
-  have_slots : HaveSlots l.slots l.pending;
+  slots : AreInStep l.slots l.pending;
   rows : committed (rows_of l.slots) l.pending ≡ committed (rows_of l.fn.slots) l.fn.pending;
 }
 

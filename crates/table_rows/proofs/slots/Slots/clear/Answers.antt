@@ -13,3 +13,6 @@ returns-clause-rows c =
 pub returns-clause-others : goal.returns-clause-others
 returns-clause-others c = λ other apart.
     ap is_some (c.remove.ensures.updates.2 other apart) ∙ ap (λ (s : SlotList). has_slot s other) c.self.view_is
+
+pub returns-clause-slot : goal.returns-clause-slot
+returns-clause-slot c = ap is_some c.remove.ensures.updates.1

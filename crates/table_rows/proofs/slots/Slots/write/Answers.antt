@@ -22,3 +22,10 @@ returns-clause-others c = λ other apart.
     let updates : Updates row_order c.self.inside.slots c.insert.new.self c.args.key (Some (Some c.args.item)) =
     not_refused c.insert.result _ (lookup (is_at (row_order c.args.key)) c.self.inside.slots.entries) c.insert.ensures.updates c.insert.ensures.absent has in
     ap is_some (updates.2 other apart) ∙ ap (λ (s : SlotList). has_slot s other) c.self.view_is
+
+pub returns-clause-slot : goal.returns-clause-slot
+returns-clause-slot c =
+    let has : has_slot c.self.inside.slots.entries c.args.key ≡ true = ap (λ (s : SlotList). has_slot s c.args.key) c.self.view_is ∙ c.requires in
+    let updates : Updates row_order c.self.inside.slots c.insert.new.self c.args.key (Some (Some c.args.item)) =
+    not_refused c.insert.result _ (lookup (is_at (row_order c.args.key)) c.self.inside.slots.entries) c.insert.ensures.updates c.insert.ensures.absent has in
+    ap is_some updates.1

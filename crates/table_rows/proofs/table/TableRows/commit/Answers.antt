@@ -11,4 +11,4 @@ invariant_of-self c =
     let zip : AllZip IsSettled xs ys = subst (λ old. AllZip IsSettled old ys) c.as_mut_slice.ensures.value c.settle_all.ensures in
     subst (IsKept c.self.inside.schema c.make_all.new.slots c.make_all.new.pending) (sym (written ys xs (zip_length IsSettled xs ys zip)))
     (kept_committed c.self.inside.schema c.self.inside.slots c.make_all.new.slots c.self.inside.pending c.make_all.new.pending xs ys c.self.invariant
-    zip c.make_all.ensures.rows c.make_all.ensures.pending)
+    zip c.make_all.ensures.rows c.make_all.ensures.slots c.make_all.ensures.pending)
