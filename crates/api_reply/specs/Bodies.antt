@@ -15,7 +15,7 @@ use Rattle.table_model.specs.declared.reply.Reply.{Reply}
 use Rattle.table_model.specs.declared.reply.Reply.TheVariants as reply
 use Rattle.table_model.specs.declared.reply.TableItems.{TableItems}
 use Rattle.table_model.specs.declared.reply.TableNames.{TableNames}
-use Rattle.api_request.specs.declared.refusal.Refusal.{Refusal as EdgeRefusal}
+use Rattle.request_parts.specs.declared.refusal.Refusal.{Refusal as EdgeRefusal}
 use Rattle.api_reply.specs.declared.kind.ErrorKind.TheVariants as kind
 use Rattle.api_reply.specs.Batches.{item, items, unread, unwritten}
 use Rattle.api_reply.specs.Descriptions.{description}

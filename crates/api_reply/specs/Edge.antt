@@ -10,8 +10,8 @@ use Rattle.api_form.specs.Names.{text_of}
 use Rattle.api_form.specs.declared.name.Name.{Name}
 use Rattle.api_form.specs.declared.fault.Fault.{Fault}
 use Rattle.api_form.specs.declared.fault.Fault.TheVariants as fault
-use Rattle.api_request.specs.declared.refusal.Refusal.{Refusal}
-use Rattle.api_request.specs.declared.refusal.Refusal.TheVariants as refusal
+use Rattle.request_parts.specs.declared.refusal.Refusal.{Refusal}
+use Rattle.request_parts.specs.declared.refusal.Refusal.TheVariants as refusal
 use Rattle.api_reply.specs.declared.kind.ErrorKind.{ErrorKind}
 use Rattle.api_reply.specs.declared.kind.ErrorKind.TheVariants as kind
 

@@ -6,8 +6,8 @@ ghost use Rattle.api_reply.specs.Edge.{about, body_message, clause_word, edge_ki
 
 use crate::kind::ErrorKind;
 use api_form::{Fault, Name};
-use api_request::Refusal;
 use expr_words::{Clause, ParseEnd};
+use request_parts::Refusal;
 use std::alloc::{AllocError as NoMemory, Global};
 
 /// The kind of the error.

@@ -2,7 +2,6 @@
 
 use super::{body, refusal_body, status};
 use api_form::{Fault, Name};
-use api_request::Refusal as EdgeRefusal;
 use attr_json::item_from;
 use attr_value::Item;
 use base_types::{Seq, Text};
@@ -10,6 +9,7 @@ use expr_words::{Clause, NamePair, ParseEnd};
 use item_keys::KeyFault;
 use key_condition::RangeFault;
 use number38::NumberFault;
+use request_parts::Refusal as EdgeRefusal;
 use serde_json::Value;
 use std::alloc::Global;
 use std::test::Fail;

@@ -5,7 +5,7 @@ use Rattle.api_form.specs.declared.name.Name.TheVariants as name
 use Rattle.table_request.specs.declared.tables.DeleteTable.{DeleteTable}
 use Rattle.table_request.specs.declared.tables.DescribeTable.{DescribeTable}
 use Rattle.table_request.specs.declared.tables.ListTables.{ListTables}
-use Rattle.api_request.specs.Members.{text_at, stated_text, stated_whole}
+use Rattle.request_parts.specs.Members.{text_at, stated_text, stated_whole}
 
 abbrev pub IsDeleteTable : Data → DeleteTable → Type 0
 IsDeleteTable d r = r.table ≡ text_at name.TableName d

@@ -1,5 +1,10 @@
--- What bodies state: members, requests of the catalog, and schemas.
-pub mod Ends
-pub mod Members
+-- What bodies state, in reading order: each operation; messages.
+pub mod Operations
 pub mod Catalog
 pub mod Schemas
+pub mod Items
+pub mod Pages
+pub mod Tables
+pub mod Batches
+pub mod Transactions
+pub mod Requests

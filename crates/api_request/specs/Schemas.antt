@@ -17,9 +17,9 @@ use Rattle.table_schema.specs.Index.{stated_of}
 use Rattle.table_schema.specs.Rule.{IsValid}
 use Rattle.table_schema.specs.Fault.{IsFirstFault}
 use Rattle.table_request.specs.declared.tables.CreateTable.{CreateTable}
-use Rattle.api_request.specs.declared.refusal.Refusal.{Refusal}
-use Rattle.api_request.specs.declared.refusal.Refusal.TheVariants as refusal
-use Rattle.api_request.specs.Members.{text, text_at, stated_whole, list_at, inside, each}
+use Rattle.request_parts.specs.declared.refusal.Refusal.{Refusal}
+use Rattle.request_parts.specs.declared.refusal.Refusal.TheVariants as refusal
+use Rattle.request_parts.specs.Members.{text, text_at, stated_whole, list_at, inside, each}
 
 -- the kind that a word names; the form has no other words
 abbrev pub kind_named : List ℕ → KeyKind

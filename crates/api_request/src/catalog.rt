@@ -4,8 +4,8 @@ ghost use Rattle.std.specs.Prelude.{◌≡◌, IfOk};
 ghost use Rattle.serde_json.specs.View.{view};
 ghost use Rattle.api_request.specs.Catalog.{IsDeleteTable, IsDescribeTable, IsListTables};
 
-use crate::member::{copy_at, stated_copy, stated_whole};
 use api_form::Name;
+use request_parts::{copy_at, stated_copy, stated_whole};
 use serde_json::Value;
 use std::alloc::{AllocError as NoMemory, Global};
 use table_request::{DeleteTable, DescribeTable, ListTables};

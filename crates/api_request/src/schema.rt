@@ -3,15 +3,14 @@
 ghost use Rattle.std.specs.Prelude.{◌≡◌, IfOk};
 ghost use Rattle.serde_json.specs.View.{view};
 ghost use Rattle.api_form.specs.declared.name.Name.TheVariants as name;
-ghost use Rattle.api_request.specs.Members.{inside};
-ghost use Rattle.api_request.specs.Ends.{IsToldOf};
+ghost use Rattle.request_parts.specs.Members.{inside};
+ghost use Rattle.request_parts.specs.Ends.{IsToldOf};
 ghost use Rattle.api_request.specs.Schemas.{kind_named, role_named, projection, units_of, stated_schema, IsCreateTable};
 
-use crate::member::{copy_at, list_at, stated_whole, text_at};
-use crate::refusal::{Refusal, RequestEnd};
 use crate::stated::{Stated, read_all};
 use api_form::Name;
 use base_types::Text;
+use request_parts::{Refusal, RequestEnd, copy_at, list_at, stated_whole, text_at};
 use serde_json::Value;
 use std::alloc::{AllocError as NoMemory, Global};
 use table_request::CreateTable;
@@ -48,7 +47,7 @@ fn stated_schema(alloc: Global, json: &Value) -> Result<StatedSchema, NoMemory>
 }
 
 /// Units of the throughput, where they are stated.
-fn units_of(json: &Value, unit: Name) -> Option<u64>
+pub(crate) fn units_of(json: &Value, unit: Name) -> Option<u64>
     ensures { result ≡ units_of unit (view json.now) }
 {
     match json.get(Name::ProvisionedThroughput.text()) {

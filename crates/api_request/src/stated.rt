@@ -3,10 +3,11 @@
 ghost use Rattle.std.specs.Prelude.{◌≡◌, IfOk};
 ghost use Rattle.serde_json.specs.Data.{Data};
 ghost use Rattle.serde_json.specs.View.{view, items_view};
-ghost use Rattle.api_request.specs.Members.{each};
+ghost use Rattle.request_parts.specs.Members.{each};
 
 use attr_value::Item;
 use base_types::{Seq, Text};
+use request_parts::item_in;
 use serde_json::Value;
 use std::alloc::{AllocError as NoMemory, Global};
 
@@ -32,11 +33,21 @@ pub(crate) fn read_all<T: Stated + Drop>(alloc: Global, items: &[Value]) -> Resu
 }
 
 impl Stated for Text {
-    ghost use Rattle.api_request.specs.Members.{text};
+    ghost use Rattle.request_parts.specs.Members.{text};
 
     ghost stated = { text };
 
     fn read(alloc: Global, json: &Value) -> Result<Text, NoMemory> {
         Text::copied(alloc, json.as_str().unwrap_or(""))
+    }
+}
+
+impl Stated for Item {
+    ghost use Rattle.request_parts.specs.Members.{item_in};
+
+    ghost stated = { item_in };
+
+    fn read(alloc: Global, json: &Value) -> Result<Item, NoMemory> {
+        item_in(alloc, json)
     }
 }

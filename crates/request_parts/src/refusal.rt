@@ -35,7 +35,7 @@ pub enum RequestEnd {
 
 impl From<NoMemory> for RequestEnd {
     ghost use Rattle.std.specs.Prelude.{◌≡◌};
-    ghost use Rattle.api_request.specs.declared.refusal.RequestEnd.{RequestEnd};
+    ghost use Rattle.request_parts.specs.declared.refusal.RequestEnd.{RequestEnd};
 
     ghost from_gives = { λ refused end. end ≡ RequestEnd.NoMemory };
 
@@ -46,7 +46,7 @@ impl From<NoMemory> for RequestEnd {
 
 impl From<Refusal> for RequestEnd {
     ghost use Rattle.std.specs.Prelude.{◌≡◌};
-    ghost use Rattle.api_request.specs.declared.refusal.RequestEnd.{RequestEnd};
+    ghost use Rattle.request_parts.specs.declared.refusal.RequestEnd.{RequestEnd};
 
     ghost from_gives = { λ refusal end. end ≡ RequestEnd.Refused refusal };
 
@@ -57,7 +57,7 @@ impl From<Refusal> for RequestEnd {
 
 impl<T: Drop> From<AllocFailed<T>> for RequestEnd {
     ghost use Rattle.std.specs.Prelude.{◌≡◌};
-    ghost use Rattle.api_request.specs.declared.refusal.RequestEnd.{RequestEnd};
+    ghost use Rattle.request_parts.specs.declared.refusal.RequestEnd.{RequestEnd};
 
     ghost from_gives = { λ refused end. end ≡ RequestEnd.NoMemory };
 

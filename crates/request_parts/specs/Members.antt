@@ -1,6 +1,6 @@
 -- Members of a body that has no fault. What is absent is the empty text, the empty list, the empty item or false.
-use Rattle.std.specs.Prelude.{ℕ, List, [], ◌∷◌, Bool, false, Option, unwrap_or, option_and_then, Result, Ok, Err}
-use Rattle.serde_json.specs.Data.{Data, null, Items, no_items, item}
+use Rattle.std.specs.Prelude.{ℕ, List, [], ◌∷◌, Bool, false, Option, Some, None, option_map, unwrap_or, option_and_then, Result, Ok, Err}
+use Rattle.serde_json.specs.Data.{Data, null, object, Items, no_items, item}
 use Rattle.serde_json.specs.Find.{get, as_str, as_bool, as_array, as_number, as_u64}
 use Rattle.attr_value.specs.Tree.{Attributes, no_attributes}
 use Rattle.attr_value.specs.Sizes.{most_levels}
@@ -41,6 +41,10 @@ stated_whole name d = option_and_then whole (member_at name d)
 abbrev pub list_at : Name → Data → Items
 list_at name d = unwrap_or (option_and_then as_array (member_at name d)) no_items
 
+-- the elements of a list
+abbrev pub elements : Data → Items
+elements d = unwrap_or (as_array d) no_items
+
 abbrev pub or_empty : Result Attributes JsonFault → Attributes
 or_empty (Ok attributes) = attributes
 or_empty (Err fault) = no_attributes
@@ -51,6 +55,19 @@ item_in d = or_empty (item_of d most_levels)
 
 abbrev pub item_at : Name → Data → Attributes
 item_at name d = item_in (inside name d)
+
+-- a value where it is an object
+abbrev pub only_object : Data → Option Data
+only_object (object ms) = Some (object ms)
+only_object d = None
+
+-- the object of a member, where it is stated
+abbrev pub object_at : Name → Data → Option Data
+object_at name d = option_and_then only_object (member_at name d)
+
+-- the item of a member, where it is stated
+abbrev pub stated_item : Name → Data → Option Attributes
+stated_item name d = option_map item_in (object_at name d)
 
 -- what each element states
 abbrev pub each : {A : Type 0} → (Data → A) → Items → List A
