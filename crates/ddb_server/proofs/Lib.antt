@@ -1,3 +1,3 @@
-pub mod Bodies
-pub mod Floats
 pub mod OnlyWord
+pub mod Serving
+pub mod Unserved

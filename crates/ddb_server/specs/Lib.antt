@@ -1,7 +1,3 @@
-pub mod Database
-pub mod Json
-pub mod Requests
-pub mod Tables
-pub mod Replies
+-- The definitions in reading order: the database as a service; the program.
 pub mod Services
 pub mod Programs

@@ -5,8 +5,8 @@ use Rattle.std.specs.Io.KnownBytes.{Appends}
 use Rattle.ddb_outside.specs.Writes.{AppendsFront}
 use Rattle.http_session.specs.declared.end.SessionEnd.{SessionEnd}
 use Rattle.http_session.specs.Sessions.{Served}
-use Rattle.ddb_server.specs.declared.model.Database.{Database}
-use Rattle.ddb_server.specs.Database.{empty_database}
+use Rattle.table_model.specs.Database.{empty_database}
+use Rattle.ddb_server.specs.declared.service.DatabaseService.{DatabaseService}
 use Rattle.ddb_server.specs.Services.{Steps}
 
 -- the words are the one word `stdio`
@@ -28,11 +28,14 @@ exit_status SessionEnd.NoMemory = 7
 abbrev pub usage : List ℕ
 usage = codes "usage: ddb_server stdio|serve|load [--partitions N] [--port N] [--workers N] [--start N] [--clients N] [--count N]\n"
 
+abbrev pub empty_service : DatabaseService
+empty_service = record { database = empty_database }
+
 -- the status is that of a session from the empty database on, over this input where it is known
 abbrev pub RunsSession : Option (List ℕ) → Option (ℕ → ℕ) → Option (List ℕ) → Option (List ℕ) → ℕ → Type 0
 RunsSession input coming old new status =
-    (end : SessionEnd) × (after : Database) × (status ≡ exit_status end)
-    × IfSome input (λ bytes. Served Steps bytes coming empty_database after old new end)
+    (end : SessionEnd) × (after : DatabaseService) × (status ≡ exit_status end)
+    × IfSome input (λ bytes. Served Steps bytes coming empty_service after old new end)
 
 -- other words are answered by the usage line and 2, or by 3 where the sink failed at it
 abbrev pub RefusesWords : Option (List ℕ) → Option (List ℕ) → ℕ → Type 0

@@ -1,28 +1,68 @@
 -- The steps of the database as a service: a message, and what it is answered.
-use Rattle.std.specs.Prelude.{◌≡◌, ◌⊎◌, ℕ, List}
+use Rattle.std.specs.Prelude.{◌≡◌, ◌⊎◌, ℕ, List, Result, Ok, Err, true, false, codes}
+use Rattle.serde_json.specs.Written.{compact_text}
 use Rattle.http_front.specs.declared.message.Message.{Message}
-use Rattle.ddb_server.specs.declared.model.Database.{Database}
-use Rattle.ddb_server.specs.declared.model.Request.{Request}
-use Rattle.ddb_server.specs.declared.model.Reply.{Reply}
-use Rattle.ddb_server.specs.Database.{effect}
-use Rattle.ddb_server.specs.Requests.{Denotes}
-use Rattle.ddb_server.specs.Replies.{body_of, status_of}
+use Rattle.http_session.specs.declared.answer.Answer.{Answer}
+use Rattle.http_session.specs.Answers.{text_of}
+use Rattle.table_request.specs.declared.request.Request.{Request}
+use Rattle.table_model.specs.declared.reply.Reply.{Reply}
+use Rattle.table_model.specs.Database.{Database}
+use Rattle.table_model.specs.Effect.{IsEffect}
+use Rattle.plain_database.specs.Built.{is_built}
+use Rattle.request_parts.specs.declared.refusal.Refusal.{Refusal}
+use Rattle.api_request.specs.Requests.{IsRequest}
+use Rattle.api_reply.specs.declared.kind.ErrorKind.TheVariants.{Validation}
+use Rattle.api_reply.specs.Errors.{error}
+use Rattle.api_reply.specs.Bodies.{body_of, reply_status, edge_body, memory_body}
+use Rattle.ddb_server.specs.declared.service.DatabaseService.{DatabaseService}
 
--- the message is applied to the database, and this is the reply
-abbrev pub Applies : Database → Message → ℕ → Reply → Database → Type 0
-Applies db message moment reply new =
-    (request : Request) × Denotes message.target message.body request × ((new, reply) ≡ effect db request moment)
+-- ---- what is told: a status and the bytes of a body
 
--- memory ran out: the message is left out, or applied whole
-abbrev pub RunsOut : Database → Message → ℕ → Database → Type 0
-RunsOut db message moment new = (new ≡ db) ⊎ ((reply : Reply) × Applies db message moment reply new)
+abbrev pub Told : Type 0
+Told = ℕ × List ℕ
 
--- the message is answered by this reply
-abbrev pub Answers : Database → Message → ℕ → Reply → Database → Type 0
-Answers db message moment reply new =
-    Applies db message moment reply new ⊎ ((reply ≡ Reply.MemoryError) × RunsOut db message moment new)
+abbrev pub told : Answer → Told
+told answer = (answer.status, text_of answer.body)
 
--- the status and the body are those of a reply that answers the message
-abbrev pub Steps : Database → Message → ℕ → ℕ → List ℕ → Database → Type 0
-Steps db message moment status body new =
-    (reply : Reply) × Answers db message moment reply new × (status ≡ status_of reply) × (body ≡ body_of reply)
+abbrev pub told_reply : Reply → Told
+told_reply reply = (reply_status reply, body_of reply)
+
+-- a message that is refused before the database sees it
+abbrev pub told_refusal : Refusal → Told
+told_refusal refusal = (400, edge_body refusal)
+
+-- an operation that is not built yet
+abbrev pub told_unbuilt : Told
+told_unbuilt = (400, compact_text (error Validation (codes "Not built yet")))
+
+-- memory was refused
+abbrev pub told_memory : Told
+told_memory = (500, memory_body)
+
+-- this is told, or that memory was refused
+abbrev pub IsTold : Told → Told → Type 0
+IsTold what tells = (tells ≡ what) ⊎ (tells ≡ told_memory)
+
+-- ---- steps
+
+-- the request is applied, and this is told of it; one that is not built changes nothing
+abbrev pub IsApplied : Database → Request → ℕ → Told → Database → Type 0
+IsApplied db request moment tells new =
+    ((reply : Reply) × (is_built request ≡ true) × IsEffect db request moment new reply × (tells ≡ told_reply reply))
+    ⊎ ((is_built request ≡ false) × (new ≡ db) × (tells ≡ told_unbuilt))
+
+-- the request is applied, and this is told of it; or memory was refused, and it is left out or applied whole
+abbrev pub IsServed : Database → Request → ℕ → Told → Database → Type 0
+IsServed db request moment tells new =
+    IsApplied db request moment tells new
+    ⊎ ((tells ≡ told_memory) × ((new ≡ db) ⊎ ((other : Told) × IsApplied db request moment other new)))
+
+-- the message states a request, which is served, or is refused; or memory was refused before it was read
+abbrev pub IsMade : Database → Message → ℕ → Told → Database → Type 0
+IsMade db message moment tells new =
+    ((request : Request) × IsRequest message.target message.body (Ok request) × IsServed db request moment tells new)
+    ⊎ ((refusal : Refusal) × IsRequest message.target message.body (Err refusal) × (new ≡ db) × IsTold (told_refusal refusal) tells)
+    ⊎ ((new ≡ db) × (tells ≡ told_memory))
+
+abbrev pub Steps : DatabaseService → Message → ℕ → ℕ → List ℕ → DatabaseService → Type 0
+Steps old message moment status body new = IsMade old.database message moment (status, body) new.database

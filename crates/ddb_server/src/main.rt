@@ -1,18 +1,14 @@
 //! The program: a table server with the behaviour of Amazon DynamoDB's low-level API (2012-08-10).
 //!
 //! [`run`] carries the theorem. What it writes is, message by message, the bytes of the replies that the
-//! sequential database of [`model`] gives to the messages that it reads, from the empty database on; and
-//! each exit status has its cause. `specs/` has the definitions, in reading order: the database and the
-//! effect of a request, what a message asks, what a reply says, a session, the program.
+//! sequential database of `table_model` gives to the messages that it reads, from the empty database on; and
+//! each exit status has its cause. `specs/` has the definitions, in reading order: the database as a service,
+//! the program.
 //!
 //! `main` hands `run` the real streams and the system's clock, and ends with its status.
 #![tactic(auto)]
 
-mod description;
-pub mod model;
 mod program;
-mod reply;
-mod request;
 mod service;
 
 use ddb_outside::{StdSink, StdSource, SystemClock};

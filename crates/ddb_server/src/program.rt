@@ -2,9 +2,10 @@ ghost use Rattle.std.specs.Prelude.{◌≡◌, ◌↔◌, IsTrue};
 ghost use Rattle.ddb_outside.specs.Causes.{Rose};
 ghost use Rattle.ddb_server.specs.Programs.{IsStdio, RunsSession, RefusesWords, exit_status, usage};
 
-use crate::model::Database;
+use crate::service::DatabaseService;
 use ddb_outside::{Clock, Failed, Sink, Source, write_all};
 use http_session::{SessionEnd, serve_session};
+use plain_database::SlowDb;
 
 /// What is written where the words are none of the commands.
 const USAGE: &str =
@@ -33,8 +34,11 @@ pub fn run<S: Source, K: Sink, C: Clock>(
     if !is_stdio(words) {
         return refuse_words(sink);
     }
-    let mut database = Database::new(rt.alloc());
-    exit_status(serve_session(rt.alloc(), source, sink, clock, &mut database))
+    let Ok(database) = SlowDb::new(rt.alloc()) else {
+        return exit_status(SessionEnd::NoMemory);
+    };
+    let mut service = DatabaseService { database };
+    exit_status(serve_session(rt.alloc(), source, sink, clock, &mut service))
 }
 
 // Whether the words are the one word `stdio`.

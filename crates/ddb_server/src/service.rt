@@ -1,66 +1,110 @@
-//! The database as a service.
+//! The database as a service: a message is read as a request, applied, and answered.
 
-ghost use Rattle.std.specs.Prelude.{◌≡◌, IfOk, OnErr, option_copied};
-ghost use Rattle.ddb_server.specs.Replies.{body_of, status_of};
-ghost use Rattle.ddb_server.specs.Services.{Applies};
-ghost use Rattle.http_session.specs.Answers.{text_of};
+ghost use Rattle.std.specs.Prelude.{◌≡◌, option_copied};
+ghost use Rattle.http_front.specs.Replies.{IsReplyStatus};
+ghost use Rattle.ddb_server.specs.Services.{IsServed, IsTold, told, told_memory, told_refusal, told_reply, told_unbuilt};
 
-use crate::model::{Database, Reply};
-use crate::{reply, request};
+use api_reply::ErrorKind;
+use api_request::{Refusal, RequestEnd};
 use http_front::Message;
 use http_session::{Answer, Body, Service};
+use plain_database::{SlowDb, effect_slow};
 use std::alloc::{AllocError as NoMemory, Global};
+use table_model::Reply;
+use table_request::Request;
 
-impl Service for Database {
+/// The body for an operation that this release does not answer yet.
+const NOT_BUILT: &str =
+    r#"{"__type":"com.amazon.coral.validate#ValidationException","message":"Not built yet"}"#;
+
+/// The sequential database, which answers messages.
+#[derive(Drop)]
+pub struct DatabaseService {
+    pub database: SlowDb,
+}
+
+impl Service for DatabaseService {
     ghost use Rattle.ddb_server.specs.Services.{Steps};
 
     ghost steps = { Steps };
 
     fn answer(&mut self, alloc: Global, message: &Message, moment: u64) -> Answer {
-        let Ok(reply) = apply(alloc, self, message, moment) else {
-            return memory_error();
-        };
-        match reply::body(alloc, &reply) {
-            Ok(body) => Answer {
-                status: reply::status(&reply),
-                body: Body::Made(body),
-            },
-            Err(_) => memory_error(),
+        match api_request::read(alloc, target(message), message.body.as_slice()) {
+            Ok(request) => serve(alloc, &mut self.database, request, moment),
+            Err(RequestEnd::Refused(refusal)) => refuse(alloc, &refusal),
+            Err(RequestEnd::NoMemory) => memory_error(),
         }
     }
 }
 
-/// The answer for want of memory, which takes none.
-fn memory_error() -> Answer
-    ensures status { result.status ≡ status_of Reply.MemoryError }
-    ensures body { text_of result.body ≡ body_of Reply.MemoryError }
-{
-    Answer {
-        status: reply::status(&Reply::MemoryError),
-        body: Body::Fixed(reply::memory_error_body()),
-    }
-}
-
-/// Applies the request that a message is. Where memory is refused nothing changes.
-fn apply(
-    alloc: Global,
-    database: &mut Database,
-    message: &Message,
-    moment: u64,
-) -> Result<Reply, NoMemory>
-    ensures applied { IfOk result (λ reply. Applies database.old message.now moment reply database.new) }
-    ensures unchanged { OnErr result (database.new ≡ database.old) }
-{
-    let request = request::read(alloc, operation(message), message.body.as_slice())?;
-    database.answer(request, moment)
-}
-
 /// The X-Amz-Target of a message.
-fn operation(message: &Message) -> Option<&[u8]>
+fn target(message: &Message) -> Option<&[u8]>
     ensures { option_copied result ≡ message.now.target }
 {
     match &message.target {
         Some(target) => Some(target.as_slice()),
         None => None,
+    }
+}
+
+/// Applies a request, and answers what became of it.
+#[tactic(auto, using(crate::proofs::Serving::served_reply))]
+fn serve(alloc: Global, database: &mut SlowDb, request: Request, moment: u64) -> Answer
+    ensures status { IsReplyStatus result.status }
+    ensures served { IsServed database.old request moment (told result) database.new }
+{
+    match effect_slow(database, alloc, request, moment) {
+        Ok(Some(reply)) => answer(alloc, &reply),
+        Ok(None) => not_built(),
+        Err(NoMemory) => memory_error(),
+    }
+}
+
+/// The answer that tells a reply.
+#[tactic(auto, using(crate::proofs::Serving::reply_known))]
+fn answer(alloc: Global, reply: &Reply) -> Answer
+    ensures status { IsReplyStatus result.status }
+    ensures told { IsTold (told_reply reply.now) (told result) }
+{
+    match api_reply::body(alloc, reply) {
+        Ok(body) => Answer {
+            status: api_reply::status(reply),
+            body: Body::Made(body),
+        },
+        Err(NoMemory) => memory_error(),
+    }
+}
+
+/// The answer to a message that is refused before the database sees it.
+fn refuse(alloc: Global, refusal: &Refusal) -> Answer
+    ensures status { IsReplyStatus result.status }
+    ensures told { IsTold (told_refusal refusal.now) (told result) }
+{
+    match api_reply::refusal_body(alloc, refusal) {
+        Ok(body) => Answer {
+            status: 400,
+            body: Body::Made(body),
+        },
+        Err(NoMemory) => memory_error(),
+    }
+}
+
+/// The answer to an operation that is not built yet.
+fn not_built() -> Answer
+    ensures { told result ≡ told_unbuilt }
+{
+    Answer {
+        status: ErrorKind::Validation.status(),
+        body: Body::Fixed(NOT_BUILT),
+    }
+}
+
+/// The answer for want of memory, which takes none.
+fn memory_error() -> Answer
+    ensures { told result ≡ told_memory }
+{
+    Answer {
+        status: ErrorKind::InternalServer.status(),
+        body: Body::Fixed(api_reply::memory_error_body()),
     }
 }

@@ -180,104 +180,126 @@ fn message(alloc: Global, target: &str, body: &str) -> Result<String, Fail> {
     )?)
 }
 
-// The body of a CreateTable, with further members.
-fn create_table(alloc: Global, name: &str, more: &str) -> Result<String, Fail> {
+// The body of a CreateTable.
+fn create_table(alloc: Global, name: &str) -> Result<String, Fail> {
     Ok(format!(in alloc;
         "{{\"AttributeDefinitions\":[{{\"AttributeName\":\"id\",\"AttributeType\":\"S\"}}],\
         \"KeySchema\":[{{\"AttributeName\":\"id\",\"KeyType\":\"HASH\"}}],\"TableName\":\"{name}\",\
-        \"BillingMode\":\"PAY_PER_REQUEST\"{more}}}"
+        \"BillingMode\":\"PAY_PER_REQUEST\"}}"
     )?)
 }
 
 const TARGET: &str = "DynamoDB_20120810.CreateTable";
 
-// The status line of the reply to a first message with this target and this body.
-fn answer(rt: &HostRuntime, target: &str, body: &str) -> Result<String, Fail> {
-    let input = message(rt.alloc(), target, body)?;
-    let (_, output) = stdio(rt, input.as_str(), 4_096)?;
-    let (line, _) = output.as_str().split_once("\r\n").ok_or("line")?;
-    Ok(String::from_str(rt.alloc(), line)?)
-}
-
-// Names of tables with further members: forms that are built.
-const BUILT: [(&str, &str); 3] = [
-    ("abc", ""),
-    ("abc", ",\"ProvisionedThroughput\":null,\"Unknown\":[1]"),
-    ("a.b-C_0", ",\"Tags\":[]"),
+/// Operations with their bodies, one after the other, and the bodies of their replies. A reply with a `__type` has the
+/// status 400, another 200.
+static EXCHANGES: [(&str, &str, &str); 17] = [
+    (
+        "CreateTable",
+        r#"{"AttributeDefinitions":[{"AttributeName":"id","AttributeType":"S"}],"KeySchema":[{"AttributeName":"id","KeyType":"HASH"}],"TableName":"Tab","BillingMode":"PAY_PER_REQUEST"}"#,
+        r#"{"TableDescription":{"AttributeDefinitions":[{"AttributeName":"id","AttributeType":"S"}],"BillingModeSummary":{"BillingMode":"PAY_PER_REQUEST"},"CreationDateTime":0,"KeySchema":[{"AttributeName":"id","KeyType":"HASH"}],"ProvisionedThroughput":{"NumberOfDecreasesToday":0,"ReadCapacityUnits":0,"WriteCapacityUnits":0},"TableArn":"arn:aws:dynamodb:ddblocal:000000000000:table/Tab","TableName":"Tab","TableStatus":"ACTIVE"}}"#,
+    ),
+    (
+        "PutItem",
+        r#"{"TableName":"Tab","Item":{"id":{"S":"a"},"n":{"N":"01.0"}}}"#,
+        "{}",
+    ),
+    (
+        "GetItem",
+        r#"{"TableName":"Tab","Key":{"id":{"S":"a"}},"ProjectionExpression":"n"}"#,
+        r#"{"Item":{"n":{"N":"1"}}}"#,
+    ),
+    (
+        "UpdateItem",
+        r#"{"TableName":"Tab","Key":{"id":{"S":"a"}},"UpdateExpression":"SET n = n + :one","ExpressionAttributeValues":{":one":{"N":"1"}},"ReturnValues":"UPDATED_NEW"}"#,
+        r#"{"Attributes":{"n":{"N":"2"}}}"#,
+    ),
+    (
+        "PutItem",
+        r##"{"TableName":"Tab","Item":{"id":{"S":"a"}},"ConditionExpression":"attribute_not_exists(#i)","ExpressionAttributeNames":{"#i":"id"}}"##,
+        r#"{"__type":"com.amazonaws.dynamodb.v20120810#ConditionalCheckFailedException","message":"The conditional request failed"}"#,
+    ),
+    (
+        "DeleteItem",
+        r#"{"TableName":"Tab","Key":{"id":{"S":"a"}},"ReturnValues":"ALL_OLD"}"#,
+        r#"{"Attributes":{"id":{"S":"a"},"n":{"N":"2"}}}"#,
+    ),
+    (
+        "GetItem",
+        r#"{"TableName":"Tab","Key":{"id":{"S":"a"}}}"#,
+        "{}",
+    ),
+    (
+        "PutItem",
+        r#"{"TableName":"Tab","Item":{"id":{"N":"1"}}}"#,
+        r#"{"__type":"com.amazon.coral.validate#ValidationException","message":"The provided key is not valid: WrongType"}"#,
+    ),
+    (
+        "PutItem",
+        r#"{"TableName":"Tab","Item":{"id":{"S":1}}}"#,
+        r#"{"__type":"com.amazon.coral.validate#ValidationException","message":"Attribute value is not valid: UnknownType"}"#,
+    ),
+    ("ListTables", "{}", r#"{"TableNames":["Tab"]}"#),
+    (
+        "DescribeTable",
+        r#"{"TableName":"Bat"}"#,
+        r#"{"__type":"com.amazonaws.dynamodb.v20120810#ResourceNotFoundException","message":"Requested resource not found: Table: Bat not found"}"#,
+    ),
+    (
+        "Scan",
+        r#"{"TableName":"Tab"}"#,
+        r#"{"__type":"com.amazon.coral.validate#ValidationException","message":"Not built yet"}"#,
+    ),
+    (
+        "Scan",
+        "{}",
+        r#"{"__type":"com.amazon.coral.validate#ValidationException","message":"Member is missing: TableName"}"#,
+    ),
+    (
+        "Scam",
+        "{}",
+        r#"{"__type":"com.amazon.coral.service#UnknownOperationException","message":"Unknown operation"}"#,
+    ),
+    (
+        "GetItem",
+        "{",
+        r#"{"__type":"com.amazon.coral.service#SerializationException","message":"Body is not JSON of the expected shape"}"#,
+    ),
+    (
+        "DeleteTable",
+        r#"{"TableName":"Tab"}"#,
+        r#"{"TableDescription":{"AttributeDefinitions":[{"AttributeName":"id","AttributeType":"S"}],"BillingModeSummary":{"BillingMode":"PAY_PER_REQUEST"},"CreationDateTime":0,"KeySchema":[{"AttributeName":"id","KeyType":"HASH"}],"ProvisionedThroughput":{"NumberOfDecreasesToday":0,"ReadCapacityUnits":0,"WriteCapacityUnits":0},"TableArn":"arn:aws:dynamodb:ddblocal:000000000000:table/Tab","TableName":"Tab","TableStatus":"ACTIVE"}}"#,
+    ),
+    ("ListTables", "{}", r#"{"TableNames":[]}"#),
 ];
 
-#[test]
-fn built_forms(rt: HostRuntime) -> Result<(), Fail> {
-    for (name, more) in BUILT {
-        let body = create_table(rt.alloc(), name, more)?;
-        assert_eq!(rt;
-            answer(&rt, TARGET, body.as_str())?.as_str(),
-            "HTTP/1.1 200 OK",
-            "{name} {more}"
-        );
+// The messages of all exchanges.
+fn exchanged(alloc: Global) -> Result<String, Fail> {
+    let mut input = String::new(alloc);
+    for (operation, body, _) in &EXCHANGES {
+        let target = format!(in alloc; "DynamoDB_20120810.{operation}")?;
+        input.push_str(message(alloc, target.as_str(), body)?.as_str())?;
     }
-    Ok(())
+    Ok(input)
 }
 
-// The same of forms that are not built. Of a member that stands twice the last one counts.
-const NOT_BUILT: [(&str, &str); 11] = [
-    ("ab", ""),
-    ("a/b", ""),
-    ("abc", ",\"ProvisionedThroughput\":{}"),
-    ("abc", ",\"LocalSecondaryIndexes\":[]"),
-    ("abc", ",\"GlobalSecondaryIndexes\":[]"),
-    ("abc", ",\"BillingMode\":\"PROVISIONED\""),
-    ("abc", ",\"TableName\":5"),
-    ("abc", ",\"KeySchema\":[]"),
-    (
-        "abc",
-        ",\"KeySchema\":[{\"AttributeName\":\"id\",\"KeyType\":\"RANGE\"}]",
-    ),
-    (
-        "abc",
-        ",\"KeySchema\":[{\"AttributeName\":\"ID\",\"KeyType\":\"HASH\"}]",
-    ),
-    (
-        "abc",
-        ",\"AttributeDefinitions\":[{\"AttributeName\":\"id\",\"AttributeType\":\"N\"}]",
-    ),
-];
-
 #[test]
-fn other_forms(rt: HostRuntime) -> Result<(), Fail> {
-    for (name, more) in NOT_BUILT {
-        let body = create_table(rt.alloc(), name, more)?;
+fn exchanges(rt: HostRuntime) -> Result<(), Fail> {
+    let input = exchanged(rt.alloc())?;
+    let (status, output) = stdio(&rt, input.as_str(), 4_096)?;
+    assert_eq!(rt; status, 0);
+    let mut rest = output.as_str();
+    for (operation, body, reply) in &EXCHANGES {
+        let (head, after) = rest.split_once("\r\n\r\n").ok_or("head")?;
+        let is_fault = reply.contains("__type");
         assert_eq!(rt;
-            answer(&rt, TARGET, body.as_str())?.as_str(),
-            "HTTP/1.1 400 Bad Request",
-            "{name} {more}"
+            head.starts_with("HTTP/1.1 400 "),
+            is_fault,
+            "{operation} {body}"
         );
+        rest = after.strip_prefix(*reply).ok_or("reply")?;
     }
-    Ok(())
-}
-
-// The reply to a first message of a form that is not built.
-const NOT_BUILT_REPLY: &str =
-    "HTTP/1.1 400 Bad Request\r\nContent-Type: application/x-amz-json-1.0\r\nContent-Length: 84\r\n\
-    x-amzn-RequestId: 00000000000000000000000000000001\r\n\r\n\
-    {\"__type\":\"com.amazon.coral.validate#ValidationException\",\"message\":\"Not built yet\"}";
-
-#[test]
-fn other_messages(rt: HostRuntime) -> Result<(), Fail> {
-    let cases = [
-        ("DynamoDB_20120810.createtable", "{}"),
-        ("DynamoDB_20120810.PutItem", "{}"),
-        (TARGET, ""),
-        (TARGET, "{"),
-        (TARGET, "[]"),
-        (TARGET, "\u{feff}{}"),
-    ];
-    for (target, body) in cases {
-        let input = message(rt.alloc(), target, body)?;
-        let (status, output) = stdio(&rt, input.as_str(), 4_096)?;
-        assert_eq!(rt; status, 0);
-        assert_eq!(rt; output.as_str(), NOT_BUILT_REPLY, "{target} {body}");
-    }
+    assert_eq!(rt; rest, "");
     Ok(())
 }
 
@@ -286,10 +308,10 @@ fn limit_of_tables(rt: HostRuntime) -> Result<(), Fail> {
     let alloc = rt.alloc();
     let mut input = String::new(alloc);
     for i in 0..257u16 {
-        let body = create_table(alloc, format!(in alloc; "table{i}")?.as_str(), "")?;
+        let body = create_table(alloc, format!(in alloc; "table{i}")?.as_str())?;
         input.push_str(message(alloc, TARGET, body.as_str())?.as_str())?;
     }
-    let body = create_table(alloc, "table7", "")?;
+    let body = create_table(alloc, "table7")?;
     input.push_str(message(alloc, TARGET, body.as_str())?.as_str())?;
     let (status, output) = stdio(&rt, input.as_str(), 4_096)?;
     assert_eq!(rt; status, 0);
@@ -310,7 +332,7 @@ fn moments(rt: HostRuntime) -> Result<(), Fail> {
     let alloc = rt.alloc();
     let mut input = String::new(alloc);
     for name in ["one", "two", "three"] {
-        let body = create_table(alloc, name, "")?;
+        let body = create_table(alloc, name)?;
         input.push_str(message(alloc, TARGET, body.as_str())?.as_str())?;
     }
     let mut source = MemSource::make(

@@ -1,0 +1,68 @@
+use Rattle.std.specs.Map.{lookup, set_value}
+use Rattle.std.proofs.Common.{rules, ◌≡◌, [], None, Some, refl, sym, ap, ◌∙◌, subst}
+use Rattle.table_model.specs.declared.reply.Reply.TheVariants as answer
+use Rattle.table_model.specs.declared.refusal.Refusal.TheVariants.{NoTable}
+use Rattle.table_model.specs.Database.{Database, table_named, at_key}
+use Rattle.table_model.specs.Writes.{delete_item, delete_at}
+use Rattle.item_keys.specs.ItemKey.{key_alone}
+use Rattle.plain_database.specs.declared.table.NumberedTable.{NumberedTable}
+use Rattle.plain_database.specs.Tables.{AreIdle}
+use Rattle.plain_database.proofs.Kept.{at, database_in, absent, no_table, idle_at, idle_set, kept_same, kept_done, on_err}
+use Rattle.plain_database.proofs.database.SlowDb.delete_item.Goals as goal
+
+pub returns-in_default-clause-ok : goal.returns-in_default-clause-ok
+returns-in_default-clause-ok c =
+    let t = c.self.inside in
+    let r = c.args.request in
+    let db : Database = database_in t.tables.entries t.tokens t.made in
+    let none : lookup (at r.table) t.tables.entries ≡ None = search rules in
+    let same : c.get_mut.follows.lender-at-none ≡ t.tables = search rules in
+    (λ i. (database_in (same i).entries t.tokens t.made, answer.Refused (NoTable r.table)))
+    ∙ no_table db r.table (λ table. at_key db (key_alone table.schema table.schema.keys r.key) (delete_at db r table)) (absent t.tables.entries t.tokens t.made r.table none)
+    ∙ ap (λ (d : Database). delete_item d r) c.self.view_is
+
+pub delete_item-requires : goal.delete_item-requires
+delete_item-requires c =
+    let es = c.self.inside.tables.entries in
+    let x = c.in-Some.table.now in
+    let found : lookup (at c.args.request.table) es ≡ Some x = search rules in
+    record { idle = idle_at (at c.args.request.table) es x found c.self.invariant }
+
+pub invariant_of-self-in_err-reply : goal.invariant_of-self-in_err-reply
+invariant_of-self-in_err-reply c =
+    let es = c.self.inside.tables.entries in
+    let x = c.in-Some.table.now in
+    let name = c.args.request.table in
+    let found : lookup (at name) es ≡ Some x = search rules in
+    let w : NumberedTable = record { number = x.number; rows = c.delete_item.new.table } in
+    subst AreIdle (sym (c.get_mut.follows.holds w).0)
+    (idle_set (at name) es w (ap (λ v. v.pending) c.in_err-reply.ensures.err ∙ idle_at (at name) es x found c.self.invariant) c.self.invariant)
+
+pub returns-in_err-reply-clause-err : goal.returns-in_err-reply-clause-err
+returns-in_err-reply-clause-err c =
+    let t = c.self.inside in
+    let x = c.in-Some.table.now in
+    let name = c.args.request.table in
+    let found : lookup (at name) t.tables.entries ≡ Some x = search rules in
+    let w : NumberedTable = record { number = x.number; rows = c.delete_item.new.table } in
+    let same : w ≡ x = (λ i. record { number = x.number; rows = c.in_err-reply.ensures.err i }) in
+    on_err c.from_residual.result
+    (kept_same t.tables.entries (c.get_mut.follows.lender w).entries t.tokens t.made name x w found (c.get_mut.follows.holds w).0 same ∙ c.self.view_is)
+
+pub invariant_of-self-2 : goal.invariant_of-self-2
+invariant_of-self-2 c =
+    let es = c.self.inside.tables.entries in
+    let x = c.in-Some.table.now in
+    let w : NumberedTable = record { number = x.number; rows = c.delete_item.new.table } in
+    subst AreIdle (sym (c.get_mut.follows.holds w).0) (idle_set (at c.args.request.table) es w c.in_ok-reply.ensures.done.idle c.self.invariant)
+
+pub returns-clause-ok : goal.returns-clause-ok
+returns-clause-ok c =
+    let t = c.self.inside in
+    let x = c.in-Some.table.now in
+    let r = c.args.request in
+    let found : lookup (at r.table) t.tables.entries ≡ Some x = search rules in
+    let w : NumberedTable = record { number = x.number; rows = c.delete_item.new.table } in
+    kept_done t.tables.entries (c.get_mut.follows.lender w).entries t.tokens t.made r.table x w (λ d. delete_item d r) c.in_ok-reply.reply found
+    (c.get_mut.follows.holds w).0 refl c.in_ok-reply.ensures.done
+    ∙ ap (λ (d : Database). delete_item d r) c.self.view_is

@@ -1,0 +1,16 @@
+//! The plain program of the sequential database: one map of tables, one map of tokens, whole requests one after the
+//! other.
+//!
+//! [`SlowDb`] is what `table_model` defines, computed over ordered maps, and [`effect_slow`] applies a request to it. It is
+//! what the server is compared with, and is written to be used: a request on items costs the logarithm of what is kept.
+//! Where memory is refused nothing is half done.
+#![tactic(auto)]
+
+mod catalog;
+mod database;
+mod effect;
+mod item;
+mod table;
+
+pub use database::SlowDb;
+pub use effect::effect_slow;

@@ -1,0 +1,43 @@
+use Rattle.std.proofs.Common.{◌≡◌, rules, refl, ap, sym, ◌∙◌, Option, None}
+use Rattle.std.specs.Option.{option_copied}
+use Rattle.std.proofs.lemmas.Result.{IfOk-weaker}
+use Rattle.row_keys.specs.Rows.{item_at}
+use Rattle.table_model.specs.declared.reply.Reply.TheVariants.{Written, Refused}
+use Rattle.table_model.specs.declared.refusal.Refusal.TheVariants as refusal
+use Rattle.table_model.specs.declared.refusal.Invalid.TheVariants as invalid
+use Rattle.table_model.specs.Outcome.{becomes, is_false, is_faulty, is_met, where_met, delete_outcome}
+use Rattle.table_model.specs.Writes.{shown, put_fault}
+use Rattle.table_items.specs.Outcomes.{outcome_of}
+use Rattle.table_items.proofs.Steps.{along_outcome}
+use Rattle.table_items.proofs.write.delete_at.Goals as goal
+
+pub returns-in-False-clause-done : goal.returns-in-False-clause-done
+returns-in-False-clause-done c =
+    let old = c.args.table.now in
+    let item = item_at old.rows c.args.key in
+    let lent : option_copied c.as_ref.result ≡ c.args.request.now.condition = search rules in
+    let same = ap outcome_of (sym c.in-False.is) ∙ c.delete_outcome.ensures ∙ (λ i. where_met (is_met (lent i) c.args.request.now.values (c.get-old.ensures i)) delete_outcome) in
+    along_outcome old old c.args.key invalid.Evaluation (shown c.args.request.now.return_values None item) (Refused refusal.ConditionFailed) is_false _ same (refl, refl)
+
+pub returns-in-Faulty-clause-done : goal.returns-in-Faulty-clause-done
+returns-in-Faulty-clause-done c =
+    let old = c.args.table.now in
+    let item = item_at old.rows c.args.key in
+    let lent : option_copied c.as_ref.result ≡ c.args.request.now.condition = search rules in
+    let same = ap outcome_of (sym c.in-Faulty.is) ∙ c.delete_outcome.ensures ∙ (λ i. where_met (is_met (lent i) c.args.request.now.values (c.get-old.ensures i)) delete_outcome) in
+    along_outcome old old c.args.key invalid.Evaluation (shown c.args.request.now.return_values None item) c.invalid.result (is_faulty c.in-Faulty.fault) _ same
+    (refl, c.invalid.ensures)
+
+pub returns-in_ok-shown-in-Becomes-clause-done : goal.returns-in_ok-shown-in-Becomes-clause-done
+returns-in_ok-shown-in-Becomes-clause-done c =
+    let old = c.args.table.now in
+    let item = item_at old.rows c.args.key in
+    let lent : option_copied c.as_ref.result ≡ c.args.request.now.condition = search rules in
+    let same = ap outcome_of (sym c.in-Becomes.is) ∙ c.delete_outcome.ensures ∙ (λ i. where_met (is_met (lent i) c.args.request.now.values (c.get-old.ensures i)) delete_outcome) in
+    let new : option_copied c.as_ref-in-Becomes.result ≡ c.in-Becomes.new = search rules in
+    let told = c.in_ok-shown-in-Becomes.ensures ∙ (λ i. shown c.args.request.now.return_values None (c.get-old.ensures i) (new i)) in
+    IfOk-weaker c.make.result _ _
+    (λ reply made.
+    along_outcome old c.make.new.table c.args.key invalid.Evaluation (shown c.args.request.now.return_values None item) reply (becomes c.in-Becomes.new) _ same
+    (made.0, made.1 ∙ ap Written told))
+    c.make.ensures.made

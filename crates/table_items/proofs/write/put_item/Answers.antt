@@ -1,0 +1,23 @@
+use Rattle.std.proofs.Common.{◌≡◌, rules, Option, subst}
+use Rattle.std.specs.Option.{option_copied}
+use Rattle.std.proofs.lemmas.Result.{IfOk-weaker}
+use Rattle.expr_words.specs.declared.tree.Condition.{Condition}
+use Rattle.table_model.specs.Writes.{put_item}
+use Rattle.table_items.specs.Effects.{IsDone}
+use Rattle.table_items.specs.Steps.{put_of}
+use Rattle.table_items.proofs.write.put_item.Goals as goal
+
+pub returns : goal.returns
+returns c =
+    let r = c.args.request in
+    let lent : option_copied c.as_ref.result ≡ c.args.request.condition = search rules in record {
+      done =
+          IfOk-weaker c.put-done.result _ _
+          (λ reply all.
+          subst
+          (λ (condition : Option Condition).
+          IsDone r.table (λ db. put_item db (put_of r.table r.item condition r.values r.return_values)) c.args.table.now c.put-done.new.table reply)
+          lent (all r.table))
+          c.put-done.ensures.done;
+      err = c.put-done.ensures.err;
+    }

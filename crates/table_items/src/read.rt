@@ -1,0 +1,45 @@
+//! Reads of one item.
+
+ghost use Rattle.std.specs.Prelude.{◌≡◌, IfOk, option_map};
+ghost use Rattle.std.specs.Option.{option_copied};
+ghost use Rattle.table_model.specs.Reads.{get_item, view};
+ghost use Rattle.table_items.specs.Effects.{IsTold};
+
+use crate::key::key_of_key;
+use attr_value::Item;
+use expr_words::Paths;
+use projection::pick;
+use std::alloc::{AllocError as NoMemory, Global};
+use table_model::{Invalid, Refusal, Reply};
+use table_request::GetItem;
+use table_rows::TableRows;
+
+/// What is shown of an item: what the projection picks, or all of it, copied.
+pub fn view(projection: Option<&Paths>, item: &Item) -> Result<Item, NoMemory>
+    ensures { IfOk result (λ shown. shown ≡ view (option_copied projection.entry) item.now) }
+{
+    match projection {
+        Some(paths) => pick(paths, item),
+        None => item.try_clone(),
+    }
+}
+
+/// The same of an item that may be there.
+fn view_if(projection: Option<&Paths>, item: Option<&Item>) -> Result<Option<Item>, NoMemory>
+    ensures { IfOk result (λ shown. shown ≡ option_map (view (option_copied projection.entry)) (option_copied item.entry)) }
+{
+    match item {
+        Some(item) => Ok(Some(view(projection, item)?)),
+        None => Ok(None),
+    }
+}
+
+/// Reads an item (API Reference: GetItem). It is refused where the key is none of this table.
+pub fn get_item(table: &TableRows, alloc: Global, request: &GetItem) -> Result<Reply, NoMemory>
+    ensures { IfOk result (IsTold request.now.table (λ db. get_item db request.now) table.now) }
+{
+    match key_of_key(alloc, table.schema(), &request.key)? {
+        Ok(key) => Ok(Reply::Read(view_if(request.projection.as_ref(), table.get(&key))?)),
+        Err(fault) => Ok(Reply::Refused(Refusal::Invalid(Invalid::Key(fault)))),
+    }
+}
