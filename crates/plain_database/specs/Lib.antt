@@ -1,4 +1,3 @@
--- The definitions in reading order: tables as they are kept; how they are stored; and what requests are answered.
-pub mod Tables
+-- The definitions in reading order: how a database is stored; and what requests are answered.
 pub mod Codes
 pub mod Built

@@ -4,11 +4,11 @@ ghost use Rattle.std.specs.Prelude.{◌≡◌, IfOk, OnOk, OnErr};
 ghost use Rattle.std.specs.Ordering.{nat_cmp};
 ghost use Rattle.std.specs.Cmp.Lexicographic.{slice_cmp};
 ghost use Rattle.std.specs.BTreeMap.{insert_entry};
-ghost use Rattle.plain_database.specs.Tables.{new_table};
+ghost use Rattle.numbered_tables.specs.Tables.{new_table};
 ghost use Rattle.table_model.specs.Catalog.{create_table, delete_table, describe_table, is_after, last_name, list_tables, made_at};
 
 use crate::database::SlowDb;
-use crate::table::NumberedTable;
+use numbered_tables::NumberedTable;
 use base_types::{Seq, Text};
 use std::alloc::{AllocError as NoMemory, Global};
 use std::collections::BTreeMap;

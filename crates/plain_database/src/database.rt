@@ -3,7 +3,7 @@
 ghost use Rattle.std.specs.Prelude.{◌≡◌, IfOk};
 ghost use Rattle.table_model.specs.Database.{empty_database};
 
-use crate::table::NumberedTable;
+use numbered_tables::NumberedTable;
 use base_types::{Seq, Text};
 use client_tokens::Tokens;
 use std::alloc::{AllocError as NoMemory, Global};
@@ -23,7 +23,7 @@ pub struct SlowDb {
 
 impl Model for SlowDb {
     ghost use Rattle.table_model.specs.Database.{Database};
-    ghost use Rattle.plain_database.specs.Tables.{tables_in, AreIdle};
+    ghost use Rattle.numbered_tables.specs.Tables.{tables_in, AreIdle};
     ghost use Rattle.plain_database.specs.Codes.{database_code};
 
     ghost Value = { Database };

@@ -10,7 +10,6 @@ mod catalog;
 mod database;
 mod effect;
 mod item;
-mod table;
 
 pub use database::SlowDb;
 pub use effect::effect_slow;

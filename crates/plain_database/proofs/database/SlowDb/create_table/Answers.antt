@@ -7,9 +7,9 @@ use Rattle.table_model.specs.declared.reply.Reply.TheVariants as answer
 use Rattle.table_model.specs.declared.refusal.Refusal.TheVariants.{TableExists, TooManyTables}
 use Rattle.table_model.specs.Database.{Database, table_named}
 use Rattle.table_model.specs.Catalog.{create_table, made_at}
-use Rattle.plain_database.specs.Tables.{table_in, tables_in, new_table}
+use Rattle.numbered_tables.specs.Tables.{table_in, tables_in, new_table, database_in}
 use Rattle.plain_database.proofs.Creating.{taken, full, made}
-use Rattle.plain_database.proofs.Kept.{at, database_in, known, as_many, inserted_in, idle_inserted}
+use Rattle.numbered_tables.proofs.Kept.{at, known, as_many, inserted_in, idle_inserted}
 use Rattle.plain_database.proofs.database.SlowDb.create_table.Goals as goal
 
 pub returns-then-contains_key-clause-ok : goal.returns-then-contains_key-clause-ok

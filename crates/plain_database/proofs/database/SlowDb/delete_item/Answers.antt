@@ -5,9 +5,9 @@ use Rattle.table_model.specs.declared.refusal.Refusal.TheVariants.{NoTable}
 use Rattle.table_model.specs.Database.{Database, table_named, at_key}
 use Rattle.table_model.specs.Writes.{delete_item, delete_at}
 use Rattle.item_keys.specs.ItemKey.{key_alone}
-use Rattle.plain_database.specs.declared.table.NumberedTable.{NumberedTable}
-use Rattle.plain_database.specs.Tables.{AreIdle}
-use Rattle.plain_database.proofs.Kept.{at, database_in, absent, no_table, idle_at, idle_set, kept_same, kept_done, on_err}
+use Rattle.numbered_tables.specs.declared.table.NumberedTable.{NumberedTable}
+use Rattle.numbered_tables.specs.Tables.{AreIdle, database_in}
+use Rattle.numbered_tables.proofs.Kept.{at, absent, no_table, idle_at, idle_set, kept_same, kept_done, on_err}
 use Rattle.plain_database.proofs.database.SlowDb.delete_item.Goals as goal
 
 pub returns-in_default-clause-ok : goal.returns-in_default-clause-ok

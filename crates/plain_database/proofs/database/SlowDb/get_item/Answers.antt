@@ -6,7 +6,8 @@ use Rattle.table_model.specs.declared.refusal.Refusal.TheVariants.{NoTable}
 use Rattle.table_model.specs.Database.{Database, at_key}
 use Rattle.table_model.specs.Writes.{old_at}
 use Rattle.table_model.specs.Reads.{get_item, view}
-use Rattle.plain_database.proofs.Kept.{at, database_in, absent, there, no_table}
+use Rattle.numbered_tables.specs.Tables.{database_in}
+use Rattle.numbered_tables.proofs.Kept.{at, absent, there, no_table}
 use Rattle.plain_database.proofs.database.SlowDb.get_item.Goals as goal
 
 pub returns-in_default : goal.returns-in_default

@@ -8,17 +8,14 @@ use Rattle.std.specs.declared.cmp.Ordering.TheVariants.{Less, Equal, Greater}
 use Rattle.std.specs.Prelude.{⊤}
 use Rattle.std.proofs.Common.{◌≡◌, refl, sym, ap, ◌∙◌, subst, Bool, true, false, ℕ, suc, cond, List, [], ◌∷◌, length, map, Option, None, Some, is_some, option_map, Result, Ok, Err, OnErr}
 use Rattle.std.proofs.lemmas.Map.Steps.{set_value_same}
-use Rattle.plain_database.specs.declared.table.NumberedTable.{NumberedTable}
-use Rattle.plain_database.specs.Tables.{table_in, tables_in, AreIdle}
+use Rattle.numbered_tables.specs.declared.table.NumberedTable.{NumberedTable}
+use Rattle.numbered_tables.specs.Tables.{Kept, table_in, tables_in, AreIdle, database_in}
 use Rattle.client_tokens.specs.TokenMap.{TokenMap}
 use Rattle.table_model.specs.declared.action.NumberedAction.{NumberedAction}
 use Rattle.table_model.specs.declared.reply.Reply.{Reply}
 use Rattle.table_model.specs.declared.refusal.Refusal.TheVariants.{NoTable}
 use Rattle.table_items.specs.Effects.{IsDone}
 use Rattle.table_model.specs.Database.{Database, Table, Effect, table_named, refused, in_table}
-
-abbrev pub Kept : Type 0
-Kept = List (List ℕ × NumberedTable)
 
 abbrev pub Shown : Type 0
 Shown = List (List ℕ × Table)
@@ -129,10 +126,6 @@ idle_inserted cmp (e ∷ es) k w p all =
 
 abbrev pub at : List ℕ → List ℕ → Bool
 at name = is_at (slice_cmp nat_cmp name)
-
--- the database of these tables, tokens and number
-abbrev pub database_in : Kept → TokenMap (List NumberedAction) → ℕ → Database
-database_in es tokens made = record { tables = tables_in es; tokens = tokens; made = made }
 
 pub absent : (es : Kept) (tokens : TokenMap (List NumberedAction)) (made : ℕ) (name : List ℕ) → lookup (at name) es ≡ None
     → table_named (database_in es tokens made) name ≡ None

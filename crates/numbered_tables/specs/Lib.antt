@@ -1,0 +1,2 @@
+-- Tables as they are kept.
+pub mod Tables
