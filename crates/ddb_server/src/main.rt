@@ -5,7 +5,8 @@
 //! each exit status has its cause. `specs/` has the definitions, in reading order: the database as a service,
 //! the program.
 //!
-//! `main` hands `run` the real streams and the system's clock, and ends with its status.
+//! `main` hands `run` the real streams and the system's clock, and ends with its status. Where a session ended badly it
+//! says why on standard error.
 #![tactic(auto)]
 
 mod program;
@@ -21,7 +22,24 @@ fn main(rt: HostRuntime) -> ExitCode {
     let mut source = StdSource::new(rt.stdin());
     let mut sink = StdSink::new(rt.stdout());
     let mut clock = SystemClock::from_first_look(&rt);
-    ExitCode::from(run(&rt, words.as_slice(), &mut source, &mut sink, &mut clock))
+    let status = run(&rt, words.as_slice(), &mut source, &mut sink, &mut clock);
+    if let Some(reason) = reason(status) {
+        // where standard error fails too, the status alone tells
+        drop(eprintln!(rt; "ddb_server: {reason}"));
+    }
+    ExitCode::from(status)
+}
+
+// Why a session ended badly, by the status.
+fn reason(status: u8) -> Option<&'static str> {
+    match status {
+        1 => Some("standard input could not be read"),
+        3 => Some("standard output could not be written"),
+        5 => Some("the input ended inside a message"),
+        6 => Some("the most messages of a session, 2^40, were answered"),
+        7 => Some("memory was refused and a message could not be read"),
+        _ => None,
+    }
 }
 
 // The words of the command line after the program's name; none where the system does not tell them.
