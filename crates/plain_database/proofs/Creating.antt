@@ -1,12 +1,11 @@
 -- CreateTable by its three ways: the name is taken, there are as many tables as there may be, a table is made.
-use Rattle.std.proofs.Common.{◌≡◌, ◌≤◌, ◌<◌, ◌+◌, ℕ, Bool, true, false, cond, List, length, Option, None, Some, is_some, refl, sym, ap, ◌∙◌, arith}
+use Rattle.std.proofs.Common.{◌≡◌, ◌≤◌, ◌<◌, ℕ, Bool, true, false, length, Option, None, Some, is_some, refl, arith}
 use Rattle.std.specs.Prelude.{nat_le}
 use Rattle.std.proofs.lemmas.Bool.{cond-true, cond-false, le-leb, leb-true}
-use Rattle.table_schema.specs.declared.schema.Schema.{Schema}
 use Rattle.table_request.specs.declared.tables.CreateTable.{CreateTable}
 use Rattle.table_model.specs.declared.reply.Reply.TheVariants as answer
 use Rattle.table_model.specs.declared.refusal.Refusal.TheVariants.{TableExists, TooManyTables}
-use Rattle.table_model.specs.Database.{Database, Table, Effect, table_named, refused}
+use Rattle.table_model.specs.Database.{Database, Table, table_named, refused}
 use Rattle.table_model.specs.Catalog.{create_table, create_if, with_new_table, made_at, most_tables}
 
 -- the name is taken

@@ -8,7 +8,6 @@ use Rattle.table_model.specs.Effect.{IsEffect}
 
 -- the operation of the request is built
 abbrev pub is_built : Request → Bool
-is_built (request.UpdateTable r) = false
 is_built (request.BatchGet r) = false
 is_built (request.BatchWrite r) = false
 is_built (request.Query r) = false

@@ -8,8 +8,8 @@ ghost use Rattle.numbered_tables.specs.Tables.{new_table};
 ghost use Rattle.table_model.specs.Catalog.{create_table, delete_table, describe_table, is_after, last_name, list_tables, made_at};
 
 use crate::database::SlowDb;
-use numbered_tables::NumberedTable;
 use base_types::{Seq, Text};
+use numbered_tables::NumberedTable;
 use std::alloc::{AllocError as NoMemory, Global};
 use std::collections::BTreeMap;
 use table_model::{Refusal, Reply, TableNames};

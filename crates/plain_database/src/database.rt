@@ -3,9 +3,9 @@
 ghost use Rattle.std.specs.Prelude.{◌≡◌, IfOk};
 ghost use Rattle.table_model.specs.Database.{empty_database};
 
-use numbered_tables::NumberedTable;
 use base_types::{Seq, Text};
 use client_tokens::Tokens;
+use numbered_tables::NumberedTable;
 use std::alloc::{AllocError as NoMemory, Global};
 use std::collections::BTreeMap;
 use std::marker::Model;

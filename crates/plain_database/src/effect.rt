@@ -23,6 +23,7 @@ pub fn effect_slow(
     match request {
         Request::CreateTable(request) => Ok(Some(db.create_table(alloc, request, moment)?)),
         Request::DeleteTable(request) => Ok(Some(db.delete_table(request)?)),
+        Request::UpdateTable(request) => Ok(Some(db.update_table(alloc, request)?)),
         Request::DescribeTable(request) => Ok(Some(db.describe_table(request)?)),
         Request::ListTables(request) => Ok(Some(db.list_tables(alloc, &request)?)),
         Request::PutItem(request) => Ok(Some(db.put_item(alloc, request)?)),

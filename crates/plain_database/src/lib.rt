@@ -10,6 +10,7 @@ mod catalog;
 mod database;
 mod effect;
 mod item;
+mod update_table;
 
 pub use database::SlowDb;
 pub use effect::effect_slow;

@@ -2,10 +2,10 @@ use Rattle.std.specs.Ordering.{nat_cmp}
 use Rattle.std.specs.Cmp.Lexicographic.{slice_cmp}
 use Rattle.std.specs.Map.{lookup}
 use Rattle.std.specs.BTreeMap.{insert_entry}
-use Rattle.std.proofs.Common.{rules, ◌≡◌, ◌≤◌, ◌<◌, ◌+◌, ℕ, List, true, false, is_some, length, refl, sym, ap, ◌∙◌, subst, arith}
+use Rattle.std.proofs.Common.{rules, ◌≡◌, ◌≤◌, ◌<◌, ◌+◌, ℕ, true, false, is_some, length, refl, sym, ap, ◌∙◌, subst}
 use Rattle.table_model.specs.declared.reply.Reply.TheVariants as answer
 use Rattle.table_model.specs.declared.refusal.Refusal.TheVariants.{TableExists, TooManyTables}
-use Rattle.table_model.specs.Database.{Database, table_named}
+use Rattle.table_model.specs.Database.{Database}
 use Rattle.table_model.specs.Catalog.{create_table, made_at}
 use Rattle.numbered_tables.specs.Tables.{table_in, tables_in, new_table, database_in}
 use Rattle.plain_database.proofs.Creating.{taken, full, made}

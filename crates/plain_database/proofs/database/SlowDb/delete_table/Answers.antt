@@ -2,7 +2,7 @@ use Rattle.std.specs.Map.{lookup}
 use Rattle.std.proofs.Common.{rules, ◌≡◌, None, Some, ap, ◌∙◌, subst}
 use Rattle.table_model.specs.declared.reply.Reply.TheVariants as answer
 use Rattle.table_model.specs.declared.refusal.Refusal.TheVariants.{NoTable}
-use Rattle.table_model.specs.Database.{Database, table_named}
+use Rattle.table_model.specs.Database.{Database}
 use Rattle.table_model.specs.Catalog.{delete_table, without_table}
 use Rattle.numbered_tables.specs.Tables.{table_in, tables_in, database_in}
 use Rattle.numbered_tables.proofs.Kept.{at, absent, there, no_table, the_table, removed_in, idle_removed}

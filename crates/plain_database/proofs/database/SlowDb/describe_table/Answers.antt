@@ -1,10 +1,10 @@
 use Rattle.std.specs.Map.{lookup}
-use Rattle.std.proofs.Common.{rules, ◌≡◌, None, Some, ap, ◌∙◌, subst}
+use Rattle.std.proofs.Common.{rules, ◌≡◌, None, Some, ◌∙◌, subst}
 use Rattle.table_model.specs.declared.reply.Reply.TheVariants as answer
 use Rattle.table_model.specs.declared.refusal.Refusal.TheVariants.{NoTable}
-use Rattle.table_model.specs.Database.{Database, table_named}
+use Rattle.table_model.specs.Database.{Database}
 use Rattle.table_model.specs.Catalog.{describe_table}
-use Rattle.numbered_tables.specs.Tables.{table_in, tables_in, database_in}
+use Rattle.numbered_tables.specs.Tables.{table_in, database_in}
 use Rattle.numbered_tables.proofs.Kept.{at, absent, there, no_table, the_table}
 use Rattle.plain_database.proofs.database.SlowDb.describe_table.Goals as goal
 

@@ -1,7 +1,7 @@
-use Rattle.std.proofs.Common.{rules, ◌≡◌, ◌≤◌, ◌<◌, ℕ, List, [], ◌∷◌, ◌++◌, map, length, sym, ap, ◌∙◌, subst}
+use Rattle.std.proofs.Common.{◌≡◌, ◌≤◌, ◌<◌, ℕ, List, [], ◌∷◌, ◌++◌, map, length, sym, ap, ◌∙◌, subst}
 use Rattle.table_model.specs.declared.reply.TableNames.{TableNames}
 use Rattle.table_model.specs.declared.reply.Reply.TheVariants as answer
-use Rattle.table_model.specs.Database.{Database, Table, Effect}
+use Rattle.table_model.specs.Database.{Database, Table}
 use Rattle.numbered_tables.proofs.Kept.{same_names}
 use Rattle.plain_database.proofs.Listing.{begun, left_out, put_in, listed_full, listed_all}
 use Rattle.plain_database.proofs.database.SlowDb.list_tables.Goals as goal

@@ -1,8 +1,8 @@
-use Rattle.std.specs.Map.{lookup, set_value}
-use Rattle.std.proofs.Common.{rules, ◌≡◌, [], None, Some, refl, sym, ap, ◌∙◌, subst}
+use Rattle.std.specs.Map.{lookup}
+use Rattle.std.proofs.Common.{rules, ◌≡◌, None, Some, refl, sym, ap, ◌∙◌, subst}
 use Rattle.table_model.specs.declared.reply.Reply.TheVariants as answer
 use Rattle.table_model.specs.declared.refusal.Refusal.TheVariants.{NoTable}
-use Rattle.table_model.specs.Database.{Database, table_named, at_key}
+use Rattle.table_model.specs.Database.{Database, at_key}
 use Rattle.table_model.specs.Writes.{put_item, put_at}
 use Rattle.item_keys.specs.ItemKey.{key_in}
 use Rattle.numbered_tables.specs.declared.table.NumberedTable.{NumberedTable}

@@ -1,0 +1,73 @@
+use Rattle.std.specs.Map.{lookup}
+use Rattle.std.proofs.Common.{rules, ◌≡◌, Option, None, Some, refl, sym, ap, ◌∙◌, subst}
+use Rattle.table_model.specs.declared.reply.Reply.TheVariants as answer
+use Rattle.table_model.specs.declared.refusal.Refusal.TheVariants.{NoTable}
+use Rattle.table_model.specs.Database.{Database, Table}
+use Rattle.table_model.specs.Catalog.{IsUpdateTable, IsUpdateIn}
+use Rattle.numbered_tables.specs.declared.table.NumberedTable.{NumberedTable}
+use Rattle.numbered_tables.specs.Tables.{AreIdle, database_in}
+use Rattle.numbered_tables.proofs.Kept.{at, absent, idle_at, idle_set, kept_same, on_err}
+use Rattle.plain_database.proofs.Changing.{updated_in, changed_idle}
+use Rattle.plain_database.proofs.database.SlowDb.update_table.Goals as goal
+
+pub returns-in_default-clause-ok : goal.returns-in_default-clause-ok
+returns-in_default-clause-ok c =
+    let t = c.self.inside in
+    let r = c.args.request in
+    let db : Database = database_in t.tables.entries t.tokens t.made in
+    let none : lookup (at r.table) t.tables.entries ≡ None = search rules in
+    let same : c.get_mut.follows.lender-at-none ≡ t.tables = search rules in
+    subst (λ (d : Database). IsUpdateTable d r (database_in c.get_mut.follows.lender-at-none.entries t.tokens t.made) (answer.Refused (NoTable r.table))) c.self.view_is
+    (subst (λ (o : Option Table). IsUpdateIn db r o (database_in c.get_mut.follows.lender-at-none.entries t.tokens t.made) (answer.Refused (NoTable r.table)))
+    (sym (absent t.tables.entries t.tokens t.made r.table none))
+    (λ i. (database_in (same i).entries t.tokens t.made, answer.Refused (NoTable r.table))))
+
+pub change_rows-requires : goal.change_rows-requires
+change_rows-requires c =
+    let es = c.self.inside.tables.entries in
+    let x = c.in-Some.table.now in
+    let found : lookup (at c.args.request.table) es ≡ Some x = search rules in
+    idle_at (at c.args.request.table) es x found c.self.invariant
+
+pub invariant_of-self-in_err-reply : goal.invariant_of-self-in_err-reply
+invariant_of-self-in_err-reply c =
+    let es = c.self.inside.tables.entries in
+    let x = c.in-Some.table.now in
+    let name = c.args.request.table in
+    let found : lookup (at name) es ≡ Some x = search rules in
+    let w : NumberedTable = record { number = x.number; rows = c.change_rows.new.rows } in
+    subst AreIdle (sym (c.get_mut.follows.holds w).0)
+    (idle_set (at name) es w (ap (λ v. v.pending) c.in_err-reply.ensures.err ∙ idle_at (at name) es x found c.self.invariant) c.self.invariant)
+
+pub returns-in_err-reply-clause-err : goal.returns-in_err-reply-clause-err
+returns-in_err-reply-clause-err c =
+    let t = c.self.inside in
+    let x = c.in-Some.table.now in
+    let name = c.args.request.table in
+    let found : lookup (at name) t.tables.entries ≡ Some x = search rules in
+    let w : NumberedTable = record { number = x.number; rows = c.change_rows.new.rows } in
+    let same : w ≡ x = (λ i. record { number = x.number; rows = c.in_err-reply.ensures.err i }) in
+    on_err c.from_residual.result
+    (kept_same t.tables.entries (c.get_mut.follows.lender w).entries t.tokens t.made name x w found (c.get_mut.follows.holds w).0 same ∙ c.self.view_is)
+
+pub invariant_of-self-2 : goal.invariant_of-self-2
+invariant_of-self-2 c =
+    let es = c.self.inside.tables.entries in
+    let x = c.in-Some.table.now in
+    let name = c.args.request.table in
+    let found : lookup (at name) es ≡ Some x = search rules in
+    let w : NumberedTable = record { number = x.number; rows = c.change_rows.new.rows } in
+    subst AreIdle (sym (c.get_mut.follows.holds w).0)
+    (idle_set (at name) es w
+    (changed_idle x.rows w.rows c.args.request.update c.in_ok-reply.reply c.in_ok-reply.ensures.ok ∙ idle_at (at name) es x found c.self.invariant) c.self.invariant)
+
+pub returns-clause-ok : goal.returns-clause-ok
+returns-clause-ok c =
+    let t = c.self.inside in
+    let x = c.in-Some.table.now in
+    let r = c.args.request in
+    let found : lookup (at r.table) t.tables.entries ≡ Some x = search rules in
+    let w : NumberedTable = record { number = x.number; rows = c.change_rows.new.rows } in
+    let entries = (c.get_mut.follows.lender w).entries in
+    subst (λ (d : Database). IsUpdateTable d r (database_in entries t.tokens t.made) c.in_ok-reply.reply) c.self.view_is
+    (updated_in t.tables.entries entries t.tokens t.made r x w c.in_ok-reply.reply found (c.get_mut.follows.holds w).0 refl c.in_ok-reply.ensures.ok)
