@@ -1,0 +1,4 @@
+pub mod Gathered
+pub mod Named
+pub mod Refusals
+pub mod Reading

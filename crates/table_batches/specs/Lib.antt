@@ -1,0 +1,4 @@
+-- The definitions in reading order: what requests answer; keys with their faults; what is read and changed in turn.
+pub mod Answers
+pub mod Keys
+pub mod Reads

@@ -1,0 +1,54 @@
+//! Tables that requests name.
+
+ghost use Rattle.std.specs.Prelude.{◌≡◌, ℕ, List, map, IfOk};
+ghost use Rattle.table_model.specs.Database.{first};
+ghost use Rattle.table_model.specs.Batches.{missing};
+ghost use Rattle.table_batches.specs.Answers.{tables_alone};
+
+use base_types::Text;
+use numbered_tables::NumberedTable;
+use std::alloc::AllocError as NoMemory;
+use std::collections::BTreeMap;
+use table_model::Refusal;
+use table_request::{TableKeys, TableWrites};
+
+/// A part of a request that is on one table.
+pub(crate) trait OnTable {
+    ghost table_of: { Self → List ℕ };
+
+    /// The name of the table.
+    fn table(&self) -> &Text
+        ensures { result.now ≡ table_of self.now };
+}
+
+impl OnTable for TableKeys {
+    ghost table_of = { λ t. t.table };
+
+    fn table(&self) -> &Text {
+        &self.table
+    }
+}
+
+impl OnTable for TableWrites {
+    ghost table_of = { λ t. t.table };
+
+    fn table(&self) -> &Text {
+        &self.table
+    }
+}
+
+/// The refusal of the first table that is not there, if one is not.
+pub(crate) fn missing<T: OnTable>(
+    tables: &BTreeMap<Text, NumberedTable>,
+    requests: &[T],
+) -> Result<Option<Refusal>, NoMemory>
+    ensures { IfOk result (λ refusal. refusal ≡ first (map (λ t. missing (tables_alone tables.now.entries) (T.table_of t)) requests.now)) }
+{
+    for asked in requests {
+        let name = asked.table();
+        if !tables.contains_key(name) {
+            return Ok(Some(Refusal::NoTable(name.try_clone()?)));
+        }
+    }
+    Ok(None)
+}
