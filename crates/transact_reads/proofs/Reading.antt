@@ -1,0 +1,184 @@
+-- Reads of items: one that is refused or found, all of them, and the reply.
+use Rattle.std.proofs.Common.{◌≡◌, refl, sym, ap, ◌∙◌, Bool, true, false, ℕ, cond, List, [], ◌∷◌, ◌++◌, map, filter_map, Option, None, Some, is_some, option_map, Result, Ok, Err, append_assoc}
+use Rattle.std.specs.Prelude.{option_and_then}
+use Rattle.std.specs.FinMap.{empty}
+use Rattle.std.specs.List.{cons_option}
+use Rattle.std.specs.Map.{lookup}
+use Rattle.std.proofs.lemmas.List.{append-nil, map-append}
+use Rattle.attr_value.specs.Tree.{Attributes}
+use Rattle.item_keys.specs.declared.fault.KeyFault.{KeyFault}
+use Rattle.item_keys.specs.declared.key.Key.{Key}
+use Rattle.item_keys.specs.ItemKey.{key_alone}
+use Rattle.row_keys.specs.declared.row_key.RowKey.{RowKey}
+use Rattle.table_request.specs.declared.transactions.TransactRead.{TransactRead}
+use Rattle.table_model.specs.declared.reply.Reply.{Reply}
+use Rattle.table_model.specs.declared.reply.Reply.TheVariants as answer
+use Rattle.table_model.specs.declared.refusal.Refusal.{Refusal}
+use Rattle.table_model.specs.declared.refusal.Refusal.TheVariants.{NoTable, Invalid}
+use Rattle.table_model.specs.declared.refusal.Invalid.TheVariants as invalid
+use Rattle.table_model.specs.Database.{Database, Table, Effect, table_named, unless, first, where_true}
+use Rattle.table_model.specs.Batches.{missing, missing_if, key_refusal, place_if}
+use Rattle.table_model.specs.Reads.{view}
+use Rattle.table_model.specs.Transactions.{Target, has_repeat, read_key, read_target, read_target_if, read_item, read_view}
+use Rattle.table_items.specs.Outcomes.{row_key_if}
+use Rattle.numbered_tables.specs.declared.table.NumberedTable.{NumberedTable}
+use Rattle.numbered_tables.specs.Tables.{Kept, database_in}
+use Rattle.numbered_tables.proofs.Kept.{at, absent, there, known}
+use Rattle.transact_reads.specs.declared.found.FoundRead.{FoundRead}
+use Rattle.transact_reads.specs.Found.{database_of, target_of, shown_of, refusal_at, IsFound, AreFound}
+use Rattle.transact_reads.specs.Reads.{IsAnswered, found_reply}
+use Rattle.transact_reads.proofs.Firsts.{goes_on, refused_here, none_left, either_first}
+
+-- ---- one read
+
+-- a table that is there, and one that is not
+pub present : (es : Kept) (name : List ℕ) → is_some (lookup (at name) es) ≡ true → missing (database_of es) name ≡ None
+present es name h = go (table_named (database_of es) name) (known es empty 0 name ∙ h)
+  where
+    go : (o : Option Table) → is_some o ≡ true → missing_if name o ≡ None
+    go None e = absurd (cc)
+    go (Some t) e = refl
+
+pub not_present : (es : Kept) (name : List ℕ) → is_some (lookup (at name) es) ≡ false → missing (database_of es) name ≡ Some (NoTable name)
+not_present es name h = go (table_named (database_of es) name) (known es empty 0 name ∙ h)
+  where
+    go : (o : Option Table) → is_some o ≡ false → missing_if name o ≡ Some (NoTable name)
+    go None e = refl
+    go (Some t) e = absurd (cc)
+
+-- the refusal of a read in its table
+abbrev pub refusal_in : TransactRead → Option Table → Option Refusal
+refusal_in read table =
+    first (missing_if read.table table ∷ option_and_then key_refusal (option_map (λ t. key_alone t.schema t.schema.keys read.key) table) ∷ [])
+
+pub not_there : (es : Kept) (read : TransactRead) → lookup (at read.table) es ≡ None → refusal_at (database_of es) read ≡ Some (NoTable read.table)
+not_there es read h = ap (refusal_in read) (absent es empty 0 read.table h)
+
+-- the key has a fault
+pub unfit : (es : Kept) (read : TransactRead) (x : NumberedTable) (fault : KeyFault) → lookup (at read.table) es ≡ Some x
+    → Err fault ≡ row_key_if (key_alone x.rows.schema x.rows.schema.keys read.key) → refusal_at (database_of es) read ≡ Some (Invalid (invalid.Key fault))
+unfit es read x fault found is =
+    ap (refusal_in read) (there es empty 0 read.table x found) ∙ go (key_alone x.rows.schema x.rows.schema.keys read.key) is
+  where
+    fault_in : Result RowKey KeyFault → KeyFault
+    fault_in (Ok key) = fault
+    fault_in (Err f) = f
+
+    go : (k : Result Key KeyFault) → Err fault ≡ row_key_if k → first (key_refusal k ∷ []) ≡ Some (Invalid (invalid.Key fault))
+    go (Ok key) e = absurd (cc)
+    go (Err f) e = λ i. Some (Invalid (invalid.Key (fault_in (sym e i))))
+
+place_of_row : (key : RowKey) (k : Result Key KeyFault) → Ok key ≡ row_key_if k → (first (key_refusal k ∷ []) ≡ None) × (place_if k ≡ Some key)
+place_of_row key (Err f) e = absurd (cc)
+place_of_row key (Ok x) e = (refl, λ i. Some (key_in (sym e i)))
+  where
+    key_in : Result RowKey KeyFault → RowKey
+    key_in (Ok row) = row
+    key_in (Err f) = key
+
+-- the key is fit
+pub fit : (es : Kept) (found : FoundRead) → lookup (at found.read.now.table) es ≡ Some found.table.now
+    → Ok found.key ≡ row_key_if (key_alone found.table.now.rows.schema found.table.now.rows.schema.keys found.read.now.key)
+    → IsFound (database_of es) found.read.now (Ok found)
+fit es found is key =
+    let read = found.read.now in
+    let x = found.table.now in
+    let table = there es empty 0 read.table x is in
+    let place = place_of_row found.key (key_alone x.rows.schema x.rows.schema.keys read.key) key in
+    let target : read_target (database_of es) read ≡ Some (target_of found) =
+    ap (λ (o : Option Table). read_target_if o read) table
+    ∙ ap (option_map (λ (k : RowKey). let t : Target = record { name = read.table; number = x.number; key = k } in t)) place.1 in (
+      ap (refusal_in read) table ∙ place.0,
+      target,
+      (λ i. option_map (view read.projection) (read_item (table i) (target i))),
+    )
+
+-- ---- all reads
+
+-- what is left to be found is what is left of the whole, and these were found
+pub record IsSoFar (db : Database) (reads rest : List TransactRead) (found : List FoundRead) : Type 0 where
+  pub refusal : first (map (refusal_at db) rest) ≡ first (map (refusal_at db) reads)
+  pub targets : map target_of found ++ filter_map (read_target db) rest ≡ filter_map (read_target db) reads
+  pub views : map shown_of found ++ map (read_view db) rest ≡ map (read_view db) reads
+
+pub begun : (db : Database) (reads : List TransactRead) (found : List FoundRead) → found ≡ [] → IsSoFar db reads reads found
+begun db reads found none = record {
+  refusal = refl;
+  targets = ap (λ (xs : List FoundRead). map target_of xs ++ filter_map (read_target db) reads) none;
+  views = ap (λ (xs : List FoundRead). map shown_of xs ++ map (read_view db) reads) none;
+}
+
+-- one more behind those that were made
+behind : {X Y : Type 0} (f : X → Y) (xs more : List X) (x : X) (ys : List Y) → more ≡ xs ++ x ∷ [] → map f more ++ ys ≡ map f xs ++ f x ∷ ys
+behind f xs more x ys is =
+    ap (λ zs. map f zs ++ ys) is ∙ ap (λ zs. zs ++ ys) (map-append f xs (x ∷ [])) ∙ append_assoc (map f xs) (f x ∷ []) ys
+
+pub one_found : (db : Database) (reads rest others : List TransactRead) (found more : List FoundRead) (read : TransactRead) (f : FoundRead)
+    → IsSoFar db reads rest found → rest ≡ read ∷ others → IsFound db read (Ok f) → more ≡ found ++ f ∷ [] → IsSoFar db reads others more
+one_found db reads rest others found more read f so_far is one after = record {
+  refusal = goes_on (refusal_at db) read rest others (first (map (refusal_at db) reads)) is one.0 so_far.refusal;
+  targets =
+      behind target_of found more f (filter_map (read_target db) others) after
+      ∙ ap (λ (o : Option Target). map target_of found ++ cons_option o (filter_map (read_target db) others)) (sym one.1)
+      ∙ ap (λ (xs : List TransactRead). map target_of found ++ filter_map (read_target db) xs) (sym is) ∙ so_far.targets;
+  views =
+      behind shown_of found more f (map (read_view db) others) after
+      ∙ ap (λ (o : Option Attributes). map shown_of found ++ o ∷ map (read_view db) others) (sym one.2)
+      ∙ ap (λ (xs : List TransactRead). map shown_of found ++ map (read_view db) xs) (sym is) ∙ so_far.views;
+}
+
+pub one_refused : (db : Database) (reads rest others : List TransactRead) (found : List FoundRead) (read : TransactRead) (refusal : Refusal)
+    → IsSoFar db reads rest found → rest ≡ read ∷ others → IsFound db read (Err refusal) → AreFound db reads (Err refusal)
+one_refused db reads rest others found read refusal so_far is one =
+    sym (refused_here (refusal_at db) read rest others refusal (first (map (refusal_at db) reads)) is one so_far.refusal)
+
+pub all_found : (db : Database) (reads rest : List TransactRead) (found : List FoundRead) → IsSoFar db reads rest found → rest ≡ []
+    → AreFound db reads (Ok found)
+all_found db reads rest found so_far none = (
+  sym (none_left (refusal_at db) rest (first (map (refusal_at db) reads)) none so_far.refusal),
+  sym so_far.targets ∙ ap (λ (xs : List TransactRead). map target_of found ++ filter_map (read_target db) xs) none ∙ append-nil (map target_of found),
+  sym so_far.views ∙ ap (λ (xs : List TransactRead). map shown_of found ++ map (read_view db) xs) none ∙ append-nil (map shown_of found),
+)
+
+-- ---- the reply
+
+module _ (es : Kept) (reads : List TransactRead) where
+  abbrev missing_at : TransactRead → Option Refusal
+  missing_at read = missing (database_of es) read.table
+
+  abbrev unfit_at : TransactRead → Option Refusal
+  unfit_at read = option_and_then key_refusal (read_key (database_of es) read)
+
+  -- the effect by what is found of tables, keys and targets, and by what is shown
+  abbrev effect_by : Database → Option Refusal → Option Refusal → List Target → List (Option Attributes) → Effect
+  effect_by db m k ts views =
+      unless db (first (m ∷ k ∷ where_true (has_repeat ts) (Invalid invalid.Twice) ∷ [])) (db, answer.TransactRead views)
+
+  -- a table is missing
+  pub answered_missing : (refusal : Refusal) → first (map missing_at reads) ≡ Some refusal → IsAnswered es reads (answer.Refused refusal)
+  answered_missing refusal h = λ tokens made.
+      let db : Database = database_in es tokens made in
+      ap (λ (m : Option Refusal). effect_by db m (first (map unfit_at reads)) (filter_map (read_target (database_of es)) reads)
+      (map (read_view (database_of es)) reads)) h
+
+  -- a key is unfit
+  pub answered_unfit : (refusal : Refusal) → first (map missing_at reads) ≡ None → AreFound (database_of es) reads (Err refusal)
+      → IsAnswered es reads (answer.Refused refusal)
+  answered_unfit refusal h are = λ tokens made.
+      let db : Database = database_in es tokens made in
+      let k : first (map unfit_at reads) ≡ Some refusal = sym (either_first missing_at unfit_at reads h) ∙ are in
+      (λ i. effect_by db (h i) (k i) (filter_map (read_target (database_of es)) reads) (map (read_view (database_of es)) reads))
+
+  -- all are found
+  pub answered_found : (found : List FoundRead) (reply : Reply) → first (map missing_at reads) ≡ None → AreFound (database_of es) reads (Ok found)
+      → reply ≡ found_reply found → IsAnswered es reads reply
+  answered_found found reply h are said = λ tokens made.
+      let db : Database = database_in es tokens made in
+      let k : first (map unfit_at reads) ≡ None = sym (either_first missing_at unfit_at reads h) ∙ are.0 in
+      (λ i. effect_by db (h i) (k i) (are.1 i) (are.2 i)) ∙ go db (has_repeat (map target_of found)) ∙ ap (λ (r : Reply). (db, r)) (sym said)
+    where
+      go : (db : Database) (b : Bool)
+          → unless db (first (None ∷ None ∷ where_true b (Invalid invalid.Twice) ∷ [])) (db, answer.TransactRead (map shown_of found))
+          ≡ (db, cond b (answer.Refused (Invalid invalid.Twice)) (answer.TransactRead (map shown_of found)))
+      go db true = refl
+      go db false = refl
