@@ -8,14 +8,16 @@ use Rattle.item_keys.specs.ItemKey.{key_alone}
 use Rattle.row_keys.specs.declared.row_key.RowKey.{RowKey}
 use Rattle.row_keys.specs.Rows.{item_at}
 use Rattle.table_request.specs.declared.batches.TableKeys.{TableKeys}
+use Rattle.table_request.specs.declared.batches.TableWrites.{TableWrites}
 use Rattle.table_model.specs.declared.refusal.Refusal.TheVariants.{NoTable}
 use Rattle.table_model.specs.Database.{Table, table_named}
-use Rattle.table_model.specs.Batches.{missing, missing_if, place_if, asked_keys, asked_keys_if, asked_items, asked_items_if}
+use Rattle.table_model.specs.Batches.{missing, missing_if, place_if, asked_keys, asked_keys_if, asked_items, asked_items_if, write_keys, write_keys_if, write_key}
 use Rattle.numbered_tables.specs.declared.table.NumberedTable.{NumberedTable}
 use Rattle.numbered_tables.specs.Tables.{Kept, table_in}
 use Rattle.numbered_tables.proofs.Kept.{at, absent, there}
 use Rattle.table_batches.specs.Answers.{tables_alone}
 use Rattle.table_batches.specs.Keys.{gathered}
+use Rattle.table_batches.specs.Writes.{changes_of, changes_if, changes_in}
 use Rattle.table_batches.proofs.Gathered.{places}
 
 pub not_there : (es : Kept) (name : List ℕ) → lookup (at name) es ≡ None → table_named (tables_alone es) name ≡ None
@@ -61,3 +63,21 @@ pub items_asked :
 items_asked es t x keys here is =
     sym (ap (λ (o : Option Table). asked_items_if o (filter_map place_if (asked_keys_if o t))) (is_there es t.table x here)
     ∙ ap (map (item_at x.rows.rows)) (places (map (λ key. key_alone x.rows.schema x.rows.schema.keys key) t.keys) keys (sym is)))
+
+-- ---- what is written to one table
+
+pub writes_nowhere : (es : Kept) (t : TableWrites) → lookup (at t.table) es ≡ None → gathered (write_keys (tables_alone es) t) ≡ Ok []
+writes_nowhere es t none = ap (λ (o : Option Table). gathered (write_keys_if o t)) (not_there es t.table none)
+
+pub changes_nowhere : (es : Kept) (t : TableWrites) → lookup (at t.table) es ≡ None → changes_in (tables_alone es) t ≡ []
+changes_nowhere es t none = ap (λ (o : Option Table). changes_if o t) (not_there es t.table none)
+
+pub keys_written :
+    (es : Kept) (t : TableWrites) (x : NumberedTable) (found : Result (List RowKey) KeyFault) → lookup (at t.table) es ≡ Some x
+    → gathered (map (write_key (table_in x)) t.writes) ≡ found → gathered (write_keys (tables_alone es) t) ≡ found
+keys_written es t x found here is = ap (λ (o : Option Table). gathered (write_keys_if o t)) (is_there es t.table x here) ∙ is
+
+pub changes_written :
+    (es : Kept) (t : TableWrites) (x : NumberedTable) → lookup (at t.table) es ≡ Some x
+    → changes_of (table_in x) t.table t.writes ≡ changes_in (tables_alone es) t
+changes_written es t x here = sym (ap (λ (o : Option Table). changes_if o t) (is_there es t.table x here))

@@ -104,3 +104,11 @@ module _ {T M : Type 0} (keys_of : T → List (Result Key KeyFault)) (made_of : 
 
   pub all_made : (made : List M) (twice : Bool) → Asking keys_of made_of ts [] made twice → made ≡ flat_map made_of ts
   all_made made twice before = sym (append-nil made) ∙ before.all
+
+-- ---- a test of one table after another
+
+pub any_found : {X : Type 0} (test : X → Bool) (x : X) (xs : List X) (whole : Bool) → test x ≡ true → list_any test (x ∷ xs) ≡ whole → true ≡ whole
+any_found test x xs whole is before = (λ i. sym is i || list_any test xs) ∙ before
+
+pub any_passed : {X : Type 0} (test : X → Bool) (x : X) (xs : List X) (whole : Bool) → test x ≡ false → list_any test (x ∷ xs) ≡ whole → list_any test xs ≡ whole
+any_passed test x xs whole is before = (λ i. sym is i || list_any test xs) ∙ before

@@ -2,3 +2,4 @@
 pub mod Answers
 pub mod Keys
 pub mod Reads
+pub mod Writes
