@@ -1,0 +1,237 @@
+-- A page with one row more, and at its ends.
+use Rattle.std.specs.Prelude.{◌+◌, ◌-◌, min, ◌^◌, ◌<◌, ◌≤◌, map, take, if◌then◌else◌}
+use Rattle.std.specs.Option.{option_map}
+use Rattle.std.proofs.Common.{◌≡◌, ℕ, Bool, true, false, List, [], ◌∷◌, ◌++◌, Option, None, Some, length, refl, ap, sym, ◌∙◌, subst, arith}
+use Rattle.std.proofs.lemmas.Bool.{cond-true, cond-false}
+use Rattle.std.proofs.lemmas.List.{append-nil, append_assoc, map-append, length-append, length-map}
+use Rattle.std.proofs.lemmas.List.Elements.{filter-append}
+use Rattle.std.proofs.lemmas.List.Sums.{length-filter, count_by-le-length, sum_by-append}
+use Rattle.std.proofs.Math.Seq.{take-append_seam}
+use Rattle.attr_value.specs.Tree.{Attributes}
+use Rattle.item_keys.specs.Row.{only}
+use Rattle.paging.specs.declared.page.Judged.{Judged}
+use Rattle.paging.specs.Page.{page_bytes, bytes_of, is_full, IsPage}
+use Rattle.paging.specs.Room.{Room, room_after, has_stopped, Takes}
+use Rattle.paging.proofs.Full.{whole_page, page_with, stopped_where_full}
+use Rattle.row_keys.specs.declared.position.Position.{Position}
+use Rattle.row_keys.specs.Rows.{Entries, position}
+use Rattle.table_request.specs.declared.pages.PageRequest.{PageRequest}
+use Rattle.table_schema.specs.declared.schema.Schema.{Schema}
+use Rattle.table_model.specs.declared.reply.Page.{Page}
+use Rattle.table_model.specs.Outcome.{is_met}
+use Rattle.table_model.specs.Pages.{Source, judged, row_view, shown_rows, counts_alone, page_items, last_of, is_start_name, page_last, page_of}
+use Rattle.page_ranges.specs.Least.{least_at}
+use Rattle.table_pages.specs.Sources.{seen}
+use Rattle.table_pages.specs.Filled.{entry_seen, IsFilling, IsFilled}
+
+last_added : (rows : Entries) (e : Position × Attributes) → last_of (rows ++ e ∷ []) ≡ Some e.1
+last_added [] e = refl
+last_added (row ∷ []) e = refl
+last_added (row ∷ (other ∷ rows)) e = last_added (other ∷ rows) e
+
+-- a size that is counted up to the last `u64` leaves what the size itself leaves: the page is full by either
+pub saturated : (old new : Room) (size : ℕ) (passes : Bool) → Takes old new (record { size = min size 18446744073709551615; passes = passes })
+    → Takes old new (record { size = size; passes = passes })
+saturated old new size passes takes limit rows is =
+    let counted : Judged = record { size = min size 18446744073709551615; passes = passes } in
+    let exact : Judged = record { size = size; passes = passes } in
+    let many : length (rows ++ counted ∷ []) ≡ length (rows ++ exact ∷ []) =
+    length-append rows (counted ∷ []) ∙ sym (length-append rows (exact ∷ [])) in
+    let bytes : page_bytes + 1 - bytes_of (rows ++ counted ∷ []) ≡ page_bytes + 1 - bytes_of (rows ++ exact ∷ []) =
+    omega
+    (arith, sum_by-append (λ (row : Judged). row.size) rows (counted ∷ []), sum_by-append (λ (row : Judged). row.size) rows (exact ∷ [])) in
+    takes limit rows is
+    ∙ (λ i. record { rows = option_map (λ most. most - many i) limit; bytes = bytes i })
+
+module _ (schema : Schema) (source : Source) (r : PageRequest) where
+  -- the rows as a page judges them
+  abbrev pub judged_all : Entries → List Judged
+  judged_all rows = map (λ entry. judged r entry.1) rows
+
+  judged_more : (rows : Entries) (e : Position × Attributes) → judged_all (rows ++ e ∷ []) ≡ judged_all rows ++ judged r e.1 ∷ []
+  judged_more rows e = map-append (λ (entry : Position × Attributes). judged r entry.1) rows (e ∷ [])
+
+  module _ (rows : Entries) (at : Position) (item : Attributes) where
+    passed : is_met r.filter r.values (Some item) ≡ true → shown_rows r (rows ++ (at, item) ∷ []) ≡ shown_rows r rows ++ (at, item) ∷ []
+    passed met =
+        filter-append (λ (entry : Position × Attributes). is_met r.filter r.values (Some entry.1)) rows ((at, item) ∷ [])
+        ∙ ap (λ more. shown_rows r rows ++ more) (cond-true (is_met r.filter r.values (Some item)) ((at, item) ∷ []) [] met)
+
+    left_out : is_met r.filter r.values (Some item) ≡ false → shown_rows r (rows ++ (at, item) ∷ []) ≡ shown_rows r rows
+    left_out met =
+        filter-append (λ (entry : Position × Attributes). is_met r.filter r.values (Some entry.1)) rows ((at, item) ∷ [])
+        ∙ ap (λ more. shown_rows r rows ++ more) (cond-false (is_met r.filter r.values (Some item)) ((at, item) ∷ []) [] met)
+        ∙ append-nil (shown_rows r rows)
+
+    -- what is shown of some rows, unless they are counted alone
+    shown_of : Bool → Entries → Option (List Attributes)
+    shown_of alone shown = if alone then None else Some (map (λ entry. row_view schema source r entry.1) shown)
+
+    one_shown : (alone : Bool) → option_map (λ (shown : List Attributes). shown ++ row_view schema source r item ∷ [])
+        (if alone then None else Some (map (λ (entry : Position × Attributes). row_view schema source r entry.1) (shown_rows r rows)))
+        ≡ (if alone then None else Some (map (λ (entry : Position × Attributes). row_view schema source r entry.1) (shown_rows r rows ++ (at, item) ∷ [])))
+    one_shown true = refl
+    one_shown false =
+        ap (λ (shown : List Attributes). Some shown)
+        (sym (map-append (λ (entry : Position × Attributes). row_view schema source r entry.1) (shown_rows r rows) ((at, item) ∷ [])))
+
+    module _ (room newer : Room) (page : Page) (is : IsFilling schema source r rows room page) (takes : Takes room newer (judged r item)) where
+      room_more : newer ≡ room_after r.limit (judged_all (rows ++ (at, item) ∷ []))
+      room_more = takes r.limit (judged_all rows) is.room_is ∙ ap (room_after r.limit) (sym (judged_more rows (at, item)))
+
+      last_more : (full : Bool) (last : Option Attributes) → full ≡ has_stopped newer
+          → last ≡ (if full then Some (only (is_start_name schema source) item) else None)
+          → last ≡ page_last schema source r (rows ++ (at, item) ∷ [])
+      last_more full last stops is_last =
+          is_last
+          ∙ (λ i. if (stops ∙ ap has_stopped room_more ∙ stopped_where_full r.limit (judged_all (rows ++ (at, item) ∷ []))) i
+          then option_map (only (is_start_name schema source)) (sym (last_added rows (at, item)) i) else None)
+
+      scanned_more : page.scanned + 1 ≡ length (rows ++ (at, item) ∷ [])
+      scanned_more = ap (λ (p : Page). p.scanned + 1) is.page_is ∙ sym (length-append rows ((at, item) ∷ []))
+
+      -- a row that passes the filter
+      pub added_shown : (full : Bool) (last : Option Attributes) (items : Option (List Attributes)) → full ≡ has_stopped newer
+          → last ≡ (if full then Some (only (is_start_name schema source) item) else None) → is_met r.filter r.values (Some item) ≡ true
+          → items ≡ option_map (λ shown. shown ++ row_view schema source r item ∷ []) page.items
+          → IsFilling schema source r (rows ++ (at, item) ∷ []) newer
+          (record { count = page.count + 1; scanned = page.scanned + 1; items = items; last = last })
+      added_shown full last items stops is_last met is_items =
+          let count : page.count + 1 ≡ length (shown_rows r (rows ++ (at, item) ∷ [])) =
+          ap (λ (p : Page). p.count + 1) is.page_is ∙ sym (length-append (shown_rows r rows) ((at, item) ∷ []))
+          ∙ ap length (sym (passed met)) in
+          let shown : items ≡ page_items schema source r (rows ++ (at, item) ∷ []) =
+          is_items ∙ ap (λ (p : Page). option_map (λ (shown : List Attributes). shown ++ row_view schema source r item ∷ []) p.items) is.page_is
+          ∙ one_shown (counts_alone r.select)
+          ∙ ap (λ (rows : Entries). if counts_alone r.select then None else Some (map (λ entry. row_view schema source r entry.1) rows)) (sym (passed met)) in
+          let end = last_more full last stops is_last in record {
+            room_is = room_more;
+            page_is = λ i. record { count = count i; scanned = scanned_more i; items = shown i; last = end i };
+          }
+
+      -- a row that does not
+      pub added_counted : (full : Bool) (last : Option Attributes) → full ≡ has_stopped newer
+          → last ≡ (if full then Some (only (is_start_name schema source) item) else None) → is_met r.filter r.values (Some item) ≡ false
+          → IsFilling schema source r (rows ++ (at, item) ∷ []) newer
+          (record { count = page.count; scanned = page.scanned + 1; items = page.items; last = last })
+      added_counted full last stops is_last met =
+          let count : page.count ≡ length (shown_rows r (rows ++ (at, item) ∷ [])) =
+          ap (λ (p : Page). p.count) is.page_is ∙ ap length (sym (left_out met)) in
+          let shown : page.items ≡ page_items schema source r (rows ++ (at, item) ∷ []) =
+          ap (λ (p : Page). p.items) is.page_is
+          ∙ ap (λ (rows : Entries). if counts_alone r.select then None else Some (map (λ entry. row_view schema source r entry.1) rows)) (sym (left_out met)) in
+          let end = last_more full last stops is_last in record {
+            room_is = room_more;
+            page_is = λ i. record { count = count i; scanned = scanned_more i; items = shown i; last = end i };
+          }
+
+  -- no more rows pass than were looked at
+  fewer_shown : (rows : Entries) → length (shown_rows r rows) ≤ length rows
+  fewer_shown rows =
+      let test : Position × Attributes → Bool = λ entry. is_met r.filter r.values (Some entry.1) in
+      omega (arith, length-filter test rows, count_by-le-length test rows)
+
+  module _ (rows : Entries) (room : Room) (page : Page) (is : IsFilling schema source r rows room page) where
+    pub scanned_is : page.scanned ≡ length rows
+    scanned_is = ap (λ (p : Page). p.scanned) is.page_is
+
+    pub count_within : page.count ≤ page.scanned
+    count_within = omega (arith, scanned_is, ap (λ (p : Page). p.count) is.page_is, fewer_shown rows)
+
+    not_full : has_stopped room ≡ false → is_full r.limit (judged_all rows) ≡ false
+    not_full going = sym (stopped_where_full r.limit (judged_all rows)) ∙ ap has_stopped (sym is.room_is) ∙ going
+
+    -- the rows ended before the page
+    pub at_end : (all : Entries) → all ≡ rows → has_stopped room ≡ false → IsFilled schema source r all page
+    at_end all same going =
+        subst (λ (these : Entries). IsFilled schema source r these page) (sym same)
+        (record {
+          count = length rows;
+          is_page = subst (IsPage r.limit (judged_all rows)) (length-map rows (λ (entry : Position × Attributes). judged r entry.1))
+              (whole_page r.limit (judged_all rows) (not_full going));
+          page_is = is.page_is ∙ ap (page_of schema source r) (sym (taken rows));
+        })
+      where
+        taken : (these : Entries) → take (length these) these ≡ these
+        taken these = ap (take (length these)) (sym (append-nil these)) ∙ take-append_seam these []
+
+    -- the page ended with this row
+    pub at_stop : (e : Position × Attributes) (rest all : Entries) (newer : Room) (new : Page) → has_stopped room ≡ false
+        → IsFilling schema source r (rows ++ e ∷ []) newer new → has_stopped newer ≡ true → all ≡ (rows ++ e ∷ []) ++ rest
+        → IsFilled schema source r all new
+    at_stop e rest all newer new going with_row stops same =
+        subst (λ (these : Entries). IsFilled schema source r these new) (sym same)
+        (record {
+          count = length (rows ++ e ∷ []);
+          is_page =
+              subst (λ (judges : List Judged). IsPage r.limit judges (length (rows ++ e ∷ [])))
+              (ap (λ (front : List Judged). front ++ judged_all rest) (sym (judged_more rows e))
+              ∙ sym (map-append (λ (entry : Position × Attributes). judged r entry.1) (rows ++ e ∷ []) rest))
+              (subst (IsPage r.limit ((judged_all rows ++ judged r e.1 ∷ []) ++ judged_all rest))
+              (ap length (sym (judged_more rows e)) ∙ length-map (rows ++ e ∷ []) (λ (entry : Position × Attributes). judged r entry.1))
+              (page_with r.limit (judged_all rows) (judged r e.1) (judged_all rest) (not_full going) full));
+          page_is = with_row.page_is ∙ ap (page_of schema source r) (sym (take-append_seam (rows ++ e ∷ []) rest));
+        })
+      where
+        full : is_full r.limit (judged_all rows ++ judged r e.1 ∷ []) ≡ true
+        full =
+            ap (is_full r.limit) (sym (judged_more rows e)) ∙ sym (stopped_where_full r.limit (judged_all (rows ++ e ∷ [])))
+            ∙ ap has_stopped (sym with_row.room_is) ∙ stops
+
+-- ---- a walk over rows at places of any kind
+
+module _ {K : Type 0} (schema : Schema) (source : Source) (r : PageRequest) where
+  -- the page was told of the rows up to those that are left
+  pub record Along (rows left : List (K × Attributes)) (room : Room) (page : Page) : Type 0 where
+    pub told : List (K × Attributes)
+    pub parts : rows ≡ told ++ left
+    pub filling : (place : K → Position) → IsFilling schema source r (map (entry_seen place schema source) told) room page
+
+  module _ {rows left : List (K × Attributes)} {room : Room} {page : Page} (along : Along rows left room page) where
+    somewhere : K → Position
+    somewhere place = position (least_at 0) (least_at 0)
+
+    pub along_scanned : page.scanned ≡ length along.told
+    along_scanned =
+        scanned_is schema source r _ room page (along.filling somewhere) ∙ length-map along.told (entry_seen somewhere schema source)
+
+    pub along_count : page.count ≤ page.scanned
+    along_count = count_within schema source r _ room page (along.filling somewhere)
+
+    -- one row more may be counted
+    pub along_few : (row : K × Attributes) (rest : List (K × Attributes)) → left ≡ row ∷ rest → length rows < 2 ^ 64 → page.scanned + 1 < 2 ^ 64
+    along_few row rest next few =
+        omega (arith, along_scanned, ap length along.parts, length-append along.told left, ap length next)
+
+    pub along_end : left ≡ [] → has_stopped room ≡ false → (place : K → Position) → IsFilled schema source r (map (entry_seen place schema source) rows) page
+    along_end none going place =
+        at_end schema source r _ room page (along.filling place) _
+        (ap (map (entry_seen place schema source)) (along.parts ∙ ap (λ rest. along.told ++ rest) none ∙ append-nil along.told)) going
+
+    module _ (row : K × Attributes) (rest : List (K × Attributes)) (next : left ≡ row ∷ rest) (newer : Room) (new : Page)
+        (more : (rows : Entries) (at : Position) → IsFilling schema source r rows room page
+        → IsFilling schema source r (rows ++ (at, seen schema source row.1) ∷ []) newer new) where
+      parts_more : rows ≡ (along.told ++ row ∷ []) ++ rest
+      parts_more = along.parts ∙ ap (λ rows. along.told ++ rows) next ∙ sym (append_assoc along.told (row ∷ []) rest)
+
+      -- the page goes on
+      pub along_more : Along rows rest newer new
+      along_more = record {
+        told = along.told ++ row ∷ [];
+        parts = parts_more;
+        filling = λ place.
+            subst (λ (entries : Entries). IsFilling schema source r entries newer new)
+            (sym (map-append (entry_seen place schema source) along.told (row ∷ [])))
+            (more (map (entry_seen place schema source) along.told) (place row.0) (along.filling place));
+      }
+
+      -- the page ended
+      pub along_stop : has_stopped room ≡ false → has_stopped newer ≡ true → (place : K → Position)
+          → IsFilled schema source r (map (entry_seen place schema source) rows) new
+      along_stop going stops place =
+          at_stop schema source r (map (entry_seen place schema source) along.told) room page (along.filling place)
+          (entry_seen place schema source row) (map (entry_seen place schema source) rest) _ newer new going
+          (more (map (entry_seen place schema source) along.told) (place row.0) (along.filling place)) stops
+          (ap (map (entry_seen place schema source)) parts_more
+          ∙ map-append (entry_seen place schema source) (along.told ++ row ∷ []) rest
+          ∙ ap (λ front. front ++ map (entry_seen place schema source) rest) (map-append (entry_seen place schema source) along.told (row ∷ [])))

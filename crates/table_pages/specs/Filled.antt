@@ -1,0 +1,61 @@
+-- A page as it is filled.
+use Rattle.std.specs.Prelude.{◌≡◌, ℕ, ◌^◌, ◌<◌, Bool, map, filter, take, ⊤, Option, Some}
+use Rattle.attr_value.specs.Tree.{Attributes}
+use Rattle.paging.specs.Page.{IsPage}
+use Rattle.paging.specs.Room.{Room, room_after}
+use Rattle.paging.specs.Rows.{rows_after}
+use Rattle.row_keys.specs.declared.position.Position.{Position}
+use Rattle.row_keys.specs.Keys.{position_order}
+use Rattle.row_keys.specs.Rows.{Entries}
+use Rattle.page_ranges.specs.declared.span.Span.{Span}
+use Rattle.page_ranges.specs.declared.positions.PositionSpan.{PositionSpan}
+use Rattle.page_ranges.specs.Span.{is_inside, stands_inside}
+use Rattle.table_request.specs.declared.pages.PageRequest.{PageRequest}
+use Rattle.table_request.specs.declared.pages.Segment.{Segment}
+use Rattle.table_schema.specs.declared.schema.Schema.{Schema}
+use Rattle.table_model.specs.declared.reply.Page.{Page}
+use Rattle.table_model.specs.Database.{Table}
+use Rattle.table_model.specs.Pages.{Source, whole_table, source_entries, judged, page_of, is_in_segment}
+use Rattle.table_pages.specs.declared.row.Seen.{Seen}
+use Rattle.table_pages.specs.declared.row.Seen.TheVariants.{Whole, Kept}
+use Rattle.table_pages.specs.Sources.{seen}
+
+-- the attributes of a row that are seen
+abbrev pub item_of : Seen → Attributes
+item_of (Whole item) = item.now
+item_of (Kept item) = item
+
+-- a row of a walk as an entry, at a position
+abbrev pub entry_seen : {K : Type 0} → (K → Position) → Schema → Source → K × Attributes → Position × Attributes
+entry_seen place schema source row = (place row.0, seen schema source row.1)
+
+-- the page was told of these rows, and has room for so many more
+pub record IsFilling (schema : Schema) (source : Source) (r : PageRequest) (rows : Entries) (room : Room) (page : Page) : Type 0 where
+  pub room_is : room ≡ room_after r.limit (map (λ entry. judged r entry.1) rows)
+  pub page_is : page ≡ page_of schema source r rows
+
+-- the page is that of these rows
+pub record IsFilled (schema : Schema) (source : Source) (r : PageRequest) (rows : Entries) (page : Page) : Type 0 where
+  pub count : ℕ
+  pub is_page : IsPage r.limit (map (λ entry. judged r entry.1) rows) count
+  pub page_is : page ≡ page_of schema source r (take count rows)
+
+-- the rows at keys in a range, as a page meets them that begins behind a position
+abbrev pub rows_in : Table → Source → Span → Bool → Option Position → Entries
+rows_in table source span forward start =
+    rows_after position_order forward start (filter (λ entry. is_inside span entry.0.read) (source_entries table source))
+
+-- the same of positions
+abbrev pub positions_in : Table → Source → PositionSpan → Bool → Option Position → Entries
+positions_in table source ends forward start =
+    rows_after position_order forward start (filter (λ entry. stands_inside ends entry.0) (source_entries table source))
+
+-- a position of a table has its key twice
+abbrev pub IsStart : Source → Option Position → Type 0
+IsStart whole_table (Some at) = at.read ≡ at.item
+IsStart source start = ⊤
+
+-- inside are the keys at the places of a segment, or all
+abbrev pub HasSegment : Option Segment → Span → Type 0
+HasSegment segment span =
+    (at : Position) → at.read.place < 2 ^ 64 → is_inside span at.read ≡ is_in_segment segment at

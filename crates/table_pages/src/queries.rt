@@ -1,0 +1,141 @@
+//! Queries.
+
+ghost use Rattle.std.specs.Prelude.{◌≡◌, ℕ, [], IfOk};
+ghost use Rattle.std.specs.Option.{option_copied};
+ghost use Rattle.expr_words.specs.Trees.{tree};
+ghost use Rattle.key_condition.specs.Law.{HasKeysWhereTrue};
+ghost use Rattle.table_items.specs.Effects.{table_at};
+ghost use Rattle.table_model.specs.Pages.{source_keys, source_entries, queried, IsPageOf, IsQueriedIn, IsQueriedFrom};
+ghost use Rattle.page_ranges.specs.AtKeys.{AreAtKeys};
+ghost use Rattle.table_pages.specs.Asked.{IsQueryOf};
+ghost use Rattle.table_pages.specs.Filled.{IsStart};
+ghost use Rattle.table_pages.specs.Sources.{source_in, HasNumber};
+
+use crate::page::page_in;
+use crate::refused::{invalid, reading_refusal, unknown_index, unprojected};
+use crate::root::named_key;
+use crate::source::{Source, source_of};
+use crate::start::{Start, Within, start_of};
+use key_condition::{KeyRange, RangeEnd, range};
+use page_ranges::Span;
+use row_keys::Position;
+use std::alloc::{AllocError as NoMemory, Global};
+use table_model::{Invalid, Reply};
+use table_request::Query;
+use table_rows::TableRows;
+
+/// The page of the rows for whose keys the key condition is true, which has this range, from behind a position on.
+fn page_of(
+    rows: &TableRows,
+    alloc: Global,
+    request: &Query,
+    source: Source<'_>,
+    range: &KeyRange,
+    start: Option<&Position>,
+) -> Result<Reply, NoMemory>
+    requires idle { rows.now.pending ≡ [] }
+    requires keyed { AreAtKeys rows.now.schema rows.now.rows }
+    requires number { HasNumber rows.now.schema source }
+    requires start { IsStart (source_in source) (option_copied start) }
+    requires truth { HasKeysWhereTrue rows.now.schema (source_keys rows.now.schema (source_in source)) request.now.page.values
+        (tree request.now.key_condition) range.now }
+    ensures { IfOk result (λ reply. (number : ℕ) → IsPageOf rows.now.schema (source_in source.entry) request.now.page request.now.forward
+        (option_copied start.entry) (queried request.now (source_entries (table_at number rows.now) (source_in source.entry))) reply) }
+{
+    let span = Span::of_range(alloc, range)?;
+    let page = page_in(
+        rows,
+        alloc,
+        &request.page,
+        source,
+        span,
+        start,
+        request.forward,
+    )?;
+    Ok(Reply::Page(page))
+}
+
+/// A Query of a source whose key condition has this range.
+fn query_in(
+    rows: &TableRows,
+    alloc: Global,
+    request: &Query,
+    source: Source<'_>,
+    range: &KeyRange,
+) -> Result<Reply, NoMemory>
+    requires idle { rows.now.pending ≡ [] }
+    requires keyed { AreAtKeys rows.now.schema rows.now.rows }
+    requires number { HasNumber rows.now.schema source }
+    requires truth { HasKeysWhereTrue rows.now.schema (source_keys rows.now.schema (source_in source)) request.now.page.values
+        (tree request.now.key_condition) range.now }
+    ensures { IfOk result (λ reply. (number : ℕ) → IsQueriedIn (table_at number rows.now) request.now (source_in source.entry) range.now reply) }
+{
+    let schema = rows.schema();
+    let page = &request.page;
+    if let Some(name) = named_key(alloc, page.filter.as_ref(), source.keys(schema))? {
+        return Ok(invalid(Invalid::FilterOfKey(name.try_clone()?)));
+    }
+    if let Some(name) = unprojected(alloc, schema, source, page.projection.as_ref())? {
+        return Ok(invalid(Invalid::NotProjected(name)));
+    }
+    let within = Within::Partition(&range.partition);
+    match start_of(alloc, schema, source, within, page.start.as_ref())? {
+        Start::Invalid => Ok(invalid(Invalid::StartKey)),
+        Start::First => page_of(rows, alloc, request, source, range, None),
+        Start::Behind(at) => {
+            let reply = page_of(rows, alloc, request, source, range, Some(&at));
+            drop(at);
+            reply
+        }
+    }
+}
+
+/// A Query of a source.
+fn query_from(
+    rows: &TableRows,
+    alloc: Global,
+    request: &Query,
+    source: Source<'_>,
+) -> Result<Reply, NoMemory>
+    requires idle { rows.now.pending ≡ [] }
+    requires keyed { AreAtKeys rows.now.schema rows.now.rows }
+    requires number { HasNumber rows.now.schema source }
+    ensures { IfOk result (λ reply. (number : ℕ) → IsQueriedFrom (table_at number rows.now) request.now (source_in source.entry) reply) }
+{
+    let schema = rows.schema();
+    if let Some(why) = reading_refusal(&request.page, source) {
+        return Ok(invalid(why));
+    }
+    let values = &request.page.values;
+    match range(
+        alloc,
+        &request.key_condition,
+        values,
+        schema,
+        source.keys(schema),
+    ) {
+        Ok(range) => {
+            let reply = query_in(rows, alloc, request, source, &range);
+            drop(range);
+            reply
+        }
+        Err(RangeEnd::Fault(fault)) => Ok(invalid(Invalid::KeyCondition(fault))),
+        Err(RangeEnd::NoMemory) => Err(NoMemory),
+    }
+}
+
+/// Reads the rows of one partition key, page by page (API Reference: Query). The rows of the table stand at the keys of
+/// their items, and no change is prepared.
+///
+/// It is refused where the index is not there, where what is asked of a global index is not kept there or can't be, where
+/// the key condition is none, where the filter names the key, and where the start key is none of the partition.
+pub fn query(rows: &TableRows, alloc: Global, request: &Query) -> Result<Reply, NoMemory>
+    requires idle { rows.now.pending ≡ [] }
+    requires keyed { AreAtKeys rows.now.schema rows.now.rows }
+    ensures { IfOk result (IsQueryOf rows.now request.now) }
+{
+    match source_of(rows.schema(), request.page.index.as_ref()) {
+        Some(source) => query_from(rows, alloc, request, source),
+        None => unknown_index(request.page.index.as_ref()),
+    }
+}

@@ -1,0 +1,101 @@
+//! Scans.
+
+ghost use Rattle.std.specs.Prelude.{◌≡◌, ℕ, [], true, IfOk};
+ghost use Rattle.std.specs.Option.{option_copied};
+ghost use Rattle.row_keys.specs.declared.row_key.RowKey.{RowKey as AnyKey};
+ghost use Rattle.table_items.specs.Effects.{table_at};
+ghost use Rattle.table_model.specs.Pages.{source_entries, scanned, IsPageOf, IsScannedFrom};
+ghost use Rattle.page_ranges.specs.AtKeys.{AreAtKeys};
+ghost use Rattle.page_ranges.specs.Span.{is_inside};
+ghost use Rattle.table_pages.specs.Asked.{IsScanOf};
+ghost use Rattle.table_pages.specs.Filled.{IsStart, HasSegment};
+ghost use Rattle.table_pages.specs.Sources.{source_in, HasNumber};
+
+use crate::page::page_in;
+use crate::refused::{invalid, reading_refusal, unknown_index, unprojected};
+use crate::source::{Source, source_of};
+use crate::start::{Start, Within, start_of};
+use page_ranges::Span;
+use row_keys::Position;
+use std::alloc::{AllocError as NoMemory, Global};
+use table_model::{Invalid, Reply};
+use table_request::{Scan, Segment};
+use table_rows::TableRows;
+
+/// The keys at the places of a segment, or all.
+fn span_of(alloc: Global, segment: Option<Segment>) -> Result<Span, NoMemory>
+    ensures { IfOk result (HasSegment segment) }
+{
+    match segment {
+        Some(part) => Span::of_segment(alloc, part.segment, part.total),
+        None => Ok(Span::all()),
+    }
+}
+
+/// The page of the rows of a source, or of a segment of it, from behind a position on.
+fn page_of(
+    rows: &TableRows,
+    alloc: Global,
+    request: &Scan,
+    source: Source<'_>,
+    start: Option<&Position>,
+) -> Result<Reply, NoMemory>
+    requires idle { rows.now.pending ≡ [] }
+    requires keyed { AreAtKeys rows.now.schema rows.now.rows }
+    requires number { HasNumber rows.now.schema source }
+    requires start { IsStart (source_in source) (option_copied start) }
+    ensures { IfOk result (λ reply. (number : ℕ) → IsPageOf rows.now.schema (source_in source.entry) request.now.page true
+        (option_copied start.entry) (scanned request.now (source_entries (table_at number rows.now) (source_in source.entry))) reply) }
+{
+    let span = span_of(alloc, request.segment)?;
+    let page = page_in(rows, alloc, &request.page, source, span, start, true)?;
+    Ok(Reply::Page(page))
+}
+
+/// A Scan of a source.
+fn scan_from(
+    rows: &TableRows,
+    alloc: Global,
+    request: &Scan,
+    source: Source<'_>,
+) -> Result<Reply, NoMemory>
+    requires idle { rows.now.pending ≡ [] }
+    requires keyed { AreAtKeys rows.now.schema rows.now.rows }
+    requires number { HasNumber rows.now.schema source }
+    ensures { IfOk result (λ reply. (number : ℕ) → IsScannedFrom (table_at number rows.now) request.now (source_in source.entry) reply) }
+{
+    let schema = rows.schema();
+    let page = &request.page;
+    if let Some(why) = reading_refusal(page, source) {
+        return Ok(invalid(why));
+    }
+    if let Some(name) = unprojected(alloc, schema, source, page.projection.as_ref())? {
+        return Ok(invalid(Invalid::NotProjected(name)));
+    }
+    let within = Within::Segment(request.segment);
+    match start_of(alloc, schema, source, within, page.start.as_ref())? {
+        Start::Invalid => Ok(invalid(Invalid::StartKey)),
+        Start::First => page_of(rows, alloc, request, source, None),
+        Start::Behind(at) => {
+            let reply = page_of(rows, alloc, request, source, Some(&at));
+            drop(at);
+            reply
+        }
+    }
+}
+
+/// Reads all rows, or those of a segment, page by page (API Reference: Scan). The rows of the table stand at the keys of
+/// their items, and no change is prepared.
+///
+/// It is refused where the index is not there, where what is asked of a global index is not kept there or can't be, and
+/// where the start key is none of the segment.
+pub fn scan(rows: &TableRows, alloc: Global, request: &Scan) -> Result<Reply, NoMemory>
+    requires idle { rows.now.pending ≡ [] }
+    requires keyed { AreAtKeys rows.now.schema rows.now.rows }
+    ensures { IfOk result (IsScanOf rows.now request.now) }
+{
+    match source_of(rows.schema(), request.page.index.as_ref()) {
+        Some(source) => scan_from(rows, alloc, request, source),
+        None => unknown_index(request.page.index.as_ref()),
+    }
+}
