@@ -22,43 +22,14 @@ use table_model::Page;
 use table_request::PageRequest;
 use table_rows::TableRows;
 
-/// The page of the rows at keys in a range, from behind a position on in the direction asked.
-pub(crate) fn page_in<'a>(
-    rows: &'a TableRows,
-    alloc: Global,
-    request: &'a PageRequest,
-    source: Source<'a>,
-    span: Span,
-    start: Option<&Position>,
-    forward: bool,
-) -> Result<Page, NoMemory>
-    requires idle { rows.now.pending ≡ [] }
-    requires number { HasNumber rows.now.schema source }
-    requires start { IsStart (source_in source) (option_copied start) }
-    ensures { IfOk result (λ page. (number : ℕ) → IsFilled rows.now.schema (source_in source.entry) request.now
-        (rows_in (table_at number rows.now) (source_in source.entry) span forward (option_copied start.entry)) page) }
-{
-    if request.limit == Some(0) {
-        drop(span);
-        return Ok(empty_page(alloc, request));
-    }
-    match source {
-        Source::Table => {
-            let blank = Blank::new(1);
-            let page = table_page::<Brand>(rows, alloc, blank, request, &span, start, forward);
-            drop(span);
-            page
-        }
-        Source::Local(number, _) | Source::Global(number, _) => {
-            let ends = span.positions(alloc)?;
-            let blank = Blank::new(1);
-            let page = index_page::<Brand>(
-                rows, alloc, blank, request, source, number, &ends, start, forward,
-            );
-            drop(ends);
-            page
-        }
-    }
+/// What a page is read from: the rows of a source from behind a position on, or from the first, in the direction asked.
+#[derive(Clone, Copy)]
+pub(crate) struct Reading<'a> {
+    pub rows: &'a TableRows,
+    pub request: &'a PageRequest,
+    pub source: Source<'a>,
+    pub start: Option<&'a Position>,
+    pub forward: bool,
 }
 
 /// The key of the item at a position.
@@ -71,66 +42,99 @@ fn item_key(position: Option<&Position>) -> Option<&RowKey>
     }
 }
 
-/// The page of a table's rows at keys in a range.
-fn table_page<'a, L: Ledger>(
-    rows: &'a TableRows,
-    alloc: Global,
-    blank: Blank,
-    request: &'a PageRequest,
-    span: &Span,
-    start: Option<&Position>,
-    forward: bool,
-) -> Result<Page, NoMemory>
-    requires name { blank.name ≡ L.name }
-    requires parts { blank.parts ≡ L.parts }
-    requires some { 0 < L.parts }
-    requires idle { rows.now.pending ≡ [] }
-    requires limit { ForSome request.now.limit (λ most. 1 ≤ most) }
-    requires start { IsStart whole_table (option_copied start) }
-    ensures { IfOk result (λ page. (number : ℕ) → IsFilled rows.now.schema whole_table request.now
-        (rows_in (table_at number rows.now) whole_table span.now forward (option_copied start.entry)) page) }
-{
-    let range = rows.rows(from_low(span.low.as_ref()), up_to_high(span.high.as_ref()));
-    let sight = Sight {
-        schema: rows.schema(),
-        source: Source::Table,
-        page: request,
-    };
-    let mut steps = Steps::<L>::start(blank);
-    fill(alloc, &sight, &range, item_key(start), forward, &mut steps)
-}
+impl Reading<'_> {
+    /// The page of the rows at keys in a range. No change of the table is prepared.
+    pub(crate) fn page_in(&self, alloc: Global, span: Span) -> Result<Page, NoMemory>
+        requires idle { self.now.rows.now.pending ≡ [] }
+        requires number { HasNumber self.now.rows.now.schema self.now.source }
+        requires start { IsStart (source_in self.now.source) (option_copied self.now.start) }
+        ensures { IfOk result (λ page. (number : ℕ) → IsFilled self.now.rows.now.schema (source_in self.now.source) self.now.request.now
+            (rows_in (table_at number self.now.rows.now) (source_in self.now.source) span self.now.forward (option_copied self.now.start)) page) }
+    {
+        if self.request.limit == Some(0) {
+            drop(span);
+            return Ok(empty_page(alloc, self.request));
+        }
+        match self.source {
+            Source::Table => {
+                let page = self.table_page::<Brand>(alloc, Blank::new(1), &span);
+                drop(span);
+                page
+            }
+            Source::Local(number, _) | Source::Global(number, _) => {
+                let ends = span.positions(alloc)?;
+                let page = self.index_page::<Brand>(alloc, Blank::new(1), number, &ends);
+                drop(ends);
+                page
+            }
+        }
+    }
 
-/// The page of the rows at positions in a range of an index, which has this number among all.
-fn index_page<'a, L: Ledger>(
-    rows: &'a TableRows,
-    alloc: Global,
-    blank: Blank,
-    request: &'a PageRequest,
-    source: Source<'a>,
-    number: usize,
-    ends: &PositionSpan,
-    start: Option<&Position>,
-    forward: bool,
-) -> Result<Page, NoMemory>
-    requires name { blank.name ≡ L.name }
-    requires parts { blank.parts ≡ L.parts }
-    requires some { 0 < L.parts }
-    requires idle { rows.now.pending ≡ [] }
-    requires number { IsNumber rows.now.schema number source }
-    requires limit { ForSome request.now.limit (λ most. 1 ≤ most) }
-    ensures { IfOk result (λ page. (number : ℕ) → IsFilled rows.now.schema (source_in source.entry) request.now
-        (positions_in (table_at number rows.now) (source_in source.entry) ends.now forward (option_copied start.entry)) page) }
-{
-    let low = from_low(ends.low.as_ref());
-    let high = up_to_high(ends.high.as_ref());
-    let Some(range) = rows.index_rows(number, low, high) else {
-        return Ok(empty_page(alloc, request));
-    };
-    let sight = Sight {
-        schema: rows.schema(),
-        source,
-        page: request,
-    };
-    let mut steps = Steps::<L>::start(blank);
-    fill(alloc, &sight, &range, start, forward, &mut steps)
+    /// The page of the table's rows at keys in a range.
+    fn table_page<L: Ledger>(
+        &self,
+        alloc: Global,
+        blank: Blank,
+        span: &Span,
+    ) -> Result<Page, NoMemory>
+        requires name { blank.name ≡ L.name }
+        requires parts { blank.parts ≡ L.parts }
+        requires some { 0 < L.parts }
+        requires idle { self.now.rows.now.pending ≡ [] }
+        requires limit { ForSome self.now.request.now.limit (λ most. 1 ≤ most) }
+        requires start { IsStart whole_table (option_copied self.now.start) }
+        ensures { IfOk result (λ page. (number : ℕ) → IsFilled self.now.rows.now.schema whole_table self.now.request.now
+            (rows_in (table_at number self.now.rows.now) whole_table span.now self.now.forward (option_copied self.now.start)) page) }
+    {
+        let low = from_low(span.low.as_ref());
+        let high = up_to_high(span.high.as_ref());
+        let range = self.rows.rows(low, high);
+        let sight = Sight {
+            schema: self.rows.schema(),
+            source: Source::Table,
+            page: self.request,
+        };
+        let mut steps = Steps::<L>::start(blank);
+        fill(
+            alloc,
+            &sight,
+            &range,
+            item_key(self.start),
+            self.forward,
+            &mut steps,
+        )
+    }
+
+    /// The page of the rows at positions in a range of the index that is read, which has this number.
+    fn index_page<L: Ledger>(
+        &self,
+        alloc: Global,
+        blank: Blank,
+        number: usize,
+        ends: &PositionSpan,
+    ) -> Result<Page, NoMemory>
+        requires name { blank.name ≡ L.name }
+        requires parts { blank.parts ≡ L.parts }
+        requires some { 0 < L.parts }
+        requires idle { self.now.rows.now.pending ≡ [] }
+        requires number { IsNumber self.now.rows.now.schema number self.now.source }
+        requires limit { ForSome self.now.request.now.limit (λ most. 1 ≤ most) }
+        ensures { IfOk result (λ page. (number : ℕ) → IsFilled self.now.rows.now.schema (source_in self.now.source) self.now.request.now
+            (positions_in (table_at number self.now.rows.now) (source_in self.now.source) ends.now self.now.forward
+            (option_copied self.now.start)) page) }
+    {
+        let low = from_low(ends.low.as_ref());
+        let high = up_to_high(ends.high.as_ref());
+        // There is an index of this number.
+        let Some(range) = self.rows.index_rows(number, low, high) else {
+            return Ok(empty_page(alloc, self.request));
+        };
+        let sight = Sight {
+            schema: self.rows.schema(),
+            source: self.source,
+            page: self.request,
+        };
+        let mut steps = Steps::<L>::start(blank);
+        fill(alloc, &sight, &range, self.start, self.forward, &mut steps)
+    }
 }

@@ -11,10 +11,10 @@ ghost use Rattle.table_pages.specs.Asked.{IsQueryOf};
 ghost use Rattle.table_pages.specs.Filled.{IsStart};
 ghost use Rattle.table_pages.specs.Sources.{source_in, HasNumber};
 
-use crate::page::page_in;
-use crate::refused::{invalid, reading_refusal, unknown_index, unprojected};
+use crate::page::Reading;
+use crate::refused::{invalid, reading_refusal, unprojected};
 use crate::root::named_key;
-use crate::source::{Source, source_of};
+use crate::source::{Source, index_named};
 use crate::start::{Start, Within, start_of};
 use key_condition::{KeyRange, RangeEnd, range};
 use page_ranges::Span;
@@ -25,13 +25,13 @@ use table_request::Query;
 use table_rows::TableRows;
 
 /// The page of the rows for whose keys the key condition is true, which has this range, from behind a position on.
-fn page_of(
-    rows: &TableRows,
+fn page_of<'a>(
+    rows: &'a TableRows,
     alloc: Global,
-    request: &Query,
-    source: Source<'_>,
+    request: &'a Query,
+    source: Source<'a>,
     range: &KeyRange,
-    start: Option<&Position>,
+    start: Option<&'a Position>,
 ) -> Result<Reply, NoMemory>
     requires idle { rows.now.pending ≡ [] }
     requires keyed { AreAtKeys rows.now.schema rows.now.rows }
@@ -43,15 +43,14 @@ fn page_of(
         (option_copied start.entry) (queried request.now (source_entries (table_at number rows.now) (source_in source.entry))) reply) }
 {
     let span = Span::of_range(alloc, range)?;
-    let page = page_in(
+    let reading = Reading {
         rows,
-        alloc,
-        &request.page,
+        request: &request.page,
         source,
-        span,
         start,
-        request.forward,
-    )?;
+        forward: request.forward,
+    };
+    let page = reading.page_in(alloc, span)?;
     Ok(Reply::Page(page))
 }
 
@@ -134,8 +133,11 @@ pub fn query(rows: &TableRows, alloc: Global, request: &Query) -> Result<Reply, 
     requires keyed { AreAtKeys rows.now.schema rows.now.rows }
     ensures { IfOk result (IsQueryOf rows.now request.now) }
 {
-    match source_of(rows.schema(), request.page.index.as_ref()) {
+    let Some(name) = &request.page.index else {
+        return query_from(rows, alloc, request, Source::Table);
+    };
+    match index_named(rows.schema(), name) {
         Some(source) => query_from(rows, alloc, request, source),
-        None => unknown_index(request.page.index.as_ref()),
+        None => Ok(invalid(Invalid::UnknownIndex(name.try_clone()?))),
     }
 }

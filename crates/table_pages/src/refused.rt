@@ -1,6 +1,6 @@
 //! What is refused of what a request reads.
 
-ghost use Rattle.std.specs.Prelude.{◌≡◌, IfOk, IfSome};
+ghost use Rattle.std.specs.Prelude.{◌≡◌, IfOk};
 ghost use Rattle.std.specs.Option.{option_copied, option_map};
 ghost use Rattle.table_model.specs.declared.refusal.Refusal.TheVariants as refusal;
 ghost use Rattle.table_model.specs.Pages as model;
@@ -87,15 +87,4 @@ pub(crate) fn unprojected(
         Some(root) => Ok(Some(Text::copied(alloc, root)?)),
         None => Ok(None),
     }
-}
-
-/// What is answered where the table has no index of the name that is stated (API Reference: Query, IndexName).
-pub(crate) fn unknown_index(index: Option<&Text>) -> Result<Reply, NoMemory>
-    ensures { IfOk result (λ reply. IfSome (option_copied index.entry) (λ name.
-        reply ≡ Reply.Refused (Refusal.Invalid (Invalid.UnknownIndex name)))) }
-{
-    let Some(name) = index else {
-        return Err(NoMemory);
-    };
-    Ok(invalid(Invalid::UnknownIndex(name.try_clone()?)))
 }

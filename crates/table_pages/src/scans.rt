@@ -11,9 +11,9 @@ ghost use Rattle.table_pages.specs.Asked.{IsScanOf};
 ghost use Rattle.table_pages.specs.Filled.{IsStart, HasSegment};
 ghost use Rattle.table_pages.specs.Sources.{source_in, HasNumber};
 
-use crate::page::page_in;
-use crate::refused::{invalid, reading_refusal, unknown_index, unprojected};
-use crate::source::{Source, source_of};
+use crate::page::Reading;
+use crate::refused::{invalid, reading_refusal, unprojected};
+use crate::source::{Source, index_named};
 use crate::start::{Start, Within, start_of};
 use page_ranges::Span;
 use row_keys::Position;
@@ -33,12 +33,12 @@ fn span_of(alloc: Global, segment: Option<Segment>) -> Result<Span, NoMemory>
 }
 
 /// The page of the rows of a source, or of a segment of it, from behind a position on.
-fn page_of(
-    rows: &TableRows,
+fn page_of<'a>(
+    rows: &'a TableRows,
     alloc: Global,
-    request: &Scan,
-    source: Source<'_>,
-    start: Option<&Position>,
+    request: &'a Scan,
+    source: Source<'a>,
+    start: Option<&'a Position>,
 ) -> Result<Reply, NoMemory>
     requires idle { rows.now.pending ≡ [] }
     requires keyed { AreAtKeys rows.now.schema rows.now.rows }
@@ -48,7 +48,14 @@ fn page_of(
         (option_copied start.entry) (scanned request.now (source_entries (table_at number rows.now) (source_in source.entry))) reply) }
 {
     let span = span_of(alloc, request.segment)?;
-    let page = page_in(rows, alloc, &request.page, source, span, start, true)?;
+    let reading = Reading {
+        rows,
+        request: &request.page,
+        source,
+        start,
+        forward: true,
+    };
+    let page = reading.page_in(alloc, span)?;
     Ok(Reply::Page(page))
 }
 
@@ -94,8 +101,11 @@ pub fn scan(rows: &TableRows, alloc: Global, request: &Scan) -> Result<Reply, No
     requires keyed { AreAtKeys rows.now.schema rows.now.rows }
     ensures { IfOk result (IsScanOf rows.now request.now) }
 {
-    match source_of(rows.schema(), request.page.index.as_ref()) {
+    let Some(name) = &request.page.index else {
+        return scan_from(rows, alloc, request, Source::Table);
+    };
+    match index_named(rows.schema(), name) {
         Some(source) => scan_from(rows, alloc, request, source),
-        None => unknown_index(request.page.index.as_ref()),
+        None => Ok(invalid(Invalid::UnknownIndex(name.try_clone()?))),
     }
 }

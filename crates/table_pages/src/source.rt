@@ -1,7 +1,7 @@
 //! What a request reads.
 
 ghost use Rattle.std.specs.Prelude.{◌≡◌, IfSome, slice_get, Some};
-ghost use Rattle.std.specs.Option.{option_copied, option_map};
+ghost use Rattle.std.specs.Option.{option_map};
 ghost use Rattle.table_model.specs.Pages.{local_named, global_named, source_of, source_keys, is_global};
 ghost use Rattle.table_pages.specs.Sources.{source_in, HasNumber};
 
@@ -29,14 +29,11 @@ impl<'a> Source<'a> {
     }
 }
 
-/// What a request reads, where it is there.
-pub(crate) fn source_of<'a>(schema: &'a Schema, index: Option<&Text>) -> Option<Source<'a>>
-    ensures source { option_map source_in result ≡ source_of schema.now (option_copied index.entry) }
+/// The index of this name, where the table has one.
+pub(crate) fn index_named<'a>(schema: &'a Schema, name: &Text) -> Option<Source<'a>>
+    ensures source { option_map source_in result ≡ source_of schema.now (Some name.now) }
     ensures number { IfSome result (HasNumber schema.now) }
 {
-    let Some(name) = index else {
-        return Some(Source::Table);
-    };
     if let Some((number, index)) = local_named(schema.locals.as_slice(), name) {
         return Some(Source::Local(number, index));
     }

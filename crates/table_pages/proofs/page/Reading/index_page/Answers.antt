@@ -8,16 +8,16 @@ use Rattle.row_keys.specs.Rows.{index_of}
 use Rattle.page_ranges.specs.Span.{low_end, high_end}
 use Rattle.table_pages.specs.Sources.{source_in}
 use Rattle.table_pages.proofs.Ranged.{numbered, index_filled}
-use Rattle.table_pages.proofs.page.index_page.Goals as goal
+use Rattle.table_pages.proofs.page.Reading.index_page.Goals as goal
 
 pub returns : goal.returns
 returns g c =
-    let kept = c.args.rows.now in
+    let kept = c.args.self.now.rows.now in
     let ends = c.args.ends.now in
     let low : option_copied c.as_ref.result ≡ ends.low = search rules in
     let high : option_copied c.as_ref-2.result ≡ ends.high = search rules in
     let found =
-    numbered kept.schema kept.rows c.args.number c.args.source c.in-Some.range (bound_map (λ end. end.now) c.from_low-low.result)
+    numbered kept.schema kept.rows c.args.number c.args.self.now.source c.in-Some.range (bound_map (λ end. end.now) c.from_low-low.result)
     (bound_map (λ end. end.now) c.up_to_high-high.result) c.requires.number c.in-Some.ensures.rows in
     let range : c.in-Some.range ≡ entries_between position_order (low_end ends.low) (high_end ends.high) (index_of kept.schema found.0 kept.rows) =
     found.1
@@ -25,6 +25,6 @@ returns g c =
     (index_of kept.schema found.0 kept.rows)) in
     IfOk-weaker c.fill.result _ _
     (λ page filled.
-    index_filled kept.schema c.schema.result.now kept.rows c.in-Some.range c.args.request.now (source_in c.args.source) found.0 ends c.args.forward
-    (option_copied c.args.start) page c.schema.ensures range found.2 filled)
+    index_filled kept.schema c.schema.result.now kept.rows c.in-Some.range c.args.self.now.request.now (source_in c.args.self.now.source) found.0 ends c.args.self.now.forward
+    (option_copied c.args.self.now.start) page c.schema.ensures range found.2 filled)
     c.fill.ensures

@@ -2,7 +2,7 @@ use Rattle.std.proofs.Common.{◌∙◌, ap, sym, ◌+◌, ℕ, List, slice_get}
 use Rattle.row_keys.specs.Rows.{index_keys}
 use Rattle.table_schema.specs.declared.index.GlobalIndex.{GlobalIndex}
 use Rattle.table_pages.proofs.Chosen.{global_number}
-use Rattle.table_pages.proofs.source.source_of.Goals as goal
+use Rattle.table_pages.proofs.source.index_named.Goals as goal
 
 pub returns-in-Some-global_named-clause-number : goal.returns-in-Some-global_named-clause-number
 returns-in-Some-global_named-clause-number c =

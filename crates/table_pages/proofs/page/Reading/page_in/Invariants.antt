@@ -1,4 +1,4 @@
-use Rattle.table_pages.proofs.page.page_in.Given as goal
+use Rattle.table_pages.proofs.page.Reading.page_in.Given as goal
 
 abbrev pub ghosts-table_page : goal.ghosts-table_page
 ghosts-table_page a = record { name = a.blank.name; parts = a.blank.parts }
