@@ -1,0 +1,2 @@
+-- Databases whose rows stand at their items' keys.
+pub mod Keyed
