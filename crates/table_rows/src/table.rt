@@ -3,6 +3,8 @@
 ghost use Rattle.std.specs.Prelude.{◌≡◌, [], ◌∷◌, ◌++◌, map, slice_get, false, None, IfNone, IfSome, IfOk, OnOk, OnErr, IsTrue};
 ghost use Rattle.std.specs.Option.{option_copied};
 ghost use Rattle.std.specs.BTreeMap.Range.{entries_between};
+ghost use Rattle.std.specs.List.Sorted.{IsStrictlySortedBy};
+ghost use Rattle.std.specs.Map.{keys_of};
 ghost use Rattle.std.specs.Range.Bound.{bound_map};
 ghost use Rattle.row_keys.specs.Keys.{row_order, position_order};
 ghost use Rattle.row_keys.specs.Rows.{item_at, index_of, index_keys};
@@ -138,6 +140,13 @@ impl TableRows {
         ensures { option_copied result ≡ item_at self.now.rows key.now }
     {
         self.slots.get(key)
+    }
+
+    /// That the rows stand in the order of a Scan, each key once. The call does nothing: its clause is what it gives.
+    pub fn are_in_order(&self)
+        ensures { IsStrictlySortedBy row_order (keys_of self.now.rows) }
+    {
+        let _slots = &self.slots;
     }
 
     /// Whether a change of the item at a key is prepared. It goes over all that are.
