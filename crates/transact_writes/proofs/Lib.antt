@@ -1,0 +1,4 @@
+pub mod Made
+pub mod Checks
+pub mod Judging
+pub mod Whole
