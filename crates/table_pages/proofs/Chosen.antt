@@ -15,11 +15,12 @@ use Rattle.table_schema.specs.declared.index.LocalIndex.{LocalIndex}
 use Rattle.table_schema.specs.declared.schema.Schema.{Schema}
 use Rattle.table_request.specs.declared.pages.Select.{Select}
 use Rattle.table_request.specs.declared.pages.Select.TheVariants as select
-use Rattle.row_keys.specs.Rows.{index_keys}
+use Rattle.row_keys.specs.declared.row_key.RowKey.{RowKey}
+use Rattle.row_keys.specs.Keys.{row_key}
+use Rattle.row_keys.specs.Rows.{index_keys, position_if}
+use Rattle.table_items.specs.Outcomes.{row_key_if}
 use Rattle.table_model.specs.Pages.{root_of, first_unkept, asks_all, default_view, local_index, as_global, position_from}
-use Rattle.page_ranges.specs.AtKeys.{key_if}
 use Rattle.table_pages.specs.Names.{first_unnamed}
-use Rattle.table_pages.specs.Sources.{both_keys}
 
 -- ---- what an index keeps
 
@@ -99,8 +100,21 @@ global_number schema n index is =
 
 -- ---- start keys
 
-pub both_are : (read item : Result Key KeyFault) → both_keys (key_if read) (key_if item) ≡ position_from read item
-both_are (Ok read) (Ok item) = refl
-both_are (Ok read) (Err fault) = refl
-both_are (Err fault) (Ok item) = refl
-both_are (Err fault) (Err other) = refl
+-- an item of this key has the position of its keys
+pub placed_is : (read : Result Key KeyFault) (item : Key) → position_if (row_key item) read ≡ position_from read (Ok item)
+placed_is (Ok read) item = refl
+placed_is (Err fault) item = refl
+
+-- and none where it has no key
+pub unplaced_is : (read : Result Key KeyFault) (fault : KeyFault) → None ≡ position_from read (Err fault)
+unplaced_is (Ok read) fault = refl
+unplaced_is (Err other) fault = refl
+
+-- the same of the key as it was found
+pub keyed_is : (read item : Result Key KeyFault) (key : RowKey) → Ok key ≡ row_key_if item → position_if key read ≡ position_from read item
+keyed_is read (Ok item) key is = let same : key ≡ row_key item = cc in ap (λ (k : RowKey). position_if k read) same ∙ placed_is read item
+keyed_is read (Err fault) key is = absurd (cc)
+
+pub unkeyed_is : (read item : Result Key KeyFault) (fault : KeyFault) → Err fault ≡ row_key_if item → None ≡ position_from read item
+unkeyed_is read (Ok item) fault is = absurd (cc)
+unkeyed_is read (Err other) fault is = unplaced_is read other

@@ -6,9 +6,7 @@ use Rattle.expr_words.specs.Mentions.{Mention}
 use Rattle.item_keys.specs.Row.{only, is_kept}
 use Rattle.table_schema.specs.declared.keys.KeyNames.{KeyNames}
 use Rattle.table_schema.specs.declared.schema.Schema.{Schema}
-use Rattle.row_keys.specs.declared.position.Position.{Position}
-use Rattle.row_keys.specs.declared.row_key.RowKey.{RowKey}
-use Rattle.row_keys.specs.Rows.{index_keys, position}
+use Rattle.row_keys.specs.Rows.{index_keys}
 use Rattle.table_model.specs.Pages as model
 use Rattle.table_model.specs.Pages.{whole_table, local_index, global_index, is_rooted}
 use Rattle.table_pages.specs.declared.source.Source.{Source}
@@ -45,8 +43,3 @@ sort_named_by mentions (Some name) = if list_any (is_rooted name) mentions then 
 abbrev pub named_by : List Mention → KeyNames → Option (List ℕ)
 named_by mentions keys =
     if list_any (is_rooted keys.partition) mentions then Some keys.partition else sort_named_by mentions keys.sort
-
--- the position of two keys, where there are both
-abbrev pub both_keys : Option RowKey → Option RowKey → Option Position
-both_keys (Some read) (Some item) = Some (position read item)
-both_keys read item = None

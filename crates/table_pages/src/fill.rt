@@ -55,6 +55,7 @@ fn add_row(
         → IsFilling sight.now.schema.now (source_in sight.now.source) sight.now.page.now
         (rows ++ (at, seen sight.now.schema.now (source_in sight.now.source) item.now) ∷ []) state.new page.new) }
     ensures full { IfOk result (λ full. full ≡ has_stopped state.new) }
+    ensures scanned { IfOk result (λ _. page.new.scanned ≡ page.old.scanned + 1) }
 {
     let row = sight.see(alloc, item)?;
     let filter = sight.page.filter.as_ref();
@@ -70,8 +71,10 @@ fn add_row(
     Ok(is_full)
 }
 
-/// The page of the rows strictly after a place, or of all, in the direction asked. It looks at no row behind the one that
-/// makes it full. The limit is not 0.
+/// The page of the rows strictly after a place, or of all, in the direction asked. The limit is not 0.
+///
+/// Each row that it looks at is a step, and so is finding the end of the rows: it looks at no row behind the one that makes
+/// the page full.
 pub(crate) fn fill<W: Walk<Row = Item>, L: Ledger>(
     alloc: Global,
     sight: &Sight<'_>,
@@ -81,10 +84,11 @@ pub(crate) fn fill<W: Walk<Row = Item>, L: Ledger>(
     steps: &mut Steps<L>,
 ) -> Result<Page, NoMemory>
     requires { ForSome sight.now.page.now.limit (λ most. 1 ≤ most) }
-    ensures { IfOk result (λ page. (place : W.Place → AnyPosition)
+    ensures page { IfOk result (λ page. (place : W.Place → AnyPosition)
         → IsFilled sight.now.schema.now (source_in sight.now.source) sight.now.page.now
         (map (entry_seen place sight.now.schema.now (source_in sight.now.source))
         (rows_after W.Place.cmp forward (option_copied after.entry) (W.listed rows.now))) page) }
+    ensures cost { IfOk result (λ page. steps.new ≤ steps.old + page.scanned + 1) }
 {
     let mut state = PageState::start(sight.page.limit);
     let mut page = empty_page(alloc, sight.page);

@@ -2,37 +2,20 @@
 
 ghost use Rattle.std.specs.Prelude.{◌≡◌, IfOk};
 ghost use Rattle.table_model.specs.Pages as model;
-ghost use Rattle.item_keys.specs.ItemKey.{key_in};
-ghost use Rattle.page_ranges.specs.AtKeys.{key_if};
 ghost use Rattle.std.specs.Option.{option_copied};
 ghost use Rattle.table_pages.specs.Starts.{is_within, start_as};
-ghost use Rattle.table_pages.specs.Sources.{source_in, both_keys};
+ghost use Rattle.table_pages.specs.Sources.{source_in};
 
 use crate::names::Names;
 use crate::source::Source;
 use attr_value::Item;
-use item_keys::{KeyEnd, KeyValue, key_of};
+use item_keys::KeyValue;
 use page_ranges::is_in_segment;
-use row_keys::{Position, RowKey};
+use row_keys::{Position, position_of};
 use std::alloc::{AllocError as NoMemory, Global};
+use table_items::key_of_item;
 use table_request::Segment;
-use table_schema::{KeyNames, Schema};
-
-/// The key that the attributes have under these names, where they have one.
-fn key_at(
-    alloc: Global,
-    schema: &Schema,
-    keys: &KeyNames,
-    item: &Item,
-) -> Result<Option<RowKey>, NoMemory>
-    ensures { IfOk result (λ key. key ≡ key_if (key_in schema.now keys.now item.now)) }
-{
-    match key_of(alloc, schema, keys, item) {
-        Ok(key) => Ok(Some(RowKey::from(key.placed(alloc)?))),
-        Err(KeyEnd::Fault(_)) => Ok(None),
-        Err(KeyEnd::NoMemory) => Err(NoMemory),
-    }
-}
+use table_schema::Schema;
 
 /// The position that a start key is, where it is one: it has the key of what is read and the table's, and no attribute
 /// beside these (API Reference: Query, ExclusiveStartKey).
@@ -48,22 +31,13 @@ pub(crate) fn start_position(
     if !Names::Start(keys, &schema.keys).have_all(start) {
         return Ok(None);
     }
-    let read = key_at(alloc, schema, keys, start)?;
-    let item = key_at(alloc, schema, &schema.keys, start)?;
-    Ok(both_keys(read, item))
-}
-
-/// The position of two keys, where there are both.
-fn both_keys(read: Option<RowKey>, item: Option<RowKey>) -> Option<Position>
-    ensures { result ≡ both_keys read item }
-{
-    match (read, item) {
-        (Some(read), Some(item)) => Some(Position { read, item }),
-        (read, item) => {
-            drop(read);
-            drop(item);
-            None
+    match key_of_item(alloc, schema, start)? {
+        Ok(key) => {
+            let at = position_of(alloc, schema, keys, &key, start);
+            drop(key);
+            at
         }
+        Err(_) => Ok(None),
     }
 }
 

@@ -2,6 +2,7 @@ use Rattle.std.proofs.Common.{[], length, refl, ap, sym, ◌∙◌, arith}
 use Rattle.std.specs.Option.{option_copied}
 use Rattle.paging.specs.Rows.{rows_after}
 use Rattle.paging.proofs.Ordered.{next_row, none_there, fewer_after}
+use Rattle.table_model.specs.declared.reply.Page.{Page}
 use Rattle.table_pages.specs.Sources.{source_in}
 use Rattle.table_pages.proofs.Filling.{along_few, along_count, along_more, along_stop, along_end}
 use Rattle.table_pages.proofs.fill.fill.Goals as goal
@@ -19,6 +20,7 @@ loop-place-init g c =
       };
       going = c.start-state.ensures.going;
       few = fewer_after g.W.Place.Ord.cmp c.args.forward (option_copied c.args.after) (g.W.Walk.listed c.args.rows.now);
+      cost = omega (arith, ap (λ (page : Page). page.scanned) (c.empty_page-page.ensures sight.schema.now (source_in sight.source)));
     }
 
 pub add_row-requires-clause-few : goal.add_row-requires-clause-few
@@ -35,8 +37,8 @@ add_row-requires-clause-fewer g c =
     let sight = c.args.sight.now in
     along_count sight.schema.now (source_in sight.source) sight.page.now c.loop-place.invariant.along
 
-pub returns-then-branch : goal.returns-then-branch
-returns-then-branch g c =
+pub returns-then-branch-clause-page : goal.returns-then-branch-clause-page
+returns-then-branch-clause-page g c =
     let sight = c.args.sight.now in
     let left =
     next_row g.met.W.Place.Ord.total c.args.forward (option_copied c.loop-place.cursor) (g.W.Walk.listed c.args.rows.now)
@@ -62,10 +64,11 @@ loop-place-preserved g c =
           c.add_row.new.page c.in_ok-add_row.ensures.added;
       going = sym c.in_ok-add_row.ensures.full ∙ c.if-branch.false;
       few = c.loop-place.invariant.few;
+      cost = omega (arith, c.loop-place.invariant.cost, c.in-Some.ensures.step, c.in_ok-add_row.ensures.scanned);
     }
 
-pub returns : goal.returns
-returns g c =
+pub returns-clause-page : goal.returns-clause-page
+returns-clause-page g c =
     let sight = c.args.sight.now in
     let ended =
     none_there (rows_after g.W.Place.Ord.cmp c.args.forward (option_copied c.loop-place.cursor) (g.W.Walk.listed c.args.rows.now))

@@ -1,4 +1,4 @@
-use Rattle.std.proofs.Common.{◌≡◌, ◌≤◌, false, length}
+use Rattle.std.proofs.Common.{◌≡◌, ◌+◌, ◌≤◌, false, length}
 use Rattle.std.specs.Option.{option_copied}
 use Rattle.paging.specs.Room.{has_stopped}
 use Rattle.paging.specs.Rows.{rows_after}
@@ -16,6 +16,7 @@ invariant-loop-place g l =
       along : Along l.sight.schema.now (source_in l.sight.source) l.sight.page.now rows left l.state l.page;
       going : has_stopped l.state ≡ false;
       few : length rows ≤ length (g.W.Walk.listed l.rows);
+      cost : l.steps ≡ l.fn.steps + l.page.scanned;
     }
 
 abbrev pub decreases-loop-place : goal.decreases-loop-place

@@ -27,4 +27,4 @@ returns g c =
     (λ page filled.
     index_filled kept.schema c.schema.result.now kept.rows c.in-Some.range c.args.self.now.request.now (source_in c.args.self.now.source) found.0 ends c.args.self.now.forward
     (option_copied c.args.self.now.start) page c.schema.ensures range found.2 filled)
-    c.fill.ensures
+    c.fill.ensures.page

@@ -20,4 +20,4 @@ returns g c =
     (λ page filled.
     table_filled kept.schema c.schema.result.now kept.rows c.rows-range.result c.args.self.now.request.now span c.args.self.now.forward (option_copied c.args.self.now.start)
     (option_copied c.item_key.result) page c.schema.ensures c.item_key.ensures range c.requires.start filled)
-    c.fill.ensures
+    c.fill.ensures.page
