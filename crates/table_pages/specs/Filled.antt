@@ -1,5 +1,5 @@
 -- A page as it is filled.
-use Rattle.std.specs.Prelude.{◌≡◌, ℕ, ◌^◌, ◌<◌, Bool, map, filter, take, ⊤, Option, Some}
+use Rattle.std.specs.Prelude.{◌≡◌, ℕ, ◌^◌, ◌<◌, List, [], ◌∷◌, ◌++◌, Bool, map, filter, take, ⊤, Option, Some}
 use Rattle.attr_value.specs.Tree.{Attributes}
 use Rattle.paging.specs.Page.{IsPage}
 use Rattle.paging.specs.Room.{Room, room_after}
@@ -16,9 +16,13 @@ use Rattle.table_schema.specs.declared.schema.Schema.{Schema}
 use Rattle.table_model.specs.declared.reply.Page.{Page}
 use Rattle.table_model.specs.Database.{Table}
 use Rattle.table_model.specs.Pages.{Source, whole_table, source_entries, judged, page_of, is_in_segment}
+use Rattle.std.specs.Option.{option_copied}
+use Rattle.table_items.specs.Effects.{table_at}
+use Rattle.table_pages.specs.declared.page.Reading.{Reading}
+use Rattle.table_pages.specs.declared.row.Sight.{Sight}
 use Rattle.table_pages.specs.declared.row.Seen.{Seen}
 use Rattle.table_pages.specs.declared.row.Seen.TheVariants.{Whole, Kept}
-use Rattle.table_pages.specs.Sources.{seen}
+use Rattle.table_pages.specs.Sources.{source_in, seen}
 
 -- the attributes of a row that are seen
 abbrev pub item_of : Seen → Attributes
@@ -54,6 +58,33 @@ positions_in table source ends forward start =
 abbrev pub IsStart : Source → Option Position → Type 0
 IsStart whole_table (Some at) = at.read ≡ at.item
 IsStart source start = ⊤
+
+-- ---- what inner steps say
+
+-- from what a page was told it goes on to the same with this item
+abbrev pub IsAdded : Sight → Attributes → Room → Page → Room → Page → Type 0
+IsAdded sight item old_room old new_room new =
+    (rows : Entries) (at : Position) → IsFilling sight.schema.now (source_in sight.source) sight.page.now rows old_room old
+    → IsFilling sight.schema.now (source_in sight.source) sight.page.now (rows ++ (at, seen sight.schema.now (source_in sight.source) item) ∷ [])
+    new_room new
+
+-- the page is that of the rows of a walk, at whatever positions they stand
+abbrev pub FillsPage : {K : Type 0} → Sight → List (K × Attributes) → Page → Type 0
+FillsPage {K} sight rows page =
+    (place : K → Position) → IsFilled sight.schema.now (source_in sight.source) sight.page.now
+    (map (entry_seen place sight.schema.now (source_in sight.source)) rows) page
+
+-- the page is that of the rows that are read at keys in a range, whatever the table's number
+abbrev pub IsPageIn : Reading → Source → Span → Page → Type 0
+IsPageIn reading source span page =
+    (number : ℕ) → IsFilled reading.rows.now.schema source reading.request.now
+    (rows_in (table_at number reading.rows.now) source span reading.forward (option_copied reading.start)) page
+
+-- the same at positions in a range
+abbrev pub IsPageBetween : Reading → Source → PositionSpan → Page → Type 0
+IsPageBetween reading source ends page =
+    (number : ℕ) → IsFilled reading.rows.now.schema source reading.request.now
+    (positions_in (table_at number reading.rows.now) source ends reading.forward (option_copied reading.start)) page
 
 -- inside are the keys at the places of a segment, or all
 abbrev pub HasSegment : Option Segment → Span → Type 0

@@ -1,16 +1,13 @@
 //! A page as it is filled.
 
-ghost use Rattle.std.specs.Prelude.{◌≡◌, ◌++◌, ◌∷◌, [], ℕ, ◌+◌, ◌^◌, ◌<◌, ◌≤◌, map, false, Some, IfOk};
+ghost use Rattle.std.specs.Prelude.{◌≡◌, [], ◌+◌, ◌^◌, ◌<◌, ◌≤◌, false, IfOk};
 ghost use Rattle.std.specs.Option.{option_copied, ForSome};
 ghost use Rattle.paging.specs.Room.{has_stopped};
 ghost use Rattle.paging.specs.Rows.{rows_after};
-ghost use Rattle.row_keys.specs.Rows.{Entries};
-ghost use Rattle.row_keys.specs.declared.position.Position.{Position as AnyPosition};
 ghost use Rattle.table_schema.specs.declared.schema.Schema.{Schema as AnySchema};
 ghost use Rattle.table_model.specs.Pages.{page_of};
 ghost use Rattle.table_model.specs.Pages.{Source as AnySource};
-ghost use Rattle.table_pages.specs.Sources.{source_in, seen};
-ghost use Rattle.table_pages.specs.Filled.{IsFilling, IsFilled, entry_seen};
+ghost use Rattle.table_pages.specs.Filled.{IsAdded, FillsPage};
 
 use crate::row::Sight;
 use attr_value::Item;
@@ -50,10 +47,7 @@ fn add_row(
     requires going { has_stopped state.old ≡ false }
     requires few { page.old.scanned + 1 < 2 ^ 64 }
     requires fewer { page.old.count ≤ page.old.scanned }
-    ensures added { IfOk result (λ _. (rows : Entries) (at : AnyPosition)
-        → IsFilling sight.now.schema.now (source_in sight.now.source) sight.now.page.now rows state.old page.old
-        → IsFilling sight.now.schema.now (source_in sight.now.source) sight.now.page.now
-        (rows ++ (at, seen sight.now.schema.now (source_in sight.now.source) item.now) ∷ []) state.new page.new) }
+    ensures added { IfOk result (λ _. IsAdded sight.now item.now state.old page.old state.new page.new) }
     ensures full { IfOk result (λ full. full ≡ has_stopped state.new) }
     ensures scanned { IfOk result (λ _. page.new.scanned ≡ page.old.scanned + 1) }
 {
@@ -84,10 +78,8 @@ pub(crate) fn fill<W: Walk<Row = Item>, L: Ledger>(
     steps: &mut Steps<L>,
 ) -> Result<Page, NoMemory>
     requires { ForSome sight.now.page.now.limit (λ most. 1 ≤ most) }
-    ensures page { IfOk result (λ page. (place : W.Place → AnyPosition)
-        → IsFilled sight.now.schema.now (source_in sight.now.source) sight.now.page.now
-        (map (entry_seen place sight.now.schema.now (source_in sight.now.source))
-        (rows_after W.Place.cmp forward (option_copied after.entry) (W.listed rows.now))) page) }
+    ensures page { IfOk result (FillsPage sight.now
+        (rows_after W.Place.cmp forward (option_copied after.entry) (W.listed rows.now))) }
     ensures cost { IfOk result (λ page. steps.new ≤ steps.old + page.scanned + 1) }
 {
     let mut state = PageState::start(sight.page.limit);

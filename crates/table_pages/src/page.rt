@@ -1,13 +1,10 @@
 //! The page of the rows at keys in a range.
 
-ghost use Rattle.std.specs.Prelude.{◌≡◌, ℕ, ◌<◌, ◌≤◌, [], IfOk};
+ghost use Rattle.std.specs.Prelude.{◌≡◌, ◌<◌, ◌≤◌, [], IfOk};
 ghost use Rattle.std.specs.Option.{option_copied, option_map, ForSome};
-ghost use Rattle.row_keys.specs.Rows.{index_keys};
 ghost use Rattle.table_model.specs.Pages.{whole_table};
-ghost use Rattle.table_items.specs.Effects.{table_at};
-ghost use Rattle.page_ranges.specs.Span.{is_inside, stands_inside};
 ghost use Rattle.table_pages.specs.Sources.{source_in, HasNumber, IsNumber};
-ghost use Rattle.table_pages.specs.Filled.{IsFilled, rows_in, positions_in, IsStart};
+ghost use Rattle.table_pages.specs.Filled.{IsPageIn, IsPageBetween, IsStart};
 
 use crate::fill::{empty_page, fill};
 use crate::row::Sight;
@@ -48,8 +45,7 @@ impl Reading<'_> {
         requires idle { self.now.rows.now.pending ≡ [] }
         requires number { HasNumber self.now.rows.now.schema self.now.source }
         requires start { IsStart (source_in self.now.source) (option_copied self.now.start) }
-        ensures { IfOk result (λ page. (number : ℕ) → IsFilled self.now.rows.now.schema (source_in self.now.source) self.now.request.now
-            (rows_in (table_at number self.now.rows.now) (source_in self.now.source) span self.now.forward (option_copied self.now.start)) page) }
+        ensures { IfOk result (IsPageIn self.now (source_in self.now.source) span) }
     {
         if self.request.limit == Some(0) {
             drop(span);
@@ -83,8 +79,7 @@ impl Reading<'_> {
         requires idle { self.now.rows.now.pending ≡ [] }
         requires limit { ForSome self.now.request.now.limit (λ most. 1 ≤ most) }
         requires start { IsStart whole_table (option_copied self.now.start) }
-        ensures { IfOk result (λ page. (number : ℕ) → IsFilled self.now.rows.now.schema whole_table self.now.request.now
-            (rows_in (table_at number self.now.rows.now) whole_table span.now self.now.forward (option_copied self.now.start)) page) }
+        ensures { IfOk result (IsPageIn self.now whole_table span.now) }
     {
         let low = from_low(span.low.as_ref());
         let high = up_to_high(span.high.as_ref());
@@ -119,9 +114,7 @@ impl Reading<'_> {
         requires idle { self.now.rows.now.pending ≡ [] }
         requires number { IsNumber self.now.rows.now.schema number self.now.source }
         requires limit { ForSome self.now.request.now.limit (λ most. 1 ≤ most) }
-        ensures { IfOk result (λ page. (number : ℕ) → IsFilled self.now.rows.now.schema (source_in self.now.source) self.now.request.now
-            (positions_in (table_at number self.now.rows.now) (source_in self.now.source) ends.now self.now.forward
-            (option_copied self.now.start)) page) }
+        ensures { IfOk result (IsPageBetween self.now (source_in self.now.source) ends.now) }
     {
         let low = from_low(ends.low.as_ref());
         let high = up_to_high(ends.high.as_ref());

@@ -2,12 +2,10 @@
 
 ghost use Rattle.std.specs.Prelude.{◌≡◌, ℕ, [], IfOk};
 ghost use Rattle.std.specs.Option.{option_copied};
-ghost use Rattle.expr_words.specs.Trees.{tree};
-ghost use Rattle.key_condition.specs.Law.{HasKeysWhereTrue};
 ghost use Rattle.table_items.specs.Effects.{table_at};
-ghost use Rattle.table_model.specs.Pages.{source_keys, source_entries, queried, IsPageOf, IsQueriedIn, IsQueriedFrom};
+ghost use Rattle.table_model.specs.Pages.{IsQueriedIn, IsQueriedFrom};
 ghost use Rattle.page_ranges.specs.AtKeys.{AreAtKeys};
-ghost use Rattle.table_pages.specs.Asked.{IsQueryOf};
+ghost use Rattle.table_pages.specs.Asked.{IsQueryOf, IsQueryPage, HasRange};
 ghost use Rattle.table_pages.specs.Filled.{IsStart};
 ghost use Rattle.table_pages.specs.Sources.{source_in, HasNumber};
 
@@ -37,10 +35,8 @@ fn page_of<'a>(
     requires keyed { AreAtKeys rows.now.schema rows.now.rows }
     requires number { HasNumber rows.now.schema source }
     requires start { IsStart (source_in source) (option_copied start) }
-    requires truth { HasKeysWhereTrue rows.now.schema (source_keys rows.now.schema (source_in source)) request.now.page.values
-        (tree request.now.key_condition) range.now }
-    ensures { IfOk result (λ reply. (number : ℕ) → IsPageOf rows.now.schema (source_in source.entry) request.now.page request.now.forward
-        (option_copied start.entry) (queried request.now (source_entries (table_at number rows.now) (source_in source.entry))) reply) }
+    requires truth { HasRange rows.now request.now (source_in source) range.now }
+    ensures { IfOk result (IsQueryPage rows.now request.now (source_in source.entry) (option_copied start.entry)) }
 {
     let span = Span::of_range(alloc, range)?;
     let reading = Reading {
@@ -65,8 +61,7 @@ fn query_in(
     requires idle { rows.now.pending ≡ [] }
     requires keyed { AreAtKeys rows.now.schema rows.now.rows }
     requires number { HasNumber rows.now.schema source }
-    requires truth { HasKeysWhereTrue rows.now.schema (source_keys rows.now.schema (source_in source)) request.now.page.values
-        (tree request.now.key_condition) range.now }
+    requires truth { HasRange rows.now request.now (source_in source) range.now }
     ensures { IfOk result (λ reply. (number : ℕ) → IsQueriedIn (table_at number rows.now) request.now (source_in source.entry) range.now reply) }
 {
     let schema = rows.schema();

@@ -1,13 +1,11 @@
 //! Scans.
 
-ghost use Rattle.std.specs.Prelude.{◌≡◌, ℕ, [], true, IfOk};
+ghost use Rattle.std.specs.Prelude.{◌≡◌, ℕ, [], IfOk};
 ghost use Rattle.std.specs.Option.{option_copied};
-ghost use Rattle.row_keys.specs.declared.row_key.RowKey.{RowKey as AnyKey};
 ghost use Rattle.table_items.specs.Effects.{table_at};
-ghost use Rattle.table_model.specs.Pages.{source_entries, scanned, IsPageOf, IsScannedFrom};
+ghost use Rattle.table_model.specs.Pages.{IsScannedFrom};
 ghost use Rattle.page_ranges.specs.AtKeys.{AreAtKeys};
-ghost use Rattle.page_ranges.specs.Span.{is_inside};
-ghost use Rattle.table_pages.specs.Asked.{IsScanOf};
+ghost use Rattle.table_pages.specs.Asked.{IsScanOf, IsScanPage};
 ghost use Rattle.table_pages.specs.Filled.{IsStart, HasSegment};
 ghost use Rattle.table_pages.specs.Sources.{source_in, HasNumber};
 
@@ -44,8 +42,7 @@ fn page_of<'a>(
     requires keyed { AreAtKeys rows.now.schema rows.now.rows }
     requires number { HasNumber rows.now.schema source }
     requires start { IsStart (source_in source) (option_copied start) }
-    ensures { IfOk result (λ reply. (number : ℕ) → IsPageOf rows.now.schema (source_in source.entry) request.now.page true
-        (option_copied start.entry) (scanned request.now (source_entries (table_at number rows.now) (source_in source.entry))) reply) }
+    ensures { IfOk result (IsScanPage rows.now request.now (source_in source.entry) (option_copied start.entry)) }
 {
     let span = span_of(alloc, request.segment)?;
     let reading = Reading {
