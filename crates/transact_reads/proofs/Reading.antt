@@ -1,10 +1,8 @@
 -- Reads of items: one that is refused or found, all of them, and the reply.
-use Rattle.std.proofs.Common.{◌≡◌, refl, sym, ap, ◌∙◌, Bool, true, false, ℕ, cond, List, [], ◌∷◌, ◌++◌, map, filter_map, Option, None, Some, is_some, option_map, Result, Ok, Err, append_assoc}
+use Rattle.std.proofs.Common.{◌≡◌, refl, sym, ap, ◌∙◌, Bool, true, false, ℕ, cond, List, [], ◌∷◌, ◌++◌, map, filter_map, Option, None, Some, is_some, option_map, Result, Ok, Err}
 use Rattle.std.specs.Prelude.{option_and_then}
 use Rattle.std.specs.FinMap.{empty}
-use Rattle.std.specs.List.{cons_option}
 use Rattle.std.specs.Map.{lookup}
-use Rattle.std.proofs.lemmas.List.{append-nil, map-append}
 use Rattle.attr_value.specs.Tree.{Attributes}
 use Rattle.item_keys.specs.declared.fault.KeyFault.{KeyFault}
 use Rattle.item_keys.specs.declared.key.Key.{Key}
@@ -27,7 +25,7 @@ use Rattle.numbered_tables.proofs.Kept.{at, absent, there, known}
 use Rattle.transact_reads.specs.declared.found.FoundRead.{FoundRead}
 use Rattle.transact_reads.specs.Found.{database_of, target_of, shown_of, refusal_at, IsFound, AreFound}
 use Rattle.transact_reads.specs.Reads.{IsAnswered, found_reply}
-use Rattle.transact_reads.proofs.Firsts.{goes_on, refused_here, none_left, either_first}
+use Rattle.transact_reads.proofs.Firsts.{refused_here, either_first}
 
 -- ---- one read
 
@@ -101,44 +99,10 @@ pub record IsSoFar (db : Database) (reads rest : List TransactRead) (found : Lis
   pub targets : map target_of found ++ filter_map (read_target db) rest ≡ filter_map (read_target db) reads
   pub views : map shown_of found ++ map (read_view db) rest ≡ map (read_view db) reads
 
-pub begun : (db : Database) (reads : List TransactRead) (found : List FoundRead) → found ≡ [] → IsSoFar db reads reads found
-begun db reads found none = record {
-  refusal = refl;
-  targets = ap (λ (xs : List FoundRead). map target_of xs ++ filter_map (read_target db) reads) none;
-  views = ap (λ (xs : List FoundRead). map shown_of xs ++ map (read_view db) reads) none;
-}
-
--- one more behind those that were made
-behind : {X Y : Type 0} (f : X → Y) (xs more : List X) (x : X) (ys : List Y) → more ≡ xs ++ x ∷ [] → map f more ++ ys ≡ map f xs ++ f x ∷ ys
-behind f xs more x ys is =
-    ap (λ zs. map f zs ++ ys) is ∙ ap (λ zs. zs ++ ys) (map-append f xs (x ∷ [])) ∙ append_assoc (map f xs) (f x ∷ []) ys
-
-pub one_found : (db : Database) (reads rest others : List TransactRead) (found more : List FoundRead) (read : TransactRead) (f : FoundRead)
-    → IsSoFar db reads rest found → rest ≡ read ∷ others → IsFound db read (Ok f) → more ≡ found ++ f ∷ [] → IsSoFar db reads others more
-one_found db reads rest others found more read f so_far is one after = record {
-  refusal = goes_on (refusal_at db) read rest others (first (map (refusal_at db) reads)) is one.0 so_far.refusal;
-  targets =
-      behind target_of found more f (filter_map (read_target db) others) after
-      ∙ ap (λ (o : Option Target). map target_of found ++ cons_option o (filter_map (read_target db) others)) (sym one.1)
-      ∙ ap (λ (xs : List TransactRead). map target_of found ++ filter_map (read_target db) xs) (sym is) ∙ so_far.targets;
-  views =
-      behind shown_of found more f (map (read_view db) others) after
-      ∙ ap (λ (o : Option Attributes). map shown_of found ++ o ∷ map (read_view db) others) (sym one.2)
-      ∙ ap (λ (xs : List TransactRead). map shown_of found ++ map (read_view db) xs) (sym is) ∙ so_far.views;
-}
-
 pub one_refused : (db : Database) (reads rest others : List TransactRead) (found : List FoundRead) (read : TransactRead) (refusal : Refusal)
     → IsSoFar db reads rest found → rest ≡ read ∷ others → IsFound db read (Err refusal) → AreFound db reads (Err refusal)
 one_refused db reads rest others found read refusal so_far is one =
     sym (refused_here (refusal_at db) read rest others refusal (first (map (refusal_at db) reads)) is one so_far.refusal)
-
-pub all_found : (db : Database) (reads rest : List TransactRead) (found : List FoundRead) → IsSoFar db reads rest found → rest ≡ []
-    → AreFound db reads (Ok found)
-all_found db reads rest found so_far none = (
-  sym (none_left (refusal_at db) rest (first (map (refusal_at db) reads)) none so_far.refusal),
-  sym so_far.targets ∙ ap (λ (xs : List TransactRead). map target_of found ++ filter_map (read_target db) xs) none ∙ append-nil (map target_of found),
-  sym so_far.views ∙ ap (λ (xs : List TransactRead). map shown_of found ++ map (read_view db) xs) none ∙ append-nil (map shown_of found),
-)
 
 -- ---- the reply
 
@@ -153,13 +117,6 @@ module _ (es : Kept) (reads : List TransactRead) where
   abbrev effect_by : Database → Option Refusal → Option Refusal → List Target → List (Option Attributes) → Effect
   effect_by db m k ts views =
       unless db (first (m ∷ k ∷ where_true (has_repeat ts) (Invalid invalid.Twice) ∷ [])) (db, answer.TransactRead views)
-
-  -- a table is missing
-  pub answered_missing : (refusal : Refusal) → first (map missing_at reads) ≡ Some refusal → IsAnswered es reads (answer.Refused refusal)
-  answered_missing refusal h = λ tokens made.
-      let db : Database = database_in es tokens made in
-      ap (λ (m : Option Refusal). effect_by db m (first (map unfit_at reads)) (filter_map (read_target (database_of es)) reads)
-      (map (read_view (database_of es)) reads)) h
 
   -- a key is unfit
   pub answered_unfit : (refusal : Refusal) → first (map missing_at reads) ≡ None → AreFound (database_of es) reads (Err refusal)

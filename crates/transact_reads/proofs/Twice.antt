@@ -36,13 +36,6 @@ one_more seen new t rest others is absent after =
     ∙ ap (λ (b : Bool). (b || list_any seen others) || has_repeat (t ∷ others)) (sym absent)
     ∙ ap (λ (ts : List Target). list_any seen ts || has_repeat ts) (sym is)
 
--- an item was among those before
-pub once_more : (seen : Target → Bool) (t : Target) (rest others : List Target) → rest ≡ t ∷ others → seen t ≡ true
-    → true ≡ (list_any seen rest || has_repeat rest)
-once_more seen t rest others is there =
-    ap (λ (b : Bool). (b || list_any seen others) || has_repeat (t ∷ others)) (sym there)
-    ∙ ap (λ (ts : List Target). list_any seen ts || has_repeat ts) (sym is)
-
 none_seen : (ts : List Target) → list_any (λ t. false) ts ≡ false
 none_seen [] = refl
 none_seen (t ∷ ts) = none_seen ts
@@ -78,10 +71,6 @@ not_true : (b : Bool) → true ≡ not b → b ≡ false
 not_true true e = absurd (cc)
 not_true false e = refl
 
-not_false : (b : Bool) → false ≡ not b → b ≡ true
-not_false true e = refl
-not_false false e = absurd (cc)
-
 -- what was told where an item was put in
 module _ (key : Spot) (target : Target) (xs : List Spot) (name : key.table.now ≡ target.name) (same : key.key.now ≡ target.key) where
   abbrev found_in : Bool
@@ -92,6 +81,3 @@ module _ (key : Spot) (target : Target) (xs : List Spot) (name : key.table.now �
 
   pub was_out : true ≡ not found_in → holds xs target ≡ false
   was_out e = sym held_is ∙ not_true found_in e
-
-  pub was_in : false ≡ not found_in → holds xs target ≡ true
-  was_in e = sym held_is ∙ not_false found_in e
