@@ -14,7 +14,7 @@ use Rattle.table_items.specs.Outcomes.{row_key_if}
 use Rattle.table_changes.specs.declared.change.TableChange.{TableChange}
 use Rattle.table_batches.specs.Keys.{behind, gathered}
 use Rattle.table_batches.specs.Writes.{change_if, changes_of}
-use Rattle.table_batches.proofs.Gathered.{one_more, a_fault, places}
+use Rattle.table_batches.proofs.Gathered.{behind_none, one_more, a_fault, places}
 
 -- the place of a key that was read
 place_is : (read : Result Key KeyFault) (key : RowKey) → Ok key ≡ row_key_if read → place_if read ≡ Some key
@@ -31,11 +31,7 @@ module _ (table : Table) (name : List ℕ) (writes : List WriteRequest) where
     pub seen : behind keys (gathered (map (write_key table) rest)) ≡ gathered (map (write_key table) writes)
 
   pub begun : (old : List TableChange) → Pushing old old writes
-  begun old = record { all = refl; keys = []; seen = start (gathered (map (write_key table) writes)) }
-    where
-      start : (r : Result (List RowKey) KeyFault) → behind [] r ≡ r
-      start (Ok ks) = refl
-      start (Err fault) = refl
+  begun old = record { all = refl; keys = []; seen = behind_none (gathered (map (write_key table) writes)) }
 
   pub one_change :
       (old now more : List TableChange) (write : WriteRequest) (left rest : List WriteRequest) (key : RowKey) → left ≡ write ∷ rest

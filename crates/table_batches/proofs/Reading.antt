@@ -48,7 +48,7 @@ goes_on room None items h few =
     ap (λ (n : ℕ). suc (read_count n items)) same
 goes_on room (Some item) items h few =
     let fits : item_size item ≤ room = omega arith in
-    let same : item_size item ≡ min (item_size item) 18446744073709551615 = omega arith in
+    let same : item_size item ≡ bytes_of (Some item) = omega arith in
     cond-false (nat_lt room (item_size item)) 0 (suc (read_count (room - item_size item) items)) (le-ltb room (item_size item) fits)
     ∙ ap (λ (n : ℕ). suc (read_count (room - n) items)) same
 

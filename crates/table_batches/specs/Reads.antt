@@ -1,5 +1,5 @@
 -- What a BatchGetItem reads, as the code goes over it.
-use Rattle.std.specs.Prelude.{ℕ, List, [], ◌∷◌, map, length, take, drop, filter_map, min, Option, None, Some}
+use Rattle.std.specs.Prelude.{ℕ, ◌-◌, ◌^◌, List, [], ◌∷◌, map, length, take, drop, filter_map, min, Option, None, Some}
 use Rattle.attr_value.specs.Tree.{Attributes}
 use Rattle.attr_value.specs.Sizes.{item_size}
 use Rattle.expr_words.specs.declared.tree.Paths.{Paths}
@@ -13,7 +13,7 @@ use Rattle.table_model.specs.Batches.{most_batch_bytes, read_count, unread}
 -- the bytes of an item, as far as 64 bits count them; an absent one has none
 abbrev pub bytes_of : Option Attributes → ℕ
 bytes_of None = 0
-bytes_of (Some item) = min (item_size item) 18446744073709551615
+bytes_of (Some item) = min (item_size item) (2 ^ 64 - 1)
 
 -- what is shown of the items that are there
 abbrev pub shown : Option Paths → List (Option Attributes) → List Attributes

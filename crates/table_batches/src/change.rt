@@ -59,7 +59,7 @@ fn write_image(write: WriteRequest) -> Option<Item>
     }
 }
 
-/// Adds the change of a row to what a write leaves there.
+/// Adds the change that a write at a key is.
 fn push_change(
     changes: &mut Seq<TableChange>,
     name: &Text,
@@ -70,13 +70,8 @@ fn push_change(
 {
     let table = name.try_clone()?;
     let new = write_image(write);
-    match changes.push(TableChange { table, key, new }) {
-        Ok(()) => Ok(()),
-        Err(refused) => {
-            drop(refused);
-            Err(NoMemory)
-        }
-    }
+    changes.push(TableChange { table, key, new })?;
+    Ok(())
 }
 
 /// Adds the changes that the writes of a table are, or answers the first fault of a key.

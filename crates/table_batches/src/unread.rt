@@ -49,14 +49,8 @@ fn push_unread(rest: &mut Seq<TableKeys>, asked: TableKeys, read: usize) -> Resu
         drop(asked);
         return Ok(());
     }
-    let behind = request_behind(asked, read)?;
-    match rest.push(behind) {
-        Ok(()) => Ok(()),
-        Err(refused) => {
-            drop(refused);
-            Err(NoMemory)
-        }
-    }
+    rest.push(request_behind(asked, read)?)?;
+    Ok(())
 }
 
 /// The requests for the keys behind the first `read` of all. They are moved out of the requests.

@@ -77,7 +77,8 @@ fn changes_asked(
 /// is not there, for the form of a key, for a key that stands twice in a table, for an item of more than 409,600 bytes, and
 /// for the key of an index. Otherwise all writes are made.
 ///
-/// Where memory is refused nothing changes. So it is where the names of the tables do not ascend, as those of a message do.
+/// Where memory is refused nothing changes. So it is where the names of the tables do not ascend: those of a message do,
+/// and it is by their order that no two writes are known to be of one item, which could not be made together.
 pub fn batch_write(
     tables: &mut BTreeMap<Text, NumberedTable>,
     alloc: Global,
