@@ -4,4 +4,3 @@ pub mod Chosen
 pub mod Entries
 pub mod Ranged
 pub mod Replies
-pub mod Written
