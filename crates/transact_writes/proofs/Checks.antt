@@ -20,6 +20,7 @@ use Rattle.numbered_tables.specs.declared.table.NumberedTable.{NumberedTable}
 use Rattle.numbered_tables.specs.Tables.{Kept}
 use Rattle.numbered_tables.proofs.Kept.{at, absent, there, known}
 use Rattle.std.specs.FinMap.{empty}
+use Rattle.transact_reads.proofs.Firsts.{refused_here, goes_on, either_first}
 use Rattle.transact_writes.specs.declared.aimed.Aimed.{Aimed}
 use Rattle.transact_writes.specs.Judged.{AreInOrderIf}
 use Rattle.transact_writes.specs.Aimed.{database_of, action_in, target_in, refusal_at, IsPlaced, IsTarget, IsAimed, AreAimed, twice_or_key, IsFit, IsChecked}
@@ -34,13 +35,9 @@ pub first_later : (o : Option Refusal) (others : List (Option Refusal)) → o �
 first_later None others is = refl
 first_later (Some other) others is = absurd (cc)
 
-none_here : (o : Option Refusal) (others : List (Option Refusal)) → first (o ∷ others) ≡ None → o ≡ None
-none_here None others is = refl
-none_here (Some other) others is = absurd (cc)
-
-none_later : (o : Option Refusal) (others : List (Option Refusal)) → first (o ∷ others) ≡ None → first others ≡ None
-none_later None others is = is
-none_later (Some other) others is = absurd (cc)
+-- the refusal of an action's table
+abbrev pub missing_in : Database → TransactAction → Option Refusal
+missing_in db action = missing db action.table
 
 -- ---- where an item is
 
@@ -100,9 +97,7 @@ pub record AreLeft (db : Database) (actions : List TransactAction) (done : List 
 pub one_more : (db : Database) (actions : List TransactAction) (done new : List Aimed) (action : TransactAction) (left rest : List TransactAction) (aimed : Aimed)
     → AreLeft db actions done left → left ≡ action ∷ rest → new ≡ done ++ aimed ∷ [] → IsAimed db action (Ok aimed) → AreLeft db actions new rest
 one_more db actions done new action left rest aimed so_far is pushed here = record {
-  refusals =
-      sym (first_later (refusal_at db action) (map (refusal_at db) rest) here.0) ∙ sym (ap (λ xs. first (map (refusal_at db) xs)) is)
-      ∙ so_far.refusals;
+  refusals = goes_on (refusal_at db) action left rest (first (map (refusal_at db) actions)) is here.0 so_far.refusals;
   whole =
       ap (λ xs. map action_in xs ++ rest) pushed ∙ map_more action_in done aimed rest
       ∙ ap (λ x. map action_in done ++ x ∷ rest) here.1 ∙ sym (ap (λ xs. map action_in done ++ xs) is) ∙ so_far.whole;
@@ -112,30 +107,9 @@ one_more db actions done new action left rest aimed so_far is pushed here = reco
 pub one_refused : (db : Database) (actions : List TransactAction) (done : List Aimed) (action : TransactAction) (left rest : List TransactAction) (why : Refusal)
     → AreLeft db actions done left → left ≡ action ∷ rest → refusal_at db action ≡ Some why → first (map (refusal_at db) actions) ≡ Some why
 one_refused db actions done action left rest why so_far is here =
-    sym so_far.refusals ∙ ap (λ xs. first (map (refusal_at db) xs)) is
-    ∙ first_here (refusal_at db action) (map (refusal_at db) rest) why here
+    sym (refused_here (refusal_at db) action left rest why (first (map (refusal_at db) actions)) is here so_far.refusals)
 
 -- ---- the request
-
-bad_keys : (db : Database) (actions : List TransactAction) → first (map (λ action. missing db action.table) actions) ≡ None
-    → first (map (refusal_at db) actions) ≡ first (map (bad_key db) actions)
-bad_keys db [] none = refl
-bad_keys db (action ∷ actions) none =
-    let others = map (λ action. missing db action.table) actions in
-    let here = none_here (missing db action.table) others none in
-    let rest = bad_keys db actions (none_later (missing db action.table) others none) in
-    first_by (bad_key db action) (refusal_at db action) (map (refusal_at db) actions) (map (bad_key db) actions)
-    (first_later (missing db action.table) (bad_key db action ∷ []) here ∙ alone (bad_key db action)) rest
-  where
-    alone : (o : Option Refusal) → first (o ∷ []) ≡ o
-    alone None = refl
-    alone (Some why) = refl
-
-    first_by : (o p : Option Refusal) (ps os : List (Option Refusal)) → p ≡ o → first ps ≡ first os → first (p ∷ ps) ≡ first (o ∷ os)
-    first_by None None ps os is h = h
-    first_by (Some why) None ps os is h = absurd (cc)
-    first_by None (Some why) ps os is h = absurd (cc)
-    first_by (Some why) (Some other) ps os is h = is
 
 pub targets_are : (db : Database) (aimed : List Aimed) → AllByRecursion (IsTarget db) aimed → filter_map (target_of db) (map action_in aimed) ≡ map target_in aimed
 targets_are db [] all = refl
@@ -154,14 +128,14 @@ pub refused_first : (db : Database) (actions : List TransactAction) (why : Refus
     → first (map (refusal_at db) actions) ≡ Some why → transact_refusal db actions ≡ Some why
 refused_first db actions why none is =
     first_later (first (map (λ action. missing db action.table) actions)) (first (map (bad_key db) actions) ∷ stages db actions) none
-    ∙ first_here (first (map (bad_key db) actions)) (stages db actions) why (sym (bad_keys db actions none) ∙ is)
+    ∙ first_here (first (map (bad_key db) actions)) (stages db actions) why (sym (either_first (missing_in db) (bad_key db) actions none) ∙ is)
 
 later_stages : (db : Database) (actions : List TransactAction) (aimed : List Aimed) → first (map (λ action. missing db action.table) actions) ≡ None
     → first (map (refusal_at db) actions) ≡ None → map action_in aimed ≡ actions → AllByRecursion (IsTarget db) aimed
     → transact_refusal db actions ≡ twice_or_key db aimed
 later_stages db actions aimed none keys same targets =
     first_later (first (map (λ action. missing db action.table) actions)) (first (map (bad_key db) actions) ∷ stages db actions) none
-    ∙ first_later (first (map (bad_key db) actions)) (stages db actions) (sym (bad_keys db actions none) ∙ keys)
+    ∙ first_later (first (map (bad_key db) actions)) (stages db actions) (sym (either_first (missing_in db) (bad_key db) actions none) ∙ keys)
     ∙ sym (ap (λ xs. first (stages db xs)) same)
     ∙ ap (λ ts. first (where_true (has_repeat ts) (refusal.Invalid invalid.Twice) ∷ first (map (updates_key db) (map action_in aimed)) ∷ [])) (targets_are db aimed targets)
 
@@ -180,9 +154,6 @@ checked_by db actions aimed (Ok same) none all fit = (
 
 -- ---- loops that look for the first refusal
 
-abbrev pub missing_in : Database → TransactAction → Option Refusal
-missing_in db action = missing db action.table
-
 missing_by : (name : List ℕ) (o : Option Table) → is_some o ≡ false → missing_if name o ≡ Some (refusal.NoTable name)
 missing_by name None is = refl
 missing_by name (Some t) is = absurd (cc)
@@ -198,16 +169,15 @@ is_missing es action is = missing_by action.table (table_named (database_of es) 
 pub is_there : (es : Kept) (action : TransactAction) → is_some (lookup (at action.table) es) ≡ true → missing_in (database_of es) action ≡ None
 is_there es action is = there_by action.table (table_named (database_of es) action.table) (known es empty 0 action.table ∙ is)
 
+next_is : (xs : List TransactAction) (i : ℕ) (x : TransactAction) → i < length xs → x ≡ get_or xs i x → drop i xs ≡ x ∷ drop (i + 1) xs
+next_is xs i x below is = at_drop_more (λ ys. ys) xs i x below ∙ ap (λ y. y ∷ drop (i + 1) xs) (sym is)
+
 pub found_first : (m : TransactAction → Option Refusal) (xs : List TransactAction) (i : ℕ) (x : TransactAction) (why : Refusal) → i < length xs → x ≡ get_or xs i x
     → first (map m (drop i xs)) ≡ first (map m xs) → m x ≡ Some why → Some why ≡ first (map m xs)
 found_first m xs i x why below is so_far here =
-    sym (at_drop_more (λ ys. first (map m ys)) xs i x below
-    ∙ first_here (m (get_or xs i x)) (map m (drop (i + 1) xs)) why (ap m (sym is) ∙ here))
-    ∙ so_far
+    refused_here m x (drop i xs) (drop (i + 1) xs) why (first (map m xs)) (next_is xs i x below is) here so_far
 
 pub passed_first : (m : TransactAction → Option Refusal) (xs : List TransactAction) (i : ℕ) (x : TransactAction) → i < length xs → x ≡ get_or xs i x
     → first (map m (drop i xs)) ≡ first (map m xs) → m x ≡ None → first (map m (drop (i + 1) xs)) ≡ first (map m xs)
 passed_first m xs i x below is so_far here =
-    sym (at_drop_more (λ ys. first (map m ys)) xs i x below
-    ∙ first_later (m (get_or xs i x)) (map m (drop (i + 1) xs)) (ap m (sym is) ∙ here))
-    ∙ so_far
+    goes_on m x (drop i xs) (drop (i + 1) xs) (first (map m xs)) (next_is xs i x below is) here so_far

@@ -66,6 +66,7 @@ fn shown_old(show_old: bool, old: Option<&Item>) -> Result<Option<Item>, NoMemor
     }
 }
 
+/// What is made of a put.
 fn judge_put(
     rows: &TableRows,
     aim: Aim,
@@ -80,6 +81,7 @@ fn judge_put(
     aim.verdict(outcome, old)
 }
 
+/// What is made of an update. It works on the key alone where the item is absent.
 fn judge_update(
     rows: &TableRows,
     alloc: Global,
@@ -98,6 +100,7 @@ fn judge_update(
     aim.verdict(outcome, old)
 }
 
+/// What is made of a delete.
 fn judge_delete(
     rows: &TableRows,
     aim: Aim,
@@ -112,7 +115,7 @@ fn judge_delete(
     aim.verdict(outcome, old)
 }
 
-/// A check that is met makes no change.
+/// What is made of a check: no change where it is met.
 fn judge_check(
     rows: &TableRows,
     aim: Aim,
