@@ -1,3 +1,4 @@
+pub mod Sound
 pub mod Creating
 pub mod Listing
 pub mod Changing

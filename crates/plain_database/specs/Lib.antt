@@ -1,5 +1,6 @@
--- The definitions in reading order: how a database is stored; what an update makes of one table; and what requests are
--- answered.
+-- The definitions in reading order: tables between requests; how a database is stored; what an update makes of one table;
+-- and what is left of a request that memory was refused to.
+pub mod Sound
 pub mod Codes
 pub mod Changed
-pub mod Built
+pub mod Left

@@ -13,7 +13,8 @@ use table_model::NumberedAction;
 
 /// Tables by name, tokens, and how many tables were made so far.
 ///
-/// Contracts see the database of the definitions. Between requests nothing is prepared in any table.
+/// Contracts see the database of the definitions. Between requests nothing is prepared in any table, and each row stands at
+/// its item's key.
 #[derive(Drop)]
 pub struct SlowDb {
     pub(crate) tables: BTreeMap<Text, NumberedTable>,
@@ -23,7 +24,8 @@ pub struct SlowDb {
 
 impl Model for SlowDb {
     ghost use Rattle.table_model.specs.Database.{Database};
-    ghost use Rattle.numbered_tables.specs.Tables.{tables_in, AreIdle};
+    ghost use Rattle.numbered_tables.specs.Tables.{tables_in};
+    ghost use Rattle.plain_database.specs.Sound.{IsSound};
     ghost use Rattle.plain_database.specs.Codes.{database_code};
 
     ghost Value = { Database };
@@ -32,7 +34,7 @@ impl Model for SlowDb {
 
     ghost view = { λ db. record { tables = tables_in db.tables.entries; tokens = db.tokens; made = db.made } };
 
-    ghost invariant = { λ db. AreIdle db.tables.entries };
+    ghost invariant = { λ db. IsSound db.tables.entries };
 }
 
 impl SlowDb {

@@ -1,38 +1,41 @@
 //! Whole requests.
 
-ghost use Rattle.std.specs.Prelude.{◌≡◌, IfOk, OnErr};
-ghost use Rattle.plain_database.specs.Built.{IsAnswered};
+ghost use Rattle.std.specs.Prelude.{IfOk, OnErr};
+ghost use Rattle.table_model.specs.Effect.{IsEffect};
+ghost use Rattle.plain_database.specs.Left.{IsLeftOut};
 
 use crate::database::SlowDb;
 use std::alloc::{AllocError as NoMemory, Global};
 use table_model::Reply;
 use table_request::Request;
 
-/// Applies a request at a moment, in microseconds, and answers its reply; `None` where its operation is not built yet.
+/// Applies a request at a moment, in microseconds, and answers its reply.
 ///
-/// Where memory is refused nothing changes.
+/// Where memory is refused nothing changes, but that a transaction may have forgotten tokens whose life was over.
 pub fn effect_slow(
     db: &mut SlowDb,
     alloc: Global,
     request: Request,
     moment: u64,
-) -> Result<Option<Reply>, NoMemory>
-    ensures ok { IfOk result (IsAnswered db.old request moment db.new) }
-    ensures err { OnErr result (db.new ≡ db.old) }
+) -> Result<Reply, NoMemory>
+    ensures ok { IfOk result (IsEffect db.old request moment db.new) }
+    ensures err { OnErr result (IsLeftOut db.old moment db.new) }
 {
     match request {
-        Request::CreateTable(request) => Ok(Some(db.create_table(alloc, request, moment)?)),
-        Request::DeleteTable(request) => Ok(Some(db.delete_table(request)?)),
-        Request::UpdateTable(request) => Ok(Some(db.update_table(alloc, request)?)),
-        Request::DescribeTable(request) => Ok(Some(db.describe_table(request)?)),
-        Request::ListTables(request) => Ok(Some(db.list_tables(alloc, &request)?)),
-        Request::PutItem(request) => Ok(Some(db.put_item(alloc, request)?)),
-        Request::GetItem(request) => Ok(Some(db.get_item(alloc, request)?)),
-        Request::UpdateItem(request) => Ok(Some(db.update_item(alloc, request)?)),
-        Request::DeleteItem(request) => Ok(Some(db.delete_item(alloc, request)?)),
-        other => {
-            drop(other);
-            Ok(None)
-        }
+        Request::CreateTable(request) => db.create_table(alloc, request, moment),
+        Request::DeleteTable(request) => db.delete_table(request),
+        Request::UpdateTable(request) => db.update_table(alloc, request),
+        Request::DescribeTable(request) => db.describe_table(request),
+        Request::ListTables(request) => db.list_tables(alloc, &request),
+        Request::PutItem(request) => db.put_item(alloc, request),
+        Request::GetItem(request) => db.get_item(alloc, request),
+        Request::UpdateItem(request) => db.update_item(alloc, request),
+        Request::DeleteItem(request) => db.delete_item(alloc, request),
+        Request::BatchGet(request) => db.batch_get(alloc, request),
+        Request::BatchWrite(request) => db.batch_write(alloc, request),
+        Request::Query(request) => db.query(alloc, &request),
+        Request::Scan(request) => db.scan(alloc, &request),
+        Request::TransactWrite(request) => db.transact_write(alloc, request, moment),
+        Request::TransactGet(request) => db.transact_get(alloc, request),
     }
 }

@@ -6,10 +6,13 @@
 //! Where memory is refused nothing is half done.
 #![tactic(auto)]
 
+mod batch;
 mod catalog;
 mod database;
 mod effect;
 mod item;
+mod page;
+mod transaction;
 mod update_table;
 
 pub use database::SlowDb;

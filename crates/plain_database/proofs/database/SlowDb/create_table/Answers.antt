@@ -9,6 +9,7 @@ use Rattle.table_model.specs.Database.{Database}
 use Rattle.table_model.specs.Catalog.{create_table, made_at}
 use Rattle.numbered_tables.specs.Tables.{table_in, tables_in, new_table, database_in}
 use Rattle.plain_database.proofs.Creating.{taken, full, made}
+use Rattle.plain_database.proofs.Sound.{keyed_inserted}
 use Rattle.numbered_tables.proofs.Kept.{at, known, as_many, inserted_in, idle_inserted}
 use Rattle.plain_database.proofs.database.SlowDb.create_table.Goals as goal
 
@@ -34,8 +35,13 @@ returns-then-len-ge-MOST_TABLES-clause-ok c =
 
 pub invariant_of-self-2 : goal.invariant_of-self-2
 invariant_of-self-2 c =
-    rw c.in_ok-described.ensures.ok (idle_inserted (slice_cmp nat_cmp) c.self.inside.tables.entries c.args.request.schema.name
-    (new_table c.in-Some.number (made_at c.args.moment c.args.request.schema)) refl c.self.invariant)
+    let es = c.self.inside.tables.entries in
+    let name = c.args.request.schema.name in
+    let made = new_table c.in-Some.number (made_at c.args.moment c.args.request.schema) in
+    rw c.in_ok-described.ensures.ok (record {
+      idle = idle_inserted (slice_cmp nat_cmp) es name made refl c.self.invariant.idle;
+      keyed = keyed_inserted es name made tt c.self.invariant.keyed;
+    })
 
 pub returns-clause-ok : goal.returns-clause-ok
 returns-clause-ok c =

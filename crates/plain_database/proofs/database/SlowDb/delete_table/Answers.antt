@@ -6,6 +6,7 @@ use Rattle.table_model.specs.Database.{Database}
 use Rattle.table_model.specs.Catalog.{delete_table, without_table}
 use Rattle.numbered_tables.specs.Tables.{table_in, tables_in, database_in}
 use Rattle.numbered_tables.proofs.Kept.{at, absent, there, no_table, the_table, removed_in, idle_removed}
+use Rattle.plain_database.proofs.Sound.{keyed_removed}
 use Rattle.plain_database.proofs.database.SlowDb.delete_table.Goals as goal
 
 pub returns-in_default-clause-ok : goal.returns-in_default-clause-ok
@@ -18,7 +19,13 @@ returns-in_default-clause-ok c =
     (no_table db name (λ table. (without_table db name, answer.Described table.schema)) (absent t.tables.entries t.tokens t.made name none))
 
 pub invariant_of-self : goal.invariant_of-self
-invariant_of-self c = rw c.remove.ensures.entries (idle_removed (at c.args.request.table) c.self.inside.tables.entries c.self.invariant)
+invariant_of-self c =
+    let name = c.args.request.table in
+    let es = c.self.inside.tables.entries in
+    rw c.remove.ensures.entries (record {
+      idle = idle_removed (at name) es c.self.invariant.idle;
+      keyed = keyed_removed (at name) es c.self.invariant.keyed;
+    })
 
 pub returns-clause-ok : goal.returns-clause-ok
 returns-clause-ok c =

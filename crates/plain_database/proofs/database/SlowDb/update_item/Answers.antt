@@ -5,6 +5,9 @@ use Rattle.table_model.specs.declared.refusal.Refusal.TheVariants.{NoTable}
 use Rattle.table_model.specs.Database.{Database, at_key, unless}
 use Rattle.table_model.specs.Writes.{update_item, update_at, key_update}
 use Rattle.item_keys.specs.ItemKey.{key_alone}
+use Rattle.table_request.specs.declared.request.Request.TheVariants as request
+use Rattle.keyed_rows.specs.Keyed.{HasRowsAtKeys}
+use Rattle.keyed_rows.proofs.Requests.{stays_keyed}
 use Rattle.numbered_tables.specs.declared.table.NumberedTable.{NumberedTable}
 use Rattle.numbered_tables.specs.Tables.{AreIdle, database_in}
 use Rattle.numbered_tables.proofs.Kept.{at, absent, no_table, idle_at, idle_set, kept_same, kept_done, on_err}
@@ -27,7 +30,7 @@ update_item-requires c =
     let es = c.self.inside.tables.entries in
     let x = c.in-Some.table.now in
     let found : lookup (at c.args.request.table) es ≡ Some x = search rules in
-    record { idle = idle_at (at c.args.request.table) es x found c.self.invariant }
+    record { idle = idle_at (at c.args.request.table) es x found c.self.invariant.idle }
 
 pub invariant_of-self-in_err-reply : goal.invariant_of-self-in_err-reply
 invariant_of-self-in_err-reply c =
@@ -36,8 +39,13 @@ invariant_of-self-in_err-reply c =
     let name = c.args.request.table in
     let found : lookup (at name) es ≡ Some x = search rules in
     let w : NumberedTable = record { number = x.number; rows = c.update_item.new.table } in
-    subst AreIdle (sym (c.get_mut.follows.holds w).0)
-    (idle_set (at name) es w (ap (λ v. v.pending) c.in_err-reply.ensures.err ∙ idle_at (at name) es x found c.self.invariant) c.self.invariant)
+    let same : w ≡ x = (λ i. record { number = x.number; rows = c.in_err-reply.ensures.err i }) in
+    record {
+      idle = subst AreIdle (sym (c.get_mut.follows.holds w).0)
+          (idle_set (at name) es w (ap (λ v. v.pending) c.in_err-reply.ensures.err ∙ idle_at (at name) es x found c.self.invariant.idle) c.self.invariant.idle);
+      keyed = subst HasRowsAtKeys (sym (kept_same es (c.get_mut.follows.lender w).entries c.self.inside.tokens c.self.inside.made name x w found (c.get_mut.follows.holds w).0 same))
+          c.self.invariant.keyed;
+    }
 
 pub returns-in_err-reply-clause-err : goal.returns-in_err-reply-clause-err
 returns-in_err-reply-clause-err c =
@@ -55,7 +63,16 @@ invariant_of-self-2 c =
     let es = c.self.inside.tables.entries in
     let x = c.in-Some.table.now in
     let w : NumberedTable = record { number = x.number; rows = c.update_item.new.table } in
-    subst AreIdle (sym (c.get_mut.follows.holds w).0) (idle_set (at c.args.request.table) es w c.in_ok-reply.ensures.done.idle c.self.invariant)
+    let t = c.self.inside in
+    let r = c.args.request in
+    let found : lookup (at r.table) es ≡ Some x = search rules in
+    record {
+      idle = subst AreIdle (sym (c.get_mut.follows.holds w).0) (idle_set (at r.table) es w c.in_ok-reply.ensures.done.idle c.self.invariant.idle);
+      keyed = stays_keyed (database_in es t.tokens t.made) (request.UpdateItem r) 0 (database_in (c.get_mut.follows.lender w).entries t.tokens t.made) c.in_ok-reply.reply
+          c.self.invariant.keyed
+          (kept_done es (c.get_mut.follows.lender w).entries t.tokens t.made r.table x w (λ d. update_item d r) c.in_ok-reply.reply found (c.get_mut.follows.holds w).0 refl
+          c.in_ok-reply.ensures.done);
+    }
 
 pub returns-clause-ok : goal.returns-clause-ok
 returns-clause-ok c =
