@@ -1,12 +1,11 @@
 -- What is told of a message, by what its parts tell.
-use Rattle.std.proofs.Common.{◌≡◌, ◌⊎◌, ℕ, true, false, refl, inl, inr}
+use Rattle.std.proofs.Common.{◌≡◌, ◌⊎◌, ℕ, refl, inl, inr}
 use Rattle.http_front.specs.Replies.{IsReplyStatus}
 use Rattle.table_request.specs.declared.request.Request.{Request}
 use Rattle.table_model.specs.declared.reply.Reply.{Reply}
 use Rattle.table_model.specs.declared.reply.Reply.TheVariants as reply
 use Rattle.table_model.specs.Database.{Database}
 use Rattle.table_model.specs.Effect.{IsEffect}
-use Rattle.plain_database.specs.Built.{is_built}
 use Rattle.api_reply.specs.declared.kind.ErrorKind.{ErrorKind}
 use Rattle.api_reply.specs.declared.kind.ErrorKind.TheVariants.{InternalServer}
 use Rattle.api_reply.specs.Kinds.{status_of}
@@ -26,7 +25,7 @@ reply_known r = inl refl
 
 -- ---- a reply that is told, or that memory was refused for
 
-pub served_reply : (db new : Database) (request : Request) (moment : ℕ) (r : Reply) (tells : Told) → is_built request ≡ true
-    → IsEffect db request moment new r → IsTold (told_reply r) tells → IsServed db request moment tells new
-served_reply db new request moment r tells built effect (inl is) = inl (inl (r, built, effect, is))
-served_reply db new request moment r tells built effect (inr is) = inr (is, inr (told_reply r, inl (r, built, effect, refl)))
+pub served_reply : (db new : Database) (request : Request) (moment : ℕ) (r : Reply) (tells : Told) → IsEffect db request moment new r
+    → IsTold (told_reply r) tells → IsServed db request moment tells new
+served_reply db new request moment r tells effect (inl is) = inl (r, effect, is)
+served_reply db new request moment r tells effect (inr is) = inr (is, inr (told_reply r, (r, effect, refl)))

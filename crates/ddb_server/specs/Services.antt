@@ -1,6 +1,5 @@
 -- The steps of the database as a service: a message, and what it is answered.
-use Rattle.std.specs.Prelude.{◌≡◌, ◌⊎◌, ℕ, List, Result, Ok, Err, true, false, codes}
-use Rattle.serde_json.specs.Written.{compact_text}
+use Rattle.std.specs.Prelude.{◌≡◌, ◌⊎◌, ℕ, List, Result, Ok, Err}
 use Rattle.http_front.specs.declared.message.Message.{Message}
 use Rattle.http_session.specs.declared.answer.Answer.{Answer}
 use Rattle.http_session.specs.Answers.{text_of}
@@ -8,11 +7,9 @@ use Rattle.table_request.specs.declared.request.Request.{Request}
 use Rattle.table_model.specs.declared.reply.Reply.{Reply}
 use Rattle.table_model.specs.Database.{Database}
 use Rattle.table_model.specs.Effect.{IsEffect}
-use Rattle.plain_database.specs.Built.{is_built}
+use Rattle.plain_database.specs.Left.{IsLeftOut}
 use Rattle.request_parts.specs.declared.refusal.Refusal.{Refusal}
 use Rattle.api_request.specs.Requests.{IsRequest}
-use Rattle.api_reply.specs.declared.kind.ErrorKind.TheVariants.{Validation}
-use Rattle.api_reply.specs.Errors.{error}
 use Rattle.api_reply.specs.Bodies.{body_of, reply_status, edge_body, memory_body}
 use Rattle.ddb_server.specs.declared.service.DatabaseService.{DatabaseService}
 
@@ -31,10 +28,6 @@ told_reply reply = (reply_status reply, body_of reply)
 abbrev pub told_refusal : Refusal → Told
 told_refusal refusal = (400, edge_body refusal)
 
--- an operation that is not built yet
-abbrev pub told_unbuilt : Told
-told_unbuilt = (400, compact_text (error Validation (codes "Not built yet")))
-
 -- memory was refused
 abbrev pub told_memory : Told
 told_memory = (500, memory_body)
@@ -45,17 +38,15 @@ IsTold what tells = (tells ≡ what) ⊎ (tells ≡ told_memory)
 
 -- ---- steps
 
--- the request is applied, and this is told of it; one that is not built changes nothing
+-- the request is applied, and this is told of it
 abbrev pub IsApplied : Database → Request → ℕ → Told → Database → Type 0
-IsApplied db request moment tells new =
-    ((reply : Reply) × (is_built request ≡ true) × IsEffect db request moment new reply × (tells ≡ told_reply reply))
-    ⊎ ((is_built request ≡ false) × (new ≡ db) × (tells ≡ told_unbuilt))
+IsApplied db request moment tells new = (reply : Reply) × IsEffect db request moment new reply × (tells ≡ told_reply reply)
 
 -- the request is applied, and this is told of it; or memory was refused, and it is left out or applied whole
 abbrev pub IsServed : Database → Request → ℕ → Told → Database → Type 0
 IsServed db request moment tells new =
     IsApplied db request moment tells new
-    ⊎ ((tells ≡ told_memory) × ((new ≡ db) ⊎ ((other : Told) × IsApplied db request moment other new)))
+    ⊎ ((tells ≡ told_memory) × (IsLeftOut db moment new ⊎ ((other : Told) × IsApplied db request moment other new)))
 
 -- the message states a request, which is served, or is refused; or memory was refused before it was read
 abbrev pub IsMade : Database → Message → ℕ → Told → Database → Type 0

@@ -2,7 +2,7 @@
 
 ghost use Rattle.std.specs.Prelude.{◌≡◌, option_copied};
 ghost use Rattle.http_front.specs.Replies.{IsReplyStatus};
-ghost use Rattle.ddb_server.specs.Services.{IsServed, IsTold, told, told_memory, told_refusal, told_reply, told_unbuilt};
+ghost use Rattle.ddb_server.specs.Services.{IsServed, IsTold, told, told_memory, told_refusal, told_reply};
 
 use api_reply::ErrorKind;
 use api_request::{Refusal, RequestEnd};
@@ -12,10 +12,6 @@ use plain_database::{SlowDb, effect_slow};
 use std::alloc::{AllocError as NoMemory, Global};
 use table_model::Reply;
 use table_request::Request;
-
-/// The body for an operation that this release does not answer yet.
-const NOT_BUILT: &str =
-    r#"{"__type":"com.amazon.coral.validate#ValidationException","message":"Not built yet"}"#;
 
 /// The sequential database, which answers messages.
 #[derive(Drop)]
@@ -54,8 +50,7 @@ fn serve(alloc: Global, database: &mut SlowDb, request: Request, moment: u64) ->
     ensures served { IsServed database.old request moment (told result) database.new }
 {
     match effect_slow(database, alloc, request, moment) {
-        Ok(Some(reply)) => answer(alloc, &reply),
-        Ok(None) => not_built(),
+        Ok(reply) => answer(alloc, &reply),
         Err(NoMemory) => memory_error(),
     }
 }
@@ -86,16 +81,6 @@ fn refuse(alloc: Global, refusal: &Refusal) -> Answer
             body: Body::Made(body),
         },
         Err(NoMemory) => memory_error(),
-    }
-}
-
-/// The answer to an operation that is not built yet.
-fn not_built() -> Answer
-    ensures { told result ≡ told_unbuilt }
-{
-    Answer {
-        status: ErrorKind::Validation.status(),
-        body: Body::Fixed(NOT_BUILT),
     }
 }
 

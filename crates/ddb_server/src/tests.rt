@@ -246,9 +246,34 @@ static EXCHANGES: [(&str, &str, &str); 17] = [
         r#"{"__type":"com.amazonaws.dynamodb.v20120810#ResourceNotFoundException","message":"Requested resource not found: Table: Bat not found"}"#,
     ),
     (
+        "BatchWriteItem",
+        r#"{"RequestItems":{"Tab":[{"PutRequest":{"Item":{"id":{"S":"b"}}}},{"DeleteRequest":{"Key":{"id":{"S":"c"}}}}]}}"#,
+        r#"{"UnprocessedItems":{}}"#,
+    ),
+    (
+        "BatchGetItem",
+        r#"{"RequestItems":{"Tab":{"Keys":[{"id":{"S":"a"}},{"id":{"S":"b"}}]}}}"#,
+        r#"{"Responses":{"Tab":[{"id":{"S":"b"}}]},"UnprocessedKeys":{}}"#,
+    ),
+    (
+        "TransactWriteItems",
+        r#"{"TransactItems":[{"Put":{"TableName":"Tab","Item":{"id":{"S":"a"},"n":{"N":"1"}}}},{"Delete":{"TableName":"Tab","Key":{"id":{"S":"b"}}}}]}"#,
+        "{}",
+    ),
+    (
+        "TransactGetItems",
+        r#"{"TransactItems":[{"Get":{"TableName":"Tab","Key":{"id":{"S":"a"}}}},{"Get":{"TableName":"Tab","Key":{"id":{"S":"b"}}}}]}"#,
+        r#"{"Responses":[{"Item":{"id":{"S":"a"},"n":{"N":"1"}}},{}]}"#,
+    ),
+    (
+        "Query",
+        r#"{"TableName":"Tab","KeyConditionExpression":"id = :i","ExpressionAttributeValues":{":i":{"S":"a"}}}"#,
+        r#"{"Count":1,"Items":[{"id":{"S":"a"},"n":{"N":"1"}}],"ScannedCount":1}"#,
+    ),
+    (
         "Scan",
-        r#"{"TableName":"Tab"}"#,
-        r#"{"__type":"com.amazon.coral.validate#ValidationException","message":"Not built yet"}"#,
+        r#"{"TableName":"Tab","Select":"COUNT"}"#,
+        r#"{"Count":1,"ScannedCount":1}"#,
     ),
     (
         "Scan",
