@@ -193,7 +193,7 @@ const TARGET: &str = "DynamoDB_20120810.CreateTable";
 
 /// Operations with their bodies, one after the other, and the bodies of their replies. A reply with a `__type` has the
 /// status 400, another 200.
-static EXCHANGES: [(&str, &str, &str); 17] = [
+static EXCHANGES: [(&str, &str, &str); 22] = [
     (
         "CreateTable",
         r#"{"AttributeDefinitions":[{"AttributeName":"id","AttributeType":"S"}],"KeySchema":[{"AttributeName":"id","KeyType":"HASH"}],"TableName":"Tab","BillingMode":"PAY_PER_REQUEST"}"#,
