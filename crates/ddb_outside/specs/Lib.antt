@@ -1,4 +1,6 @@
 pub mod Causes
 pub mod Clocks
+pub mod Dealt
+pub mod Listeners
 pub mod Memory
 pub mod Writes

@@ -1,3 +1,3 @@
-pub mod OnlyWord
-pub mod Serving
 pub mod Unserved
+pub mod Statuses
+pub mod Serving

@@ -1,3 +1,3 @@
--- The definitions in reading order: the database as a service; the program.
-pub mod Services
+-- The definitions in reading order: what is served at a port; what the program does by its words.
+pub mod Served
 pub mod Programs

@@ -1,57 +1,145 @@
-ghost use Rattle.std.specs.Prelude.{◌≡◌, ◌↔◌, IsTrue};
-ghost use Rattle.ddb_outside.specs.Causes.{Rose};
-ghost use Rattle.ddb_server.specs.Programs.{IsStdio, RunsSession, RefusesWords, exit_status, usage};
+//! The program by the words of its command line.
 
-use crate::service::DatabaseService;
-use ddb_outside::{Clock, Failed, Sink, Source, write_all};
+ghost use Rattle.std.specs.Prelude.{◌≡◌, map, string_bytes};
+ghost use Rattle.ddb_outside.specs.Causes.{Rose};
+ghost use Rattle.ddb_server.specs.Programs.{Runs, RunsSession, RefusesWords, outside, session_status, usage};
+ghost use Rattle.ddb_server.specs.Served.{RunsListener, share_status};
+
+use command_words::{Command, WordsEnd, command};
+use ddb_outside::{Clock, Failed, Listener, Sink, Source, write_all};
+use http_front::Reader;
 use http_session::{SessionEnd, serve_session};
+use http_workers::{ShareEnd, serve_share};
 use plain_database::SlowDb;
+use std::sync::Wait;
+use table_service::PlainService;
 
 /// What is written where the words are none of the commands.
 const USAGE: &str =
     "usage: ddb_server stdio|serve|load [--partitions N] [--port N] [--workers N] [--start N] [--clients N] [--count N]\n";
 
-/// Runs the program by the words of its command line, the name of the program left out, and answers its
-/// exit status.
+/// Runs the program by the words of its command line, the name of the program left out, and answers its exit status.
 ///
-/// `stdio` is a session from the empty database on: its status is 0 where the input was read to its
-/// end, to a message that asked for the end of the connection or to what is no message; 1 where the source
-/// failed, 3 where the sink failed, 5 where the input ended inside a message, 6 where 2^40 messages were
-/// answered, 7 where memory was refused and a message could not be read. Other words are answered by the
-/// usage line and status 2.
-pub fn run<S: Source, K: Sink, C: Clock>(
-    rt: &impl AllocGlobal,
+/// `stdio` is a session from the empty database on: its status is 0 where the input was read to its end, to a message that
+/// asked for the end of the connection or to what is no message; 1 where the source failed, 3 where the sink failed, 5
+/// where the input ended inside a message, 6 where 2^40 messages were answered, 7 where memory was refused and a message
+/// could not be read.
+///
+/// `serve` binds the listener to the port and serves its connections, one session after the other in one thread, out of one
+/// database that is empty at first: its status is 0 where no connection will come any more; 4 where the port could not be
+/// bound, a share of the listener was refused, or accepting failed 16 times in a row; 7 where memory was refused before
+/// anything was served. How many workers the words state has no effect yet.
+///
+/// Other words are answered by the usage line and status 2, or 3 where the sink failed at it; `load` is not built yet, and
+/// is answered so. Where memory was refused for the words the status is 7.
+pub fn run<R, S, K, C, L>(
+    rt: &R,
     words: &[String],
     source: &mut S,
     sink: &mut K,
     clock: &mut C,
+    listener: &mut L,
 ) -> u8
-    ensures stdio { IsStdio words.now → RunsSession (S.left source.old) (C.coming clock.old) (K.written sink.old) (K.written sink.new) result }
-    ensures other { ¬ (IsStdio words.now) → RefusesWords (K.written sink.old) (K.written sink.new) result }
+where
+    R: AllocGlobal + Wait,
+    S: Source,
+    K: Sink,
+    C: Clock,
+    L: Listener,
+    ensures runs { Runs (map string_bytes words.now)
+        (outside (S.left source.old) (C.coming clock.old) (K.written sink.old) (L.connections listener.old) (L.ends listener.old))
+        (outside (S.left source.new) (C.coming clock.new) (K.written sink.new) (L.connections listener.new) (L.ends listener.new))
+        result }
     ensures read { result ≡ 1 → Rose (S.faults source.old) (S.faults source.new) }
     ensures write { result ≡ 3 → Rose (K.faults sink.old) (K.faults sink.new) }
+    ensures net { result ≡ 4 → Rose (L.faults listener.old) (L.faults listener.new) }
 {
-    if !is_stdio(words) {
-        return refuse_words(sink);
+    match command(rt.alloc(), words) {
+        Ok(Command::Stdio { partitions: _ }) => serve_stream(rt, source, sink, clock),
+        Ok(
+            Command::Serve {
+                port,
+                partitions: _,
+                workers: _,
+            },
+        ) => serve_port(rt, clock, listener, port),
+        Ok(Command::Load { .. }) => refuse_words(sink),
+        Err(WordsEnd::Refused) => refuse_words(sink),
+        Err(WordsEnd::NoMemory) => 7,
     }
-    let Ok(database) = SlowDb::new(rt.alloc()) else {
-        return exit_status(SessionEnd::NoMemory);
+}
+
+/// A session over a source and a sink, from the empty database on.
+fn serve_stream<R: AllocGlobal, S: Source, K: Sink, C: Clock>(
+    rt: &R,
+    source: &mut S,
+    sink: &mut K,
+    clock: &mut C,
+) -> u8
+    ensures session { RunsSession (S.left source.old) (C.coming clock.old) (C.coming clock.new) (K.written sink.old) (K.written sink.new) result }
+    ensures read { result ≡ 1 → Rose (S.faults source.old) (S.faults source.new) }
+    ensures write { result ≡ 3 → Rose (K.faults sink.old) (K.faults sink.new) }
+    ensures net { (result ≡ 4) → ⊥ }
+{
+    let alloc = rt.alloc();
+    let Ok(mut database) = SlowDb::new(alloc) else {
+        return session_status(SessionEnd::NoMemory);
     };
-    let mut service = DatabaseService { database };
-    exit_status(serve_session(rt.alloc(), source, sink, clock, &mut service))
+    let Ok(mut reader) = Reader::make(alloc) else {
+        return session_status(SessionEnd::NoMemory);
+    };
+    let end = serve_session(
+        rt,
+        alloc,
+        &PlainService,
+        &mut database,
+        &mut reader,
+        source,
+        sink,
+        clock,
+    );
+    session_status(end)
 }
 
-// Whether the words are the one word `stdio`.
-fn is_stdio(words: &[String]) -> bool
-    ensures { IsTrue result ↔ IsStdio words.now }
+/// The connections of a port, from the empty database on.
+fn serve_port<R, C, L>(rt: &R, clock: &mut C, listener: &mut L, port: u16) -> u8
+where
+    R: AllocGlobal + Wait,
+    C: Clock,
+    L: Listener,
+    ensures served { RunsListener (C.coming clock.old) (C.coming clock.new) (L.connections listener.old) (L.connections listener.new) result }
+    ensures done { result ≡ 0 → Rose (L.ends listener.old) (L.ends listener.new) }
+    ensures net { result ≡ 4 → Rose (L.faults listener.old) (L.faults listener.new) }
+    ensures read { (result ≡ 1) → ⊥ }
+    ensures write { (result ≡ 3) → ⊥ }
 {
-    match words {
-        [word] => word.as_str() == "stdio",
-        _ => false,
+    let alloc = rt.alloc();
+    let Ok(mut database) = SlowDb::new(alloc) else {
+        return 7;
+    };
+    let Ok(mut reader) = Reader::make(alloc) else {
+        return 7;
+    };
+    if listener.bind(port).is_err() {
+        return 4;
     }
+    let Ok(mut share) = listener.share() else {
+        return 4;
+    };
+    let end = serve_share(
+        rt,
+        alloc,
+        &PlainService,
+        &mut database,
+        &mut reader,
+        clock,
+        &mut share,
+    );
+    listener.absorb(share);
+    share_status(end)
 }
 
-// Answers words that are none of the commands.
+/// Answers words that are none of the commands.
 fn refuse_words<K: Sink>(sink: &mut K) -> u8
     ensures refused { RefusesWords (K.written sink.old) (K.written sink.new) result }
     ensures write { result ≡ 3 → Rose (K.faults sink.old) (K.faults sink.new) }
@@ -62,9 +150,9 @@ fn refuse_words<K: Sink>(sink: &mut K) -> u8
     }
 }
 
-// The exit status of a session's end.
-fn exit_status(end: SessionEnd) -> u8
-    ensures { result ≡ exit_status end }
+/// The exit status of a session's end.
+fn session_status(end: SessionEnd) -> u8
+    ensures { result ≡ session_status end }
 {
     match end {
         SessionEnd::Ended | SessionEnd::Asked | SessionEnd::Refused(_) => 0,
@@ -73,5 +161,15 @@ fn exit_status(end: SessionEnd) -> u8
         SessionEnd::Cut { .. } => 5,
         SessionEnd::Spent => 6,
         SessionEnd::NoMemory => 7,
+    }
+}
+
+/// The exit status of serving's end.
+fn share_status(end: ShareEnd) -> u8
+    ensures { result ≡ share_status end }
+{
+    match end {
+        ShareEnd::Done => 0,
+        ShareEnd::NetFault => 4,
     }
 }

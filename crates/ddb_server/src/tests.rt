@@ -1,6 +1,6 @@
 use crate::run;
 use base_types::{Bytes, Seq};
-use ddb_outside::{ListClock, MemSink, MemSource, StepClock};
+use ddb_outside::{ListClock, MemListener, MemSink, MemSource, StepClock};
 use std::alloc::Global;
 use std::test::Fail;
 
@@ -48,6 +48,11 @@ fn words(alloc: Global, from: &[&str]) -> Result<Vec<String>, Fail> {
     Ok(words)
 }
 
+// A listener to which nobody connects.
+fn nobody(alloc: Global) -> Result<MemListener, Fail> {
+    Ok(MemListener::make(alloc, Seq::new(alloc), 1, Seq::new(alloc))?)
+}
+
 // The status and the output of `stdio` over an input that comes in pieces.
 fn stdio(rt: &HostRuntime, input: &str, piece: usize) -> Result<(u8, String), Fail> {
     let alloc = rt.alloc();
@@ -57,10 +62,11 @@ fn stdio(rt: &HostRuntime, input: &str, piece: usize) -> Result<(u8, String), Fa
     let mut clock = StepClock::make(0, 0);
     let status = run(
         rt,
-        words(alloc, &["stdio"])?.as_slice(),
+        words(alloc, &["stdio", "--partitions=4"])?.as_slice(),
         &mut source,
         &mut sink,
         &mut clock,
+        &mut nobody(alloc)?,
     );
     Ok((
         status,
@@ -126,7 +132,14 @@ fn failing(rt: &HostRuntime, reads: &[u64], writes: &[u64]) -> Result<(u8, Bytes
     let mut sink = MemSink::make(alloc, 4_096, numbers(alloc, writes)?);
     let mut clock = StepClock::make(0, 0);
     let words = words(alloc, &["stdio"])?;
-    let status = run(rt, words.as_slice(), &mut source, &mut sink, &mut clock);
+    let status = run(
+        rt,
+        words.as_slice(),
+        &mut source,
+        &mut sink,
+        &mut clock,
+        &mut nobody(alloc)?,
+    );
     Ok((status, sink.into_parts().0))
 }
 
@@ -148,17 +161,25 @@ fn refused_words(rt: &HostRuntime, from: &[&str], writes: &[u64]) -> Result<(u8,
     let mut sink = MemSink::make(alloc, 7, numbers(alloc, writes)?);
     let mut clock = StepClock::make(0, 0);
     let words = words(alloc, from)?;
-    let status = run(rt, words.as_slice(), &mut source, &mut sink, &mut clock);
+    let status = run(
+        rt,
+        words.as_slice(),
+        &mut source,
+        &mut sink,
+        &mut clock,
+        &mut nobody(alloc)?,
+    );
     Ok((status, sink.into_parts().0))
 }
 
 #[test]
 fn other_words(rt: HostRuntime) -> Result<(), Fail> {
-    let cases: [&[&str]; 5] = [
+    let cases: [&[&str]; 6] = [
         &[],
         &["stdio", "--"],
         &["stdio", "stdio"],
-        &["Stdio"],
+        &["serve", "--workers", "63"],
+        &["load", "--count", "1"],
         &["help"],
     ];
     for case in cases {
@@ -374,7 +395,8 @@ fn moments(rt: HostRuntime) -> Result<(), Fail> {
             words(alloc, &["stdio"])?.as_slice(),
             &mut source,
             &mut sink,
-            &mut clock
+            &mut clock,
+            &mut nobody(alloc)?
         ),
         0
     );
@@ -389,5 +411,77 @@ fn moments(rt: HostRuntime) -> Result<(), Fail> {
         output.as_str().matches("\"CreationDateTime\":8,").count(),
         1
     );
+    Ok(())
+}
+
+// What a client sends that makes a table of its own, puts an item and reads it.
+fn client(alloc: Global, table: &str) -> Result<Bytes, Fail> {
+    let made = create_table(alloc, table)?;
+    let put = format!(in alloc;
+        "{{\"TableName\":\"{table}\",\"Item\":{{\"id\":{{\"S\":\"a\"}}}}}}"
+    )?;
+    let get = format!(in alloc;
+        "{{\"TableName\":\"{table}\",\"Key\":{{\"id\":{{\"S\":\"a\"}}}}}}"
+    )?;
+    let mut input = message(alloc, TARGET, made.as_str())?;
+    input.push_str(message(alloc, "DynamoDB_20120810.PutItem", put.as_str())?.as_str())?;
+    input.push_str(message(alloc, "DynamoDB_20120810.GetItem", get.as_str())?.as_str())?;
+    Ok(Bytes::copied(alloc, input.as_bytes())?)
+}
+
+const PUT_AND_READ: &str =
+    "HTTP/1.1 200 OK\r\nContent-Type: application/x-amz-json-1.0\r\nContent-Length: 2\r\n\
+    x-amzn-RequestId: 00000000000000000000000000000002\r\n\r\n{}\
+    HTTP/1.1 200 OK\r\nContent-Type: application/x-amz-json-1.0\r\nContent-Length: 27\r\n\
+    x-amzn-RequestId: 00000000000000000000000000000003\r\n\r\n{\"Item\":{\"id\":{\"S\":\"a\"}}}";
+
+// The status of `serve` by two workers over four connections, and the listener, of whose calls these fail.
+fn serve(rt: &HostRuntime, failing: &[u64]) -> Result<(u8, MemListener), Fail> {
+    let alloc = rt.alloc();
+    let mut contents = Seq::new(alloc);
+    for table in ["one", "two", "three", "four"] {
+        contents.push(client(alloc, table)?)?;
+    }
+    let mut listener = MemListener::make(alloc, contents, 2, numbers(alloc, failing)?)?;
+    let mut source = MemSource::make(Bytes::from(Vec::new(alloc)), 1, Seq::new(alloc));
+    let mut sink = MemSink::make(alloc, 1, Seq::new(alloc));
+    let mut clock = StepClock::make(0, 0);
+    let words = words(alloc, &["serve", "--port=8001", "--workers", "2"])?;
+    let status = run(
+        rt,
+        words.as_slice(),
+        &mut source,
+        &mut sink,
+        &mut clock,
+        &mut listener,
+    );
+    Ok((status, listener))
+}
+
+#[test]
+fn connections(rt: HostRuntime) -> Result<(), Fail> {
+    let (status, listener) = serve(&rt, &[])?;
+    assert_eq!(rt; status, 0);
+    // In order of worker: the first has the first and the third connection.
+    let tables = ["one", "three", "two", "four"];
+    assert_eq!(rt; listener.outputs().len(), tables.len());
+    for (output, table) in listener.outputs().iter().zip(tables) {
+        let output = std::str::from_utf8(output.as_slice()).ok().ok_or("text")?;
+        assert!(rt; output.ends_with(PUT_AND_READ), "{table}");
+        let name = format!(in rt.alloc(); "\"TableName\":\"{table}\"")?;
+        assert_eq!(rt; output.matches(name.as_str()).count(), 1);
+        assert_eq!(rt; output.matches("HTTP/1.1 200 OK\r\n").count(), 3);
+    }
+    Ok(())
+}
+
+#[test]
+fn refused_listening(rt: HostRuntime) -> Result<(), Fail> {
+    // The port is refused; then the second share is.
+    for failing in [[0], [2]] {
+        let (status, listener) = serve(&rt, &failing)?;
+        assert_eq!(rt; status, 4);
+        assert_eq!(rt; listener.outputs().len(), 0);
+    }
     Ok(())
 }

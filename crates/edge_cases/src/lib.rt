@@ -4,6 +4,8 @@
 #[cfg(test)]
 mod bodies;
 #[cfg(test)]
+mod listeners;
+#[cfg(test)]
 mod outside;
 #[cfg(test)]
 mod sessions;

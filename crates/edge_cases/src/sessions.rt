@@ -2,26 +2,48 @@
 
 use base_types::{Bytes, Seq};
 use ddb_outside::{MemSink, MemSource, StepClock};
-use http_front::{HttpFault, Message};
+use http_front::{HttpFault, Message, Reader};
 use http_session::{Answer, Body, Service, SessionEnd, serve_session};
 use std::alloc::Global;
 use std::test::Fail;
 
-/// Counts its messages. It keeps the moment of the last one.
+/// How many messages were answered, and the moment of the last one.
 #[derive(Drop)]
-struct Counter {
+struct Count {
     count: u64,
     moment: u64,
 }
 
-impl Service for Counter {
+/// Counts messages.
+struct Counter;
+
+impl<R> Service<R> for Counter {
     ghost use Rattle.std.specs.Prelude.{◌≡◌};
 
-    ghost steps = { λ old message moment status body new. (status ≡ 200) × (new.moment ≡ moment) };
+    type State = Count;
 
-    fn answer(&mut self, _alloc: Global, _message: &Message, moment: u64) -> Answer {
-        self.count = self.count.saturating_add(1);
-        self.moment = moment;
+    ghost fits = { λ service state. Unit {0} };
+
+    ghost ways = { record {
+      begins = λ old new. new ≡ old;
+      stops = λ state. ⊥;
+      steps = λ old message moment status body new. (status ≡ 200) × (new.moment ≡ moment);
+    } };
+
+    fn begin(&self, _state: &mut Count) -> bool {
+        true
+    }
+
+    fn answer(
+        &self,
+        _rt: &R,
+        _alloc: Global,
+        state: &mut Count,
+        _message: &Message,
+        moment: u64,
+    ) -> Answer {
+        state.count = state.count.saturating_add(1);
+        state.moment = moment;
         Answer {
             status: 200,
             body: Body::Fixed("{}"),
@@ -78,18 +100,29 @@ fn second(end: SessionEnd) -> &'static str {
     }
 }
 
-/// The end of a session, what was written, and its service afterwards.
-fn served(alloc: Global, input: &str, piece: usize) -> Result<(SessionEnd, Bytes, Counter), Fail> {
+/// The end of a session, what was written, and the state afterwards.
+fn served(rt: &HostRuntime, input: &str, piece: usize) -> Result<(SessionEnd, Bytes, Count), Fail> {
+    let alloc = rt.alloc();
     let content = Bytes::copied(alloc, input.as_bytes())?;
     let mut source = MemSource::make(content, piece.max(1), Seq::new(alloc));
     let mut sink = MemSink::make(alloc, piece.max(1), Seq::new(alloc));
     let mut clock = StepClock::make(7, 5);
-    let mut counter = Counter {
+    let mut state = Count {
         count: 0,
         moment: 0,
     };
-    let end = serve_session(alloc, &mut source, &mut sink, &mut clock, &mut counter);
-    Ok((end, sink.into_parts().0, counter))
+    let mut reader = Reader::make(alloc)?;
+    let end = serve_session(
+        rt,
+        alloc,
+        &Counter,
+        &mut state,
+        &mut reader,
+        &mut source,
+        &mut sink,
+        &mut clock,
+    );
+    Ok((end, sink.into_parts().0, state))
 }
 
 #[test]
@@ -98,10 +131,10 @@ fn sessions(rt: HostRuntime) -> Result<(), Fail> {
     for (first, behind, piece, reply, end, count, moment) in SESSIONS {
         let input = format!(in alloc; "{first}{behind}")?;
         let expected = format!(in alloc; "{reply}{}", second(end))?;
-        let (ended, written, counter) = served(alloc, input.as_str(), piece)?;
+        let (ended, written, state) = served(&rt, input.as_str(), piece)?;
         assert!(rt; ended == end);
         assert_eq!(rt; written.as_slice(), expected.as_bytes());
-        assert_eq!(rt; (counter.count, counter.moment), (count, moment));
+        assert_eq!(rt; (state.count, state.moment), (count, moment));
     }
     Ok(())
 }

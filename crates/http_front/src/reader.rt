@@ -54,6 +54,13 @@ impl Reader {
         })
     }
 
+    /// Drops what is held, and its room, so that another source can be read.
+    pub fn clear(&mut self)
+        ensures { self.new ≡ [] }
+    {
+        self.held = BytesMut::new(self.alloc);
+    }
+
     /// The next message of the bytes that are held and of those that `source` still has, or None
     /// where they end before one begins (RFC 9112, section 2).
     ///

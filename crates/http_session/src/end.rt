@@ -17,7 +17,7 @@ pub enum SessionEnd {
     ReadFault,
     /// The sink failed.
     WriteFault,
-    /// As many messages as a session may answer were answered.
+    /// The service gave no leave to take a message, or as many messages as a session may answer were answered.
     Spent,
     /// Memory was refused where a message could not be read.
     NoMemory,

@@ -16,34 +16,42 @@ use ddb_outside::{Clock, Failed, Sink, Source};
 use http_front::{HttpFault, NextEnd, Reader, refuse, reply};
 use std::alloc::Global;
 
-/// Answers the next message of a connection, on which `done` messages were answered before: the message is taken, then
-/// the clock is looked at once, then the reply is written. It is answered at the greatest moment that the clock has
-/// given, which is kept in `latest`. The result tells whether the message asked for the connection's end.
+/// Answers the next message of a connection, on which `done` messages were answered before: the service is asked for leave,
+/// then the message is taken, then the clock is looked at once, then the reply is written. It is answered at the greatest
+/// moment that the clock has given, which is kept in `latest`. The result tells whether the message asked for the
+/// connection's end.
 ///
-/// Where there is no message the result is how the session ends: [`SessionEnd::Ended`], [`SessionEnd::Refused`] (the
-/// refusal was written), [`SessionEnd::Cut`], [`SessionEnd::ReadFault`] or [`SessionEnd::NoMemory`]; and where the sink
-/// failed it is [`SessionEnd::WriteFault`].
-pub fn serve_message<S: Source, K: Sink, C: Clock, V: Service>(
+/// Where the service gives no leave the result is [`SessionEnd::Spent`], and nothing is read. Where there is no message it is
+/// how the session ends: [`SessionEnd::Ended`], [`SessionEnd::Refused`] (the refusal was written), [`SessionEnd::Cut`],
+/// [`SessionEnd::ReadFault`] or [`SessionEnd::NoMemory`]; and where the sink failed it is [`SessionEnd::WriteFault`].
+pub fn serve_message<R, S: Source, K: Sink, C: Clock, V: Service<R>>(
+    rt: &R,
     alloc: Global,
+    service: &V,
+    state: &mut V::State,
     reader: &mut Reader,
     source: &mut S,
     sink: &mut K,
     clock: &mut C,
-    service: &mut V,
     latest: &mut u64,
     done: u64,
 ) -> Result<bool, SessionEnd>
-    requires { done < 2 ^ 40 }
-    ensures turn { IsTurn V.steps done
-        (stand (prepend_known reader.old (S.left source.old)) (C.coming clock.old) latest.old (K.written sink.old) service.old)
-        (stand (prepend_known reader.new (S.left source.new)) (C.coming clock.new) latest.new (K.written sink.new) service.new)
+    requires count { done < 2 ^ 40 }
+    requires fits { V.fits service.now state.old }
+    ensures turn { IsTurn V.ways done
+        (stand (prepend_known reader.old (S.left source.old)) (C.coming clock.old) latest.old (K.written sink.old) state.old)
+        (stand (prepend_known reader.new (S.left source.new)) (C.coming clock.new) latest.new (K.written sink.new) state.new)
         result }
+    ensures fits { V.fits service.now state.new }
     ensures sparing { TakesSparingly (S.left source.old) (S.left source.new) reader.old }
     ensures read { result ≡ Err SessionEnd.ReadFault → Rose (S.faults source.old) (S.faults source.new) }
     ensures write { result ≡ Err SessionEnd.WriteFault → Rose (K.faults sink.old) (K.faults sink.new) }
     ensures reads { S.faults source.old ≤ S.faults source.new }
     ensures writes { K.faults sink.old ≤ K.faults sink.new }
 {
+    if !service.begin(state) {
+        return Err(SessionEnd::Spent);
+    }
     let message = match reader.next(source) {
         Ok(Some(message)) => message,
         Ok(None) => return Err(SessionEnd::Ended),
@@ -53,7 +61,7 @@ pub fn serve_message<S: Source, K: Sink, C: Clock, V: Service>(
         Err(NextEnd::NoMemory) => return Err(SessionEnd::NoMemory),
     };
     *latest = clock.now().max(*latest);
-    let answer = service.answer(alloc, &message, *latest);
+    let answer = service.answer(rt, alloc, state, &message, *latest);
     match write_answer(sink, &answer, done + 1, message.last) {
         Ok(()) => Ok(message.last),
         Err(Failed) => Err(SessionEnd::WriteFault),

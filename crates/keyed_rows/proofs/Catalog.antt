@@ -31,8 +31,8 @@ use Rattle.table_model.specs.declared.reply.Reply.TheVariants as answer
 use Rattle.table_model.specs.declared.refusal.Refusal.{Refusal}
 use Rattle.table_model.specs.Database.{Database, Table, Effect, table_named, with_table, refused}
 use Rattle.table_model.specs.Catalog.{most_tables, with_new_table, made_at, create_if, create_table, delete_table, describe_table}
-use Rattle.table_model.specs.Catalog.{added_if, with_definitions, is_used, updated_schema, has_contradiction, index_refusal}
-use Rattle.table_model.specs.Catalog.{IsUpdatedTo, IsContradictedOr, IsRefusedFirst, IsUpdateIn, IsUpdateTable}
+use Rattle.table_model.specs.Catalog.{added_if, with_definitions, is_used, updated_schema, has_bad_definition, index_refusal}
+use Rattle.table_model.specs.Catalog.{IsUpdatedTo, IsBadlyDefinedOr, IsRefusedFirst, IsUpdateIn, IsUpdateTable}
 use Rattle.keyed_rows.specs.Keyed.{IsKeyed, HasRowsAtKeys}
 use Rattle.keyed_rows.proofs.AllEntries.{all_inserted, all_removed}
 use Rattle.keyed_rows.proofs.Rows.{table_keyed, named_keyed}
@@ -191,7 +191,7 @@ to_keyed db new name table schema (answer.Page s) is rows all h = changed_keyed 
 to_keyed db new name table schema answer.TransactWritten is rows all h = changed_keyed db new name table schema is rows all h.1
 to_keyed db new name table schema (answer.TransactRead s) is rows all h = changed_keyed db new name table schema is rows all h.1
 
-contradicted_keyed : (b : Bool) (db new : Database) (reply : Reply) (P : Type 0) → HasRowsAtKeys db → (P → HasRowsAtKeys new) → IsContradictedOr b db new reply P → HasRowsAtKeys new
+contradicted_keyed : (b : Bool) (db new : Database) (reply : Reply) (P : Type 0) → HasRowsAtKeys db → (P → HasRowsAtKeys new) → IsBadlyDefinedOr b db new reply P → HasRowsAtKeys new
 contradicted_keyed true db new reply P all later h = same_keyed db new reply _ all h
 contradicted_keyed false db new reply P all later h = later h
 
@@ -206,5 +206,5 @@ change_keyed db new r reply all h = go (table_named db r.table) refl h
     go None is e = same_keyed db new reply _ all e
     go (Some t) is e =
         refused_keyed (index_refusal t.schema r.update.index) db new reply _ all
-        (contradicted_keyed (has_contradiction t.schema.definitions r.update.definitions) db new reply _ all
+        (contradicted_keyed (has_bad_definition t.schema.definitions r.update.definitions) db new reply _ all
         (to_keyed db new r.table t (updated_schema t.schema r.update) reply is (updated_keyed t.schema r.update t.rows (named_keyed db r.table t is all)) all)) e

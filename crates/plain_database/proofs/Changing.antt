@@ -11,7 +11,7 @@ use Rattle.table_model.specs.declared.reply.Reply.{Reply}
 use Rattle.table_model.specs.declared.reply.Reply.TheVariants as answer
 use Rattle.table_model.specs.declared.refusal.Refusal.{Refusal}
 use Rattle.table_model.specs.Database.{Database, Table, with_table, first, where_true}
-use Rattle.table_model.specs.Catalog.{IsUpdateTable, IsUpdateIn, IsUpdatedTo, IsContradictedOr, IsRefusedFirst, schema_refusal, index_refusal, has_contradiction, updated_schema}
+use Rattle.table_model.specs.Catalog.{IsUpdateTable, IsUpdateIn, IsUpdatedTo, IsBadlyDefinedOr, IsRefusedFirst, schema_refusal, index_refusal, has_bad_definition, updated_schema}
 use Rattle.table_rows.specs.View.{TableView}
 use Rattle.schema_update.specs.Updated.{IsJudged, IsRefusedOr}
 use Rattle.numbered_tables.specs.declared.table.NumberedTable.{NumberedTable}
@@ -23,7 +23,7 @@ use Rattle.plain_database.specs.Changed.{IsChanged}
 refused_in : (db new : Database) (name : List ℕ) (table : Table) (o : Option Refusal) (b : Bool) (stated : Schema) (refusal : Refusal) → new ≡ db
     → IsRefusedOr (first (o ∷ where_true b (schema_refusal BadDefinition) ∷ [])) (Err refusal) (IsJudged stated (Err refusal))
     → IsRefusedFirst o db new (answer.Refused refusal)
-    (IsContradictedOr b db new (answer.Refused refusal) (IsUpdatedTo db name table stated new (answer.Refused refusal)))
+    (IsBadlyDefinedOr b db new (answer.Refused refusal) (IsUpdatedTo db name table stated new (answer.Refused refusal)))
 refused_in db new name table (Some f) b stated refusal same is = λ i. (same i, answer.Refused (error_of (is i)))
   where
     error_of : Result Schema Refusal → Refusal
@@ -41,7 +41,7 @@ described_in : (db new : Database) (name : List ℕ) (table : Table) (o : Option
     → new ≡ with_table db name (record table { schema = schema })
     → IsRefusedOr (first (o ∷ where_true b (schema_refusal BadDefinition) ∷ [])) (Ok schema) (IsJudged stated (Ok schema))
     → IsRefusedFirst o db new (answer.Described schema)
-    (IsContradictedOr b db new (answer.Described schema) (IsUpdatedTo db name table stated new (answer.Described schema)))
+    (IsBadlyDefinedOr b db new (answer.Described schema) (IsUpdatedTo db name table stated new (answer.Described schema)))
 described_in db new name table (Some f) b stated schema made is = absurd (cc)
 described_in db new name table None true stated schema made is = absurd (cc)
 described_in db new name table None false stated schema made (valid, same) = (
@@ -61,11 +61,11 @@ module _ (es entries : Kept) (tokens : TokenMap (List NumberedAction)) (made : �
       go : (reply : Reply) → IsChanged x.rows r.update w.rows reply → IsUpdateIn (database_in es tokens made) r (Some (table_in x)) (database_in entries tokens made) reply
       go (answer.Refused refusal) (said, same) =
           refused_in (database_in es tokens made) (database_in entries tokens made) r.table (table_in x) (index_refusal x.rows.schema r.update.index)
-          (has_contradiction x.rows.schema.definitions r.update.definitions) (updated_schema x.rows.schema r.update) refusal
+          (has_bad_definition x.rows.schema.definitions r.update.definitions) (updated_schema x.rows.schema r.update) refusal
           (kept_same es entries tokens made r.table x w found is (λ i. record { number = number i; rows = same i })) said
       go (answer.Described schema) (said, same) =
           described_in (database_in es tokens made) (database_in entries tokens made) r.table (table_in x) (index_refusal x.rows.schema r.update.index)
-          (has_contradiction x.rows.schema.definitions r.update.definitions) (updated_schema x.rows.schema r.update) schema
+          (has_bad_definition x.rows.schema.definitions r.update.definitions) (updated_schema x.rows.schema r.update) schema
           (λ i. (let d : Database = record {
             tables = (ap tables_in is ∙ set_in (at r.table) es w
                 ∙ (λ j. set_value (at r.table) (tables_in es)

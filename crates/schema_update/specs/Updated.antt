@@ -8,15 +8,15 @@ use Rattle.table_schema.specs.Index.{stated_of}
 use Rattle.table_schema.specs.Fault.{IsFirstFault}
 use Rattle.table_request.specs.declared.tables.TableUpdate.{TableUpdate}
 use Rattle.table_model.specs.declared.refusal.Refusal.{Refusal}
-use Rattle.table_model.specs.Catalog.{index_refusal, has_contradiction, schema_refusal, updated_schema}
+use Rattle.table_model.specs.Catalog.{index_refusal, has_bad_definition, schema_refusal, updated_schema}
 use Rattle.table_model.specs.Database.{first, where_true}
 
--- the first refusal: of the index that comes or goes, or of a definition that gives another type to a name
+-- the first refusal: of the index that comes or goes, or of a definition with a bad name, or that gives another type to a name
 abbrev pub refusal_of : Schema → TableUpdate → Option Refusal
 refusal_of schema update =
     first
     (index_refusal schema update.index
-    ∷ where_true (has_contradiction schema.definitions update.definitions) (schema_refusal BadDefinition) ∷ [])
+    ∷ where_true (has_bad_definition schema.definitions update.definitions) (schema_refusal BadDefinition) ∷ [])
 
 -- what comes of the schema that is stated: its first fault, or itself where it keeps every rule
 abbrev pub IsJudged : Schema → Result Schema Refusal → Type 0

@@ -2,7 +2,8 @@
 
 ghost use Rattle.std.specs.Prelude.{◌≡◌, ℕ, List, [], IfOk, OnOk};
 ghost use Rattle.table_schema.specs.Kind.{kind_of};
-ghost use Rattle.table_model.specs.Catalog.{added_if, contradicts, has_contradiction};
+ghost use Rattle.std.specs.List.{list_any};
+ghost use Rattle.table_model.specs.Catalog.{added_if, contradicts, has_bad_definition, has_bad_name, has_contradiction};
 
 use std::alloc::{AllocError as NoMemory, Global};
 use std::collections::BTreeMap;
@@ -63,8 +64,30 @@ fn kinds_of<'a>(alloc: Global, definitions: &'a [Definition]) -> Result<Kinds<'a
     Ok(kinds)
 }
 
+/// Whether the name of some definition does not have 1 to 255 bytes, or some definition gives another type to a name that has
+/// one, among the known ones or among those before it.
+pub(crate) fn has_bad_definition(
+    alloc: Global,
+    known: &[Definition],
+    added: &[Definition],
+) -> Result<bool, NoMemory>
+    ensures { IfOk result (λ bad. bad ≡ has_bad_definition known.now added.now) }
+{
+    if has_bad_name(added) {
+        return Ok(true);
+    }
+    is_contradicted(alloc, known, added)
+}
+
+/// Whether the name of some definition does not have 1 to 255 bytes.
+fn has_bad_name(definitions: &[Definition]) -> bool
+    ensures { result ≡ list_any has_bad_name definitions.now }
+{
+    definitions.iter().any(|definition| definition.name.len() < 1 || 255 < definition.name.len())
+}
+
 /// Whether some definition gives another type to a name that has one, among the known ones or among those before it.
-pub(crate) fn is_contradicted(
+fn is_contradicted(
     alloc: Global,
     known: &[Definition],
     added: &[Definition],

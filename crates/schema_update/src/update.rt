@@ -6,7 +6,7 @@ ghost use Rattle.schema_update.specs.Updated.{refusal_of, IsUpdated};
 
 use crate::definitions::join_definitions;
 use crate::index::{changed_indexes, index_refusal};
-use crate::kinds::is_contradicted;
+use crate::kinds::has_bad_definition;
 use base_types::Seq;
 use std::alloc::{AllocError as NoMemory, Global};
 use std::mem::replace;
@@ -16,7 +16,7 @@ use table_schema::{Schema, SchemaFault, check_schema};
 
 /// The schema that a table of this schema has after an update, or the first refusal: NoIndex, for an index that goes and
 /// is not there; then the schema's faults, which are BadIndexName for an index that comes and is there, BadDefinition for
-/// a definition that gives another type to a name, and then the first fault of the schema that the update states
+/// a definition whose name does not have 1 to 255 bytes or that gives another type to a name, and then the first fault of the schema that the update states
 /// (API Reference: UpdateTable).
 ///
 /// Definitions that no key uses are dropped. `NoMemory` is for want of memory.
@@ -50,7 +50,7 @@ fn refusal_of(
         return Ok(refusal);
     }
     let known = schema.definitions.as_slice();
-    if is_contradicted(alloc, known, update.definitions.as_slice())? {
+    if has_bad_definition(alloc, known, update.definitions.as_slice())? {
         let fault = SchemaFault::BadDefinition;
         return Ok(Some(Refusal::Invalid(Invalid::Schema(fault))));
     }

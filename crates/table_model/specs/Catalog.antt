@@ -127,6 +127,14 @@ has_contradiction known (definition ∷ others) =
     contradicts (kind_of definition.name known) definition.kind
     || has_contradiction (added_if (kind_of definition.name known) definition known) others
 
+-- the name of the definition does not have 1 to 255 bytes
+abbrev pub has_bad_name : Definition → Bool
+has_bad_name definition = nat_lt (length definition.name) 1 || nat_lt 255 (length definition.name)
+
+-- some of the definitions has a bad name, or contradicts one before it
+abbrev pub has_bad_definition : List Definition → List Definition → Bool
+has_bad_definition known added = list_any has_bad_name added || has_contradiction known added
+
 -- some key of the table or of an index has the name
 abbrev pub is_used : Schema → List ℕ → Bool
 is_used schema name = is_key_name schema.keys name || list_any (λ keys. is_key_name keys name) (index_keys schema)
@@ -172,9 +180,9 @@ IsUpdatedTo db name table schema new (answer.Refused refusal) =
 IsUpdatedTo db name table schema new reply =
     IsValid schema × (new ≡ with_table db name (record table { schema = schema })) × (reply ≡ answer.Described schema)
 
-abbrev pub IsContradictedOr : Bool → Database → Database → Reply → Type 0 → Type 0
-IsContradictedOr true db new reply P = (new, reply) ≡ refused db (schema_refusal BadDefinition)
-IsContradictedOr false db new reply P = P
+abbrev pub IsBadlyDefinedOr : Bool → Database → Database → Reply → Type 0 → Type 0
+IsBadlyDefinedOr true db new reply P = (new, reply) ≡ refused db (schema_refusal BadDefinition)
+IsBadlyDefinedOr false db new reply P = P
 
 abbrev pub IsRefusedFirst : Option Refusal → Database → Database → Reply → Type 0 → Type 0
 IsRefusedFirst (Some refusal) db new reply P = (new, reply) ≡ refused db refusal
@@ -184,7 +192,7 @@ abbrev pub IsUpdateIn : Database → UpdateTable → Option Table → Database �
 IsUpdateIn db r None new reply = (new, reply) ≡ refused db (NoTable r.table)
 IsUpdateIn db r (Some table) new reply =
     IsRefusedFirst (index_refusal table.schema r.update.index) db new reply
-    (IsContradictedOr (has_contradiction table.schema.definitions r.update.definitions) db new reply
+    (IsBadlyDefinedOr (has_bad_definition table.schema.definitions r.update.definitions) db new reply
     (IsUpdatedTo db r.table table (updated_schema table.schema r.update) new reply))
 
 -- what an UpdateTable does and is answered

@@ -1,0 +1,4 @@
+pub mod Settings
+pub mod Modes
+pub mod States
+pub mod Application

@@ -1,0 +1,95 @@
+// A connection's socket, which its source, its sink and the place where it waits share: one descriptor for all.
+ghost use Rattle.std.specs.Io.{ReadsAtMost, WritesAtMost};
+
+use std::alloc::Global;
+use std::io;
+use std::io::{ErrorKind, Read, Write};
+use std::net::{Shutdown, TcpStream};
+use std::sync::Arc;
+use std::time::Duration;
+
+// A connection's socket. Its reads and writes answer `WouldBlock` where they would wait.
+pub(crate) type Socket = Arc<TcpStream>;
+
+// How long, in seconds, a client may say nothing inside a message while others wait.
+const STALL: u64 = 10;
+
+// How long, in seconds, a client may take nothing of its replies.
+const UNREAD: u64 = 30;
+
+// How many pieces of what a client still sends are read where its connection is closed.
+const LAST_PIECES: u32 = 16;
+
+// Makes the socket of a connection that was accepted.
+pub(crate) fn prepare(alloc: Global, stream: TcpStream) -> io::Result<Socket> {
+    stream.set_nonblocking(true)?;
+    stream.set_nodelay(true)?;
+    // They count where a call is let wait, below.
+    stream.set_read_timeout(Some(Duration::from_secs(STALL)))?;
+    stream.set_write_timeout(Some(Duration::from_secs(UNREAD)))?;
+    Ok(Arc::new(alloc, stream)?)
+}
+
+// Reads what has come.
+pub(crate) fn read(mut stream: &TcpStream, buf: &mut [u8]) -> io::Result<usize>
+    ensures { ReadsAtMost result buf.new }
+{
+    stream.read(buf)
+}
+
+// Reads what comes in time: `WouldBlock` says that nothing did.
+pub(crate) fn read_in_time(stream: &TcpStream, buf: &mut [u8]) -> io::Result<usize>
+    ensures { ReadsAtMost result buf.new }
+{
+    stream.set_nonblocking(false)?;
+    let got = read(stream, buf);
+    stream.set_nonblocking(true)?;
+    got
+}
+
+// Writes what the client takes at once, or else what it takes in time: `WouldBlock` says that it took nothing.
+pub(crate) fn write_in_time(mut stream: &TcpStream, piece: &[u8]) -> io::Result<usize>
+    ensures { WritesAtMost result piece.now }
+{
+    match stream.write(piece) {
+        Err(error) if error.kind() == ErrorKind::WouldBlock => {}
+        done => return done,
+    }
+    stream.set_nonblocking(false)?;
+    let taken = stream.write(piece);
+    stream.set_nonblocking(true)?;
+    taken
+}
+
+// Whether something is there to be read, which may be the end.
+pub(crate) enum Waiting {
+    Bytes,
+    End,
+    Nothing,
+}
+
+// What waits to be read, which stays there.
+pub(crate) fn what_waits(stream: &TcpStream) -> Waiting {
+    match stream.peek(&mut [0u8; 1]) {
+        Ok(0) => Waiting::End,
+        Ok(_) => Waiting::Bytes,
+        Err(error) if error.kind() == ErrorKind::WouldBlock => Waiting::Nothing,
+        Err(error) if error.kind() == ErrorKind::Interrupted => Waiting::Bytes,
+        Err(_) => Waiting::End,
+    }
+}
+
+// Tells the client that nothing more will come. What it has sent and nobody read is taken first, since else the system
+// would break the connection off, and the client might lose the last reply.
+pub(crate) fn finish(stream: &TcpStream) {
+    if stream.shutdown(Shutdown::Write).is_err() {
+        return;
+    }
+    let mut piece = [0u8; 4_096];
+    for _ in 0..LAST_PIECES {
+        match read(stream, &mut piece) {
+            Ok(count) if 0 < count => {}
+            _ => return,
+        }
+    }
+}

@@ -1,0 +1,131 @@
+// The connections of a share, each at a place of its own, and which of them have something to read.
+
+use crate::connection::{Socket, Waiting, what_waits};
+use slab::Slab;
+use std::alloc::Global;
+use std::collections::VecDeque;
+use std::io;
+
+// A connection's place.
+#[derive(Drop)]
+struct Place {
+    // The connection, while it waits here.
+    parked: Option<Socket>,
+    // Whether it stands among those that have called.
+    called: bool,
+    // Whether its client will send no more than has come.
+    closing: bool,
+}
+
+// A connection that is to be served.
+#[derive(Drop)]
+pub(crate) struct Caller {
+    pub(crate) place: usize,
+    pub(crate) source: Socket,
+    pub(crate) sink: Socket,
+    pub(crate) closing: bool,
+}
+
+// The connections of a share.
+#[derive(Drop)]
+pub(crate) struct Places {
+    places: Slab<Place>,
+    // Those that have something to read, in the order in which they called. Each stands here once.
+    called: VecDeque<usize>,
+}
+
+impl Places {
+    pub(crate) fn new(alloc: Global) -> Places {
+        Places {
+            places: Slab::new(alloc),
+            called: VecDeque::new(alloc),
+        }
+    }
+
+    // A place for one connection more, and room for its call.
+    pub(crate) fn add(&mut self) -> io::Result<usize> {
+        let all = self.places.len().saturating_add(1);
+        self.called.reserve(all.saturating_sub(self.called.len()))?;
+        Ok(
+            self.places.insert(Place {
+                parked: None,
+                called: false,
+                closing: false,
+            })?,
+        )
+    }
+
+    // Notes that a connection has something to read, and whether its client will send no more.
+    pub(crate) fn call(&mut self, place: usize, closing: bool) -> io::Result<()> {
+        let first = match self.places.get_mut(place) {
+            Some(spot) => {
+                let first = !spot.called;
+                spot.called = true;
+                spot.closing = spot.closing || closing;
+                first
+            }
+            None => false,
+        };
+        if first {
+            self.called.push_back(place)?;
+        }
+        Ok(())
+    }
+
+    // Whether a connection has something to read.
+    pub(crate) fn has_called(&self) -> bool {
+        !self.called.is_empty()
+    }
+
+    // The next connection that has something to read. Those that were closed in the meantime are let go.
+    pub(crate) fn next_caller(&mut self) -> Option<Caller> {
+        for _ in 0..self.called.len() {
+            let place = self.called.pop_front()?;
+            if let Some(caller) = self.caller_at(place) {
+                return Some(caller);
+            }
+        }
+        None
+    }
+
+    // The connection at a place, where it has something to read.
+    fn caller_at(&mut self, place: usize) -> Option<Caller> {
+        let spot = self.places.get_mut(place)?;
+        spot.called = false;
+        let closing = spot.closing;
+        let source = spot.parked.take()?;
+        match what_waits(&source) {
+            Waiting::Bytes => {}
+            Waiting::Nothing => {
+                self.park(place, source);
+                return None;
+            }
+            Waiting::End => {
+                self.remove(place);
+                return None;
+            }
+        }
+        let Ok(sink) = source.clone() else {
+            self.remove(place);
+            return None;
+        };
+        Some(Caller {
+            place,
+            source,
+            sink,
+            closing,
+        })
+    }
+
+    // Lets a connection wait at its place.
+    pub(crate) fn park(&mut self, place: usize, socket: Socket) {
+        if let Some(spot) = self.places.get_mut(place) {
+            spot.parked = Some(socket);
+        }
+    }
+
+    // Gives up the place of a connection that is closed.
+    pub(crate) fn remove(&mut self, place: usize) {
+        drop(self.places.try_remove(place));
+    }
+}
