@@ -2,6 +2,7 @@ use crate::run;
 use base_types::{Bytes, Seq};
 use ddb_outside::{ListClock, MemListener, MemSink, MemSource, StepClock};
 use std::alloc::Global;
+use std::sync::Wait;
 use std::test::Fail;
 
 // CreateTable of the table Music.
@@ -54,7 +55,7 @@ fn nobody(alloc: Global) -> Result<MemListener, Fail> {
 }
 
 // The status and the output of `stdio` over an input that comes in pieces.
-fn stdio(rt: &HostRuntime, input: &str, piece: usize) -> Result<(u8, String), Fail> {
+fn stdio<R: AllocGlobal + Wait>(rt: &R, input: &str, piece: usize) -> Result<(u8, String), Fail> {
     let alloc = rt.alloc();
     let content = Bytes::copied(alloc, input.as_bytes())?;
     let mut source = MemSource::make(content, piece.max(1), Seq::new(alloc));
@@ -125,7 +126,11 @@ fn last_message(rt: HostRuntime) -> Result<(), Fail> {
 }
 
 // The status of `stdio` over one message and the bytes written, where these reads and these writes fail.
-fn failing(rt: &HostRuntime, reads: &[u64], writes: &[u64]) -> Result<(u8, Bytes), Fail> {
+fn failing<R: AllocGlobal + Wait>(
+    rt: &R,
+    reads: &[u64],
+    writes: &[u64],
+) -> Result<(u8, Bytes), Fail> {
     let alloc = rt.alloc();
     let content = Bytes::copied(alloc, MUSIC.as_bytes())?;
     let mut source = MemSource::make(content, 4_096, numbers(alloc, reads)?);
@@ -155,7 +160,11 @@ fn faults(rt: HostRuntime) -> Result<(), Fail> {
 }
 
 // The status and the bytes written with these words, where these writes fail.
-fn refused_words(rt: &HostRuntime, from: &[&str], writes: &[u64]) -> Result<(u8, Bytes), Fail> {
+fn refused_words<R: AllocGlobal + Wait>(
+    rt: &R,
+    from: &[&str],
+    writes: &[u64],
+) -> Result<(u8, Bytes), Fail> {
     let alloc = rt.alloc();
     let mut source = MemSource::make(Bytes::from(Vec::new(alloc)), 1, Seq::new(alloc));
     let mut sink = MemSink::make(alloc, 7, numbers(alloc, writes)?);
@@ -432,21 +441,21 @@ fn client(alloc: Global, table: &str) -> Result<Bytes, Fail> {
 const PUT_AND_READ: &str =
     "HTTP/1.1 200 OK\r\nContent-Type: application/x-amz-json-1.0\r\nContent-Length: 2\r\n\
     x-amzn-RequestId: 00000000000000000000000000000002\r\n\r\n{}\
-    HTTP/1.1 200 OK\r\nContent-Type: application/x-amz-json-1.0\r\nContent-Length: 27\r\n\
+    HTTP/1.1 200 OK\r\nContent-Type: application/x-amz-json-1.0\r\nContent-Length: 25\r\n\
     x-amzn-RequestId: 00000000000000000000000000000003\r\n\r\n{\"Item\":{\"id\":{\"S\":\"a\"}}}";
 
-// The status of `serve` by two workers over four connections, and the listener, of whose calls these fail.
-fn serve(rt: &HostRuntime, failing: &[u64]) -> Result<(u8, MemListener), Fail> {
+// The status of `serve` over four connections, and the listener, of whose calls these fail.
+fn serve<R: AllocGlobal + Wait>(rt: &R, failing: &[u64]) -> Result<(u8, MemListener), Fail> {
     let alloc = rt.alloc();
     let mut contents = Seq::new(alloc);
     for table in ["one", "two", "three", "four"] {
         contents.push(client(alloc, table)?)?;
     }
-    let mut listener = MemListener::make(alloc, contents, 2, numbers(alloc, failing)?)?;
+    let mut listener = MemListener::make(alloc, contents, 1, numbers(alloc, failing)?)?;
     let mut source = MemSource::make(Bytes::from(Vec::new(alloc)), 1, Seq::new(alloc));
     let mut sink = MemSink::make(alloc, 1, Seq::new(alloc));
     let mut clock = StepClock::make(0, 0);
-    let words = words(alloc, &["serve", "--port=8001", "--workers", "2"])?;
+    let words = words(alloc, &["serve", "--port=8001"])?;
     let status = run(
         rt,
         words.as_slice(),
@@ -462,8 +471,7 @@ fn serve(rt: &HostRuntime, failing: &[u64]) -> Result<(u8, MemListener), Fail> {
 fn connections(rt: HostRuntime) -> Result<(), Fail> {
     let (status, listener) = serve(&rt, &[])?;
     assert_eq!(rt; status, 0);
-    // In order of worker: the first has the first and the third connection.
-    let tables = ["one", "three", "two", "four"];
+    let tables = ["one", "two", "three", "four"];
     assert_eq!(rt; listener.outputs().len(), tables.len());
     for (output, table) in listener.outputs().iter().zip(tables) {
         let output = std::str::from_utf8(output.as_slice()).ok().ok_or("text")?;
@@ -477,8 +485,8 @@ fn connections(rt: HostRuntime) -> Result<(), Fail> {
 
 #[test]
 fn refused_listening(rt: HostRuntime) -> Result<(), Fail> {
-    // The port is refused; then the second share is.
-    for failing in [[0], [2]] {
+    // The port is refused; then the share is.
+    for failing in [[0], [1]] {
         let (status, listener) = serve(&rt, &failing)?;
         assert_eq!(rt; status, 4);
         assert_eq!(rt; listener.outputs().len(), 0);
