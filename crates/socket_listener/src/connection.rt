@@ -11,12 +11,6 @@ use std::time::Duration;
 // A connection's socket. Its reads and writes answer `WouldBlock` where they would wait.
 pub(crate) type Socket = Arc<TcpStream>;
 
-// How long, in seconds, a client may say nothing inside a message while others wait.
-const STALL: u64 = 10;
-
-// How long, in seconds, a client may take nothing of its replies.
-const UNREAD: u64 = 30;
-
 // How many pieces of what a client still sends are read where its connection is closed.
 const LAST_PIECES: u32 = 16;
 
@@ -24,9 +18,6 @@ const LAST_PIECES: u32 = 16;
 pub(crate) fn prepare(alloc: Global, stream: TcpStream) -> io::Result<Socket> {
     stream.set_nonblocking(true)?;
     stream.set_nodelay(true)?;
-    // They count where a call is let wait, below.
-    stream.set_read_timeout(Some(Duration::from_secs(STALL)))?;
-    stream.set_write_timeout(Some(Duration::from_secs(UNREAD)))?;
     Ok(Arc::new(alloc, stream)?)
 }
 
@@ -37,26 +28,31 @@ pub(crate) fn read(mut stream: &TcpStream, buf: &mut [u8]) -> io::Result<usize>
     stream.read(buf)
 }
 
-// Reads what comes in time: `WouldBlock` says that nothing did.
-pub(crate) fn read_in_time(stream: &TcpStream, buf: &mut [u8]) -> io::Result<usize>
+// Reads what comes in this time: `WouldBlock` says that nothing did.
+pub(crate) fn read_within(stream: &TcpStream, buf: &mut [u8], time: Duration) -> io::Result<usize>
     ensures { ReadsAtMost result buf.new }
 {
+    stream.set_read_timeout(Some(time))?;
     stream.set_nonblocking(false)?;
     let got = read(stream, buf);
     stream.set_nonblocking(true)?;
     got
 }
 
-// Writes what the client takes at once, or else what it takes in time: `WouldBlock` says that it took nothing.
-pub(crate) fn write_in_time(mut stream: &TcpStream, piece: &[u8]) -> io::Result<usize>
+// Writes what the client takes at once.
+pub(crate) fn write(mut stream: &TcpStream, piece: &[u8]) -> io::Result<usize>
     ensures { WritesAtMost result piece.now }
 {
-    match stream.write(piece) {
-        Err(error) if error.kind() == ErrorKind::WouldBlock => {}
-        done => return done,
-    }
+    stream.write(piece)
+}
+
+// Writes what the client takes in this time: `WouldBlock` says that it took nothing.
+pub(crate) fn write_within(stream: &TcpStream, piece: &[u8], time: Duration) -> io::Result<usize>
+    ensures { WritesAtMost result piece.now }
+{
+    stream.set_write_timeout(Some(time))?;
     stream.set_nonblocking(false)?;
-    let taken = stream.write(piece);
+    let taken = write(stream, piece);
     stream.set_nonblocking(true)?;
     taken
 }

@@ -17,6 +17,7 @@
 mod connection;
 mod interfaces;
 mod listener;
+mod patience;
 mod places;
 mod sink;
 mod source;

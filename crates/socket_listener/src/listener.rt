@@ -10,6 +10,7 @@ use crate::waiting_room::{WaitingRoom, wait_a_moment};
 use ddb_outside::{Failed, Joined, Listener, Sink};
 use std::alloc::Global;
 use std::net::{Net, TcpListener};
+use std::rt::Clock;
 
 /// Connections of the system's TCP sockets, which wait without a thread each. It tells nothing of them, and `accept` never
 /// says that none will come any more.
@@ -67,10 +68,10 @@ impl<R: Net + Copy> SocketListener<R> {
     }
 }
 
-impl<R: Net + Copy> Listener for SocketListener<R> {
-    type S = SocketSource;
+impl<R: Net + Clock + Copy + Drop + Send> Listener for SocketListener<R> {
+    type S = SocketSource<R>;
 
-    type K = SocketSink;
+    type K = SocketSink<R>;
 
     ghost connections = { λ l. None };
 
@@ -103,12 +104,12 @@ impl<R: Net + Copy> Listener for SocketListener<R> {
         }
     }
 
-    fn accept(&mut self) -> Result<Option<Joined<SocketSource, SocketSink>>, Failed> {
+    fn accept(&mut self) -> Result<Option<Joined<SocketSource<R>, SocketSink<R>>>, Failed> {
         let Some(mut room) = self.room.take() else {
             return Err(self.fault_of_accept());
         };
         match room.next() {
-            Ok(caller) => Ok(Some(SocketSource::join(room, caller))),
+            Ok(caller) => Ok(Some(SocketSource::join(room, caller, self.net))),
             Err(_) => {
                 self.room = Some(room);
                 Err(self.fault_of_accept())
@@ -116,8 +117,8 @@ impl<R: Net + Copy> Listener for SocketListener<R> {
         }
     }
 
-    fn hang_up(&mut self, joined: Joined<SocketSource, SocketSink>)
-        ensures hung { HangsUp None None (⟦<SocketSink as Sink>⟧.written joined.sink) }
+    fn hang_up(&mut self, joined: Joined<SocketSource<R>, SocketSink<R>>)
+        ensures hung { HangsUp None None (⟦<SocketSink<R> as Sink>⟧.written joined.sink) }
         ensures faults { self.old.faults ≤ self.new.faults }
         ensures ends { 0 ≤ 0 }
     {

@@ -2,7 +2,8 @@
 ghost use Rattle.std.specs.Prelude.{◌≡◌, None};
 ghost use Rattle.std.specs.Io.{ReadsAtMost};
 
-use crate::connection::{Socket, finish, read, read_in_time};
+use crate::connection::{Socket, finish, read, read_within};
+use crate::patience::Patience;
 use crate::places::Caller;
 use crate::sink::SocketSink;
 use crate::turn::{Known, Step, TURN, next_step};
@@ -10,14 +11,19 @@ use crate::waiting_room::{Seen, WaitingRoom};
 use ddb_outside::{Failed, Joined, Source};
 use std::io;
 use std::io::ErrorKind;
+use std::rt::Clock;
+
+// How long, in seconds, a client may keep others waiting inside one message.
+const STALL: u64 = 10;
 
 /// What the client of a connection sends. Where the connection rests and others wait it tells its end: when it has nothing
 /// more to read, and after eight messages. The listener then goes on with it later. Inside a message it waits for its client, but
-/// 10 seconds in which nothing comes while others wait are a fault, as is each error of the system but a signal.
+/// a client that has kept others waiting for 10 seconds in all inside one message is a fault, as is each error of the system but
+/// a signal.
 ///
 /// It holds its share's waiting room while it is served, so nothing is shared with others and nothing locked.
 #[derive(Drop)]
-pub struct SocketSource {
+pub struct SocketSource<R> {
     room: WaitingRoom,
     place: usize,
     socket: Socket,
@@ -26,14 +32,20 @@ pub struct SocketSource {
     // Whether the connection is between two messages, and how many it has sent since it was accepted.
     resting: bool,
     messages: u32,
+    // What is left of a client's time for the message that it is sending.
+    patience: Patience<R>,
     // Whether it has told its end so that others are served.
     gave_way: bool,
     faults: u64,
 }
 
-impl SocketSource {
+impl<R: Copy> SocketSource<R> {
     // What the client sends who is to be served, and where its replies go.
-    pub(crate) fn join(room: WaitingRoom, caller: Caller) -> Joined<SocketSource, SocketSink> {
+    pub(crate) fn join(
+        room: WaitingRoom,
+        caller: Caller,
+        clock: R,
+    ) -> Joined<SocketSource<R>, SocketSink<R>> {
         let Caller {
             place,
             source,
@@ -51,13 +63,16 @@ impl SocketSource {
                 },
                 resting: true,
                 messages: 0,
+                patience: Patience::new(clock, STALL),
                 gave_way: false,
                 faults: 0,
             },
-            sink: SocketSink::new(sink),
+            sink: SocketSink::new(sink, clock),
         }
     }
+}
 
+impl<R: Drop> SocketSource<R> {
     // The waiting room, in which the connection waits again where it gave way, and from which it is gone else.
     pub(crate) fn leave(self) -> WaitingRoom {
         let SocketSource {
@@ -68,6 +83,7 @@ impl SocketSource {
             gave_way,
             resting: _,
             messages: _,
+            patience: _,
             faults: _,
         } = self;
         if !gave_way {
@@ -78,7 +94,9 @@ impl SocketSource {
         }
         room
     }
+}
 
+impl<R> SocketSource<R> {
     // Takes in what has happened, after a wait for it where that is asked for.
     fn look(&mut self, wait: bool) -> io::Result<()>
         ensures { self.new.faults ≡ self.old.faults }
@@ -115,6 +133,20 @@ impl SocketSource {
         self.resting = false;
         self.seen.readable = self.seen.closing || count == room || count == 0;
     }
+}
+
+impl<R: Clock> SocketSource<R> {
+    // Reads what comes of a message for which others wait, for as long as the client has time for it.
+    fn hurry(&mut self, buf: &mut [u8]) -> io::Result<usize>
+        ensures bound { ReadsAtMost result buf.new }
+        ensures faults { self.new.faults ≡ self.old.faults }
+    {
+        let left = self.patience.left()?;
+        let begun = self.patience.begin()?;
+        let got = read_within(&self.socket, buf, left);
+        self.patience.end(begun)?;
+        got
+    }
 
     // Reads what comes next, or answers 0 at the end and where others go first.
     fn take(&mut self, buf: &mut [u8]) -> io::Result<usize>
@@ -129,7 +161,7 @@ impl SocketSource {
                     return Ok(0);
                 }
                 Step::Read => read(&self.socket, buf),
-                Step::Hurry => read_in_time(&self.socket, buf),
+                Step::Hurry => self.hurry(buf),
                 Step::Wait => {
                     self.look(true)?;
                     continue;
@@ -151,7 +183,7 @@ impl SocketSource {
     }
 }
 
-impl Source for SocketSource {
+impl<R: Clock> Source for SocketSource<R> {
     ghost left = { λ s. None };
 
     ghost faults = { λ s. s.faults };
@@ -172,6 +204,7 @@ impl Source for SocketSource {
     fn at_rest(&mut self) {
         if !self.resting {
             self.resting = true;
+            self.patience.renew();
             self.messages = self.messages.saturating_add(1);
         }
     }

@@ -8,7 +8,7 @@ use std::test::Fail;
 #[derive(Drop)]
 struct Scene {
     share: SocketListener<HostRuntime>,
-    served: Option<Joined<SocketSource, SocketSink>>,
+    served: Option<Joined<SocketSource<HostRuntime>, SocketSink<HostRuntime>>>,
     clients: [TcpStream; 2],
 }
 
@@ -130,7 +130,10 @@ fn hangs_up(scene: &mut Scene) -> bool {
     }
 }
 
-fn goes_on(served: &mut Joined<SocketSource, SocketSink>, act: Act) -> bool {
+fn goes_on(
+    served: &mut Joined<SocketSource<HostRuntime>, SocketSink<HostRuntime>>,
+    act: Act,
+) -> bool {
     match act {
         Act::Rest => {
             served.source.at_rest();
@@ -142,7 +145,7 @@ fn goes_on(served: &mut Joined<SocketSource, SocketSink>, act: Act) -> bool {
     }
 }
 
-fn reads(source: &mut SocketSource, text: &str) -> bool {
+fn reads(source: &mut SocketSource<HostRuntime>, text: &str) -> bool {
     let mut buf = [0u8; 4];
     match source.read(&mut buf) {
         Ok(count) => &buf[..count] == text.as_bytes(),
