@@ -1,42 +1,34 @@
--- What is served at a port: each connection's replies are those of the sequential database, which goes on from connection to
--- connection.
-use Rattle.std.specs.Prelude.{◌≡◌, ◌⊎◌, ℕ, ◌+◌, ◌-◌, List, [], ◌++◌, length, Option, None, Some}
-use Rattle.ddb_outside.specs.Listeners.{Connections, first_part, later_parts}
-use Rattle.http_workers.specs.declared.share.ShareEnd.{ShareEnd}
-use Rattle.http_workers.specs.declared.share.ShareEnd.TheVariants.{Done, NetFault}
-use Rattle.http_workers.specs.Shares.{Sessions, Tells, place}
-use Rattle.table_model.specs.Database.{Database, empty_database}
-use Rattle.table_service.specs.Plain.{plain_ways}
+-- What is served at a port: the replies on each connection are right, by the events of one history of whole requests.
+use Rattle.std.specs.Prelude.{◌≡◌, ◌⊎◌, ℕ, List, Option}
+use Rattle.std.specs.List.{AllZip}
+use Rattle.ddb_outside.specs.Listeners.{Connections}
+use Rattle.http_workers.specs.declared.serve.ServeEnd.{ServeEnd}
+use Rattle.http_workers.specs.declared.serve.ServeEnd.TheVariants.{Done, NetFault, NoMemory}
+use Rattle.http_workers.specs.Crews.{ServesAll}
+use Rattle.turnstile.specs.Passes.{PassView, TurnstileView, first_passes}
+use Rattle.request_history.specs.Events.{by_of}
+use Rattle.request_history.specs.PassWays.{pass_ways}
+use Rattle.request_history.specs.Steps.{SeesMore}
+use Rattle.table_service.specs.Shared.{TableEvent, Right, HaveOneHistory}
 
 -- the status by serving's end
-abbrev pub share_status : ShareEnd → ℕ
-share_status Done = 0
-share_status NetFault = 4
+abbrev pub serve_status : ServeEnd → ℕ
+serve_status Done = 0
+serve_status NetFault = 4
+serve_status NoMemory = 7
 
--- of the connections of a listener's first part the first were served, one session after the other, from the empty database on,
--- each from the database that the one before it left; after Done all of them were, and what was written on each was kept
-pub record ServesTables (moments later : Option (ℕ → ℕ)) (end : ShareEnd) (old new : Connections) : Type 0 where
-  pub contents : List (List ℕ)
-  pub rest : List (List ℕ)
-  pub outputs : List (List ℕ)
-  pub after : Database
-  pub part : first_part old.parts ≡ contents ++ rest
-  pub sessions : Sessions plain_ways (place moments empty_database) contents outputs (place later after)
-  pub all : end ≡ Done → rest ≡ []
-  pub new_is : new ≡ record old {
-    parts = later_parts old.parts;
-    hung = old.hung ++ outputs;
-    lent = old.lent + length (first_part old.parts) - length outputs;
-  }
+-- so many workers served the listener, each with a pass that had seen nothing before; the events of all of them are one history
+-- of the database that is empty at first, which all passes have seen in the end
+pub record ServesTables (workers : ℕ) (moments : Option (ℕ → ℕ)) (end : ServeEnd) (old new : Option Connections) : Type 0 where
+  pub store : TurnstileView
+  pub passes : List (PassView TableEvent)
+  pub met : List (PassView TableEvent)
+  pub served : ServesAll (pass_ways by_of Right) end moments old new (first_passes store.id workers workers) passes
+  pub seen : AllZip (SeesMore by_of) passes met
+  pub history : HaveOneHistory met
 
--- the same, where the listener tells its connections; one that does not tell them still does not
-abbrev pub ServesListener : Option (ℕ → ℕ) → Option (ℕ → ℕ) → ShareEnd → Option Connections → Option Connections → Type 0
-ServesListener moments later end None new = new ≡ None
-ServesListener moments later end (Some old) new = Tells (ServesTables moments later end old) new
-
--- the listener was served, and the status says how that ended; or nothing was served, since memory, the port or a share of the
--- listener was refused
-abbrev pub RunsListener : Option (ℕ → ℕ) → Option (ℕ → ℕ) → Option Connections → Option Connections → ℕ → Type 0
-RunsListener moments later old new status =
-    ((end : ShareEnd) × (status ≡ share_status end) × ServesListener moments later end old new)
+-- the listener was served, and the status says how that ended; or nothing was served, since memory or the port was refused
+abbrev pub RunsListener : ℕ → Option (ℕ → ℕ) → Option Connections → Option Connections → ℕ → Type 0
+RunsListener workers moments old new status =
+    ((end : ServeEnd) × (status ≡ serve_status end) × ServesTables workers moments end old new)
     ⊎ (((status ≡ 4) ⊎ (status ≡ 7)) × (new ≡ old))

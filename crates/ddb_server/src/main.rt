@@ -3,7 +3,7 @@
 //! [`run`] carries the theorem. With the word `stdio` what it writes is, message by message, the bytes of the replies that
 //! the sequential database of `table_model` gives to the messages that it reads, from the empty database on. With the word
 //! `serve` each connection of a listener is answered by right replies, by the events of one history of whole requests, in
-//! one thread. Each exit status has its cause. `specs/` has the definitions, in reading order:
+//! as many threads as there are workers. Each exit status has its cause. `specs/` has the definitions, in reading order:
 //! what is served at a port, the program.
 //!
 //! `main` hands `run` the real streams, sockets and the system's clock, and ends with its status. Where a run ended badly it

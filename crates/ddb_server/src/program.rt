@@ -1,18 +1,19 @@
 //! The program by the words of its command line.
 
-ghost use Rattle.std.specs.Prelude.{◌≡◌, map, string_bytes};
+ghost use Rattle.std.specs.Prelude.{◌≡◌, ◌≤◌, map, string_bytes};
 ghost use Rattle.ddb_outside.specs.Causes.{Rose};
 ghost use Rattle.ddb_server.specs.Programs.{Runs, RunsSession, RefusesWords, outside, session_status, usage};
-ghost use Rattle.ddb_server.specs.Served.{RunsListener, share_status};
+ghost use Rattle.ddb_server.specs.Served.{RunsListener, serve_status};
 
 use command_words::{Command, WordsEnd, command};
 use ddb_outside::{Clock, Failed, Listener, Sink, Source, write_all};
 use http_front::Reader;
 use http_session::{SessionEnd, serve_session};
-use http_workers::{ShareEnd, serve_share};
+use http_workers::{ServeEnd, serve_all};
 use plain_database::SlowDb;
 use std::sync::Wait;
-use table_service::PlainService;
+use std::thread::Threads;
+use table_service::{PlainService, TableService};
 
 /// What is written where the words are none of the commands.
 const USAGE: &str =
@@ -25,10 +26,10 @@ const USAGE: &str =
 /// where the input ended inside a message, 6 where 2^40 messages were answered, 7 where memory was refused and a message
 /// could not be read.
 ///
-/// `serve` binds the listener to the port and serves its connections, one session after the other in one thread, out of one
-/// database that is empty at first: its status is 0 where no connection will come any more; 4 where the port could not be
-/// bound, a share of the listener was refused, or accepting failed 16 times in a row; 7 where memory was refused before
-/// anything was served. How many workers the words state has no effect yet.
+/// `serve` binds the listener to the port and serves its connections by as many workers as the words state, each in a thread
+/// of its own, out of one database that is empty at first: each request is one event of one history. Its status is 0 where no
+/// connection will come any more; 4 where the port could not be bound, a share of the listener was refused, or accepting
+/// failed 16 times in a row; 7 where memory was refused before anything was served.
 ///
 /// Other words are answered by the usage line and status 2, or 3 where the sink failed at it; `load` is not built yet, and
 /// is answered so. Where memory was refused for the words the status is 7.
@@ -41,11 +42,11 @@ pub fn run<R, S, K, C, L>(
     listener: &mut L,
 ) -> u8
 where
-    R: AllocGlobal + Wait,
+    R: AllocGlobal + Threads + Wait + Sync,
     S: Source,
     K: Sink,
-    C: Clock,
-    L: Listener,
+    C: Clock + Send + Drop,
+    L: Listener + Send + Drop,
     ensures runs { Runs (map string_bytes words.now)
         (outside (S.left source.old) (C.coming clock.old) (K.written sink.old) (L.connections listener.old) (L.ends listener.old))
         (outside (S.left source.new) (C.coming clock.new) (K.written sink.new) (L.connections listener.new) (L.ends listener.new))
@@ -60,9 +61,9 @@ where
             Command::Serve {
                 port,
                 partitions: _,
-                workers: _,
+                workers,
             },
-        ) => serve_port(rt, clock, listener, port),
+        ) => serve_port(rt, clock, listener, port, workers),
         Ok(Command::Load { .. }) => refuse_words(sink),
         Err(WordsEnd::Refused) => refuse_words(sink),
         Err(WordsEnd::NoMemory) => 7,
@@ -101,42 +102,29 @@ fn serve_stream<R: AllocGlobal, S: Source, K: Sink, C: Clock>(
     session_status(end)
 }
 
-/// The connections of a port, from the empty database on.
-fn serve_port<R, C, L>(rt: &R, clock: &mut C, listener: &mut L, port: u16) -> u8
+/// The connections of a port by so many workers, from the empty database on.
+fn serve_port<R, C, L>(rt: &R, clock: &C, listener: &mut L, port: u16, workers: u32) -> u8
 where
-    R: AllocGlobal + Wait,
-    C: Clock,
-    L: Listener,
-    ensures served { RunsListener (C.coming clock.old) (C.coming clock.new) (L.connections listener.old) (L.connections listener.new) result }
+    R: AllocGlobal + Threads + Wait + Sync,
+    C: Clock + Send + Drop,
+    L: Listener + Send + Drop,
+    requires workers { (1 ≤ workers) × (workers ≤ 62) }
+    ensures served { RunsListener workers (C.coming clock.now) (L.connections listener.old) (L.connections listener.new) result }
     ensures done { result ≡ 0 → Rose (L.ends listener.old) (L.ends listener.new) }
     ensures net { result ≡ 4 → Rose (L.faults listener.old) (L.faults listener.new) }
     ensures read { (result ≡ 1) → ⊥ }
     ensures write { (result ≡ 3) → ⊥ }
 {
     let alloc = rt.alloc();
-    let Ok(mut database) = SlowDb::new(alloc) else {
-        return 7;
-    };
-    let Ok(mut reader) = Reader::make(alloc) else {
+    let Ok((service, mut passes)) = TableService::make(alloc, workers) else {
         return 7;
     };
     if listener.bind(port).is_err() {
         return 4;
     }
-    let Ok(mut share) = listener.share() else {
-        return 4;
-    };
-    let end = serve_share(
-        rt,
-        alloc,
-        &PlainService,
-        &mut database,
-        &mut reader,
-        clock,
-        &mut share,
-    );
-    listener.absorb(share);
-    share_status(end)
+    let end = serve_all(rt, alloc, &service, &mut passes, clock, listener);
+    service.meet_all(passes.as_mut_slice());
+    serve_status(end)
 }
 
 /// Answers words that are none of the commands.
@@ -165,11 +153,12 @@ fn session_status(end: SessionEnd) -> u8
 }
 
 /// The exit status of serving's end.
-fn share_status(end: ShareEnd) -> u8
-    ensures { result ≡ share_status end }
+fn serve_status(end: ServeEnd) -> u8
+    ensures { result ≡ serve_status end }
 {
     match end {
-        ShareEnd::Done => 0,
-        ShareEnd::NetFault => 4,
+        ServeEnd::Done => 0,
+        ServeEnd::NetFault => 4,
+        ServeEnd::NoMemory => 7,
     }
 }

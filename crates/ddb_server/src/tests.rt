@@ -4,6 +4,7 @@ use ddb_outside::{ListClock, MemListener, MemSink, MemSource, StepClock};
 use std::alloc::Global;
 use std::sync::Wait;
 use std::test::Fail;
+use std::thread::Threads;
 
 // CreateTable of the table Music.
 const MUSIC: &str =
@@ -55,7 +56,11 @@ fn nobody(alloc: Global) -> Result<MemListener, Fail> {
 }
 
 // The status and the output of `stdio` over an input that comes in pieces.
-fn stdio<R: AllocGlobal + Wait>(rt: &R, input: &str, piece: usize) -> Result<(u8, String), Fail> {
+fn stdio<R: AllocGlobal + Threads + Wait + Sync>(
+    rt: &R,
+    input: &str,
+    piece: usize,
+) -> Result<(u8, String), Fail> {
     let alloc = rt.alloc();
     let content = Bytes::copied(alloc, input.as_bytes())?;
     let mut source = MemSource::make(content, piece.max(1), Seq::new(alloc));
@@ -126,7 +131,7 @@ fn last_message(rt: HostRuntime) -> Result<(), Fail> {
 }
 
 // The status of `stdio` over one message and the bytes written, where these reads and these writes fail.
-fn failing<R: AllocGlobal + Wait>(
+fn failing<R: AllocGlobal + Threads + Wait + Sync>(
     rt: &R,
     reads: &[u64],
     writes: &[u64],
@@ -160,7 +165,7 @@ fn faults(rt: HostRuntime) -> Result<(), Fail> {
 }
 
 // The status and the bytes written with these words, where these writes fail.
-fn refused_words<R: AllocGlobal + Wait>(
+fn refused_words<R: AllocGlobal + Threads + Wait + Sync>(
     rt: &R,
     from: &[&str],
     writes: &[u64],
@@ -220,143 +225,6 @@ fn create_table(alloc: Global, name: &str) -> Result<String, Fail> {
 }
 
 const TARGET: &str = "DynamoDB_20120810.CreateTable";
-
-/// Operations with their bodies, one after the other, and the bodies of their replies. A reply with a `__type` has the
-/// status 400, another 200.
-static EXCHANGES: [(&str, &str, &str); 22] = [
-    (
-        "CreateTable",
-        r#"{"AttributeDefinitions":[{"AttributeName":"id","AttributeType":"S"}],"KeySchema":[{"AttributeName":"id","KeyType":"HASH"}],"TableName":"Tab","BillingMode":"PAY_PER_REQUEST"}"#,
-        r#"{"TableDescription":{"AttributeDefinitions":[{"AttributeName":"id","AttributeType":"S"}],"BillingModeSummary":{"BillingMode":"PAY_PER_REQUEST"},"CreationDateTime":0,"KeySchema":[{"AttributeName":"id","KeyType":"HASH"}],"ProvisionedThroughput":{"NumberOfDecreasesToday":0,"ReadCapacityUnits":0,"WriteCapacityUnits":0},"TableArn":"arn:aws:dynamodb:ddblocal:000000000000:table/Tab","TableName":"Tab","TableStatus":"ACTIVE"}}"#,
-    ),
-    (
-        "PutItem",
-        r#"{"TableName":"Tab","Item":{"id":{"S":"a"},"n":{"N":"01.0"}}}"#,
-        "{}",
-    ),
-    (
-        "GetItem",
-        r#"{"TableName":"Tab","Key":{"id":{"S":"a"}},"ProjectionExpression":"n"}"#,
-        r#"{"Item":{"n":{"N":"1"}}}"#,
-    ),
-    (
-        "UpdateItem",
-        r#"{"TableName":"Tab","Key":{"id":{"S":"a"}},"UpdateExpression":"SET n = n + :one","ExpressionAttributeValues":{":one":{"N":"1"}},"ReturnValues":"UPDATED_NEW"}"#,
-        r#"{"Attributes":{"n":{"N":"2"}}}"#,
-    ),
-    (
-        "PutItem",
-        r##"{"TableName":"Tab","Item":{"id":{"S":"a"}},"ConditionExpression":"attribute_not_exists(#i)","ExpressionAttributeNames":{"#i":"id"}}"##,
-        r#"{"__type":"com.amazonaws.dynamodb.v20120810#ConditionalCheckFailedException","message":"The conditional request failed"}"#,
-    ),
-    (
-        "DeleteItem",
-        r#"{"TableName":"Tab","Key":{"id":{"S":"a"}},"ReturnValues":"ALL_OLD"}"#,
-        r#"{"Attributes":{"id":{"S":"a"},"n":{"N":"2"}}}"#,
-    ),
-    (
-        "GetItem",
-        r#"{"TableName":"Tab","Key":{"id":{"S":"a"}}}"#,
-        "{}",
-    ),
-    (
-        "PutItem",
-        r#"{"TableName":"Tab","Item":{"id":{"N":"1"}}}"#,
-        r#"{"__type":"com.amazon.coral.validate#ValidationException","message":"The provided key is not valid: WrongType"}"#,
-    ),
-    (
-        "PutItem",
-        r#"{"TableName":"Tab","Item":{"id":{"S":1}}}"#,
-        r#"{"__type":"com.amazon.coral.validate#ValidationException","message":"Attribute value is not valid: UnknownType"}"#,
-    ),
-    ("ListTables", "{}", r#"{"TableNames":["Tab"]}"#),
-    (
-        "DescribeTable",
-        r#"{"TableName":"Bat"}"#,
-        r#"{"__type":"com.amazonaws.dynamodb.v20120810#ResourceNotFoundException","message":"Requested resource not found: Table: Bat not found"}"#,
-    ),
-    (
-        "BatchWriteItem",
-        r#"{"RequestItems":{"Tab":[{"PutRequest":{"Item":{"id":{"S":"b"}}}},{"DeleteRequest":{"Key":{"id":{"S":"c"}}}}]}}"#,
-        r#"{"UnprocessedItems":{}}"#,
-    ),
-    (
-        "BatchGetItem",
-        r#"{"RequestItems":{"Tab":{"Keys":[{"id":{"S":"a"}},{"id":{"S":"b"}}]}}}"#,
-        r#"{"Responses":{"Tab":[{"id":{"S":"b"}}]},"UnprocessedKeys":{}}"#,
-    ),
-    (
-        "TransactWriteItems",
-        r#"{"TransactItems":[{"Put":{"TableName":"Tab","Item":{"id":{"S":"a"},"n":{"N":"1"}}}},{"Delete":{"TableName":"Tab","Key":{"id":{"S":"b"}}}}]}"#,
-        "{}",
-    ),
-    (
-        "TransactGetItems",
-        r#"{"TransactItems":[{"Get":{"TableName":"Tab","Key":{"id":{"S":"a"}}}},{"Get":{"TableName":"Tab","Key":{"id":{"S":"b"}}}}]}"#,
-        r#"{"Responses":[{"Item":{"id":{"S":"a"},"n":{"N":"1"}}},{}]}"#,
-    ),
-    (
-        "Query",
-        r#"{"TableName":"Tab","KeyConditionExpression":"id = :i","ExpressionAttributeValues":{":i":{"S":"a"}}}"#,
-        r#"{"Count":1,"Items":[{"id":{"S":"a"},"n":{"N":"1"}}],"ScannedCount":1}"#,
-    ),
-    (
-        "Scan",
-        r#"{"TableName":"Tab","Select":"COUNT"}"#,
-        r#"{"Count":1,"ScannedCount":1}"#,
-    ),
-    (
-        "Scan",
-        "{}",
-        r#"{"__type":"com.amazon.coral.validate#ValidationException","message":"Member is missing: TableName"}"#,
-    ),
-    (
-        "Scam",
-        "{}",
-        r#"{"__type":"com.amazon.coral.service#UnknownOperationException","message":"Unknown operation"}"#,
-    ),
-    (
-        "GetItem",
-        "{",
-        r#"{"__type":"com.amazon.coral.service#SerializationException","message":"Body is not JSON of the expected shape"}"#,
-    ),
-    (
-        "DeleteTable",
-        r#"{"TableName":"Tab"}"#,
-        r#"{"TableDescription":{"AttributeDefinitions":[{"AttributeName":"id","AttributeType":"S"}],"BillingModeSummary":{"BillingMode":"PAY_PER_REQUEST"},"CreationDateTime":0,"KeySchema":[{"AttributeName":"id","KeyType":"HASH"}],"ProvisionedThroughput":{"NumberOfDecreasesToday":0,"ReadCapacityUnits":0,"WriteCapacityUnits":0},"TableArn":"arn:aws:dynamodb:ddblocal:000000000000:table/Tab","TableName":"Tab","TableStatus":"ACTIVE"}}"#,
-    ),
-    ("ListTables", "{}", r#"{"TableNames":[]}"#),
-];
-
-// The messages of all exchanges.
-fn exchanged(alloc: Global) -> Result<String, Fail> {
-    let mut input = String::new(alloc);
-    for (operation, body, _) in &EXCHANGES {
-        let target = format!(in alloc; "DynamoDB_20120810.{operation}")?;
-        input.push_str(message(alloc, target.as_str(), body)?.as_str())?;
-    }
-    Ok(input)
-}
-
-#[test]
-fn exchanges(rt: HostRuntime) -> Result<(), Fail> {
-    let input = exchanged(rt.alloc())?;
-    let (status, output) = stdio(&rt, input.as_str(), 4_096)?;
-    assert_eq!(rt; status, 0);
-    let mut rest = output.as_str();
-    for (operation, body, reply) in &EXCHANGES {
-        let (head, after) = rest.split_once("\r\n\r\n").ok_or("head")?;
-        let is_fault = reply.contains("__type");
-        assert_eq!(rt;
-            head.starts_with("HTTP/1.1 400 "),
-            is_fault,
-            "{operation} {body}"
-        );
-        rest = after.strip_prefix(*reply).ok_or("reply")?;
-    }
-    assert_eq!(rt; rest, "");
-    Ok(())
-}
 
 #[test]
 fn limit_of_tables(rt: HostRuntime) -> Result<(), Fail> {
@@ -444,18 +312,21 @@ const PUT_AND_READ: &str =
     HTTP/1.1 200 OK\r\nContent-Type: application/x-amz-json-1.0\r\nContent-Length: 25\r\n\
     x-amzn-RequestId: 00000000000000000000000000000003\r\n\r\n{\"Item\":{\"id\":{\"S\":\"a\"}}}";
 
-// The status of `serve` over four connections, and the listener, of whose calls these fail.
-fn serve<R: AllocGlobal + Wait>(rt: &R, failing: &[u64]) -> Result<(u8, MemListener), Fail> {
+// The status of `serve` by two workers over four connections, and the listener, of whose calls these fail.
+fn serve<R: AllocGlobal + Threads + Wait + Sync>(
+    rt: &R,
+    failing: &[u64],
+) -> Result<(u8, MemListener), Fail> {
     let alloc = rt.alloc();
     let mut contents = Seq::new(alloc);
     for table in ["one", "two", "three", "four"] {
         contents.push(client(alloc, table)?)?;
     }
-    let mut listener = MemListener::make(alloc, contents, 1, numbers(alloc, failing)?)?;
+    let mut listener = MemListener::make(alloc, contents, 2, numbers(alloc, failing)?)?;
     let mut source = MemSource::make(Bytes::from(Vec::new(alloc)), 1, Seq::new(alloc));
     let mut sink = MemSink::make(alloc, 1, Seq::new(alloc));
     let mut clock = StepClock::make(0, 0);
-    let words = words(alloc, &["serve", "--port=8001"])?;
+    let words = words(alloc, &["serve", "--port=8001", "--workers", "2"])?;
     let status = run(
         rt,
         words.as_slice(),
@@ -471,7 +342,8 @@ fn serve<R: AllocGlobal + Wait>(rt: &R, failing: &[u64]) -> Result<(u8, MemListe
 fn connections(rt: HostRuntime) -> Result<(), Fail> {
     let (status, listener) = serve(&rt, &[])?;
     assert_eq!(rt; status, 0);
-    let tables = ["one", "two", "three", "four"];
+    // In order of worker: the first has the first and the third connection.
+    let tables = ["one", "three", "two", "four"];
     assert_eq!(rt; listener.outputs().len(), tables.len());
     for (output, table) in listener.outputs().iter().zip(tables) {
         let output = std::str::from_utf8(output.as_slice()).ok().ok_or("text")?;
@@ -485,8 +357,8 @@ fn connections(rt: HostRuntime) -> Result<(), Fail> {
 
 #[test]
 fn refused_listening(rt: HostRuntime) -> Result<(), Fail> {
-    // The port is refused; then the share is.
-    for failing in [[0], [1]] {
+    // The port is refused; then the second share is.
+    for failing in [[0], [2]] {
         let (status, listener) = serve(&rt, &failing)?;
         assert_eq!(rt; status, 4);
         assert_eq!(rt; listener.outputs().len(), 0);

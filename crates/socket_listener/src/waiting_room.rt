@@ -18,8 +18,8 @@ const KNOCK: usize = usize::MAX;
 // How many events are taken in at once.
 const EVENTS: usize = 64;
 
-// How many newcomers are let in at once at a door, so that they hold nobody up.
-const NEWCOMERS: u32 = 64;
+// How many newcomers are let in at once at a door, so that they hold nobody up, and other shares let some of them in.
+const NEWCOMERS: u32 = 4;
 
 // How long to wait, in milliseconds, where a newcomer was refused.
 const REFUSED: u64 = 200;

@@ -1,2 +1,3 @@
 pub mod Serving
 pub mod Sharing
+pub mod Crossings

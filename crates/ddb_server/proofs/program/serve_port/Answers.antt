@@ -1,19 +1,13 @@
-use Rattle.ddb_server.proofs.Serving.{comes_back, listener_runs}
+use denote.Param.Send.{sendable}
+use Rattle.std.proofs.Crossing as owners
+use Rattle.turnstile.proofs.pass.Pass.TheSendSync as pass
+use Rattle.request_history.proofs.shared.SharedStore.TheSendSync as store
+use Rattle.table_service.proofs.Crossings.{tables_send, tables_sync}
+use Rattle.ddb_server.proofs.Serving.{listener_runs, some_pass}
 use Rattle.ddb_server.proofs.program.serve_port.Goals as goal
 
-pub absorb-requires : goal.absorb-requires
-absorb-requires g c = record {
-  lent = comes_back (g.C.Clock.coming c.args.clock.now) (g.C.Clock.coming c.serve_share-end.new.clock) c.serve_share-end.new.state
-      (g.L.Listener.connections c.bind.new.self) (g.L.Listener.connections c.share.new.self) (g.L.Listener.connections c.in-Ok-share.share)
-      (g.L.Listener.connections c.serve_share-end.new.share) c.in-Ok-share.ensures.shared
-      (rw c.in-Ok.ensures at c.serve_share-end.ensures.served);
-}
+pub serve_all-requires-send-V-State : goal.serve_all-requires-send-V-State
+serve_all-requires-send-V-State g c κs within = search (pass.the_send, tables_send, tables_sync, owners.crosses, sendable) depth 60 fits 20000
 
-pub returns-clause-served : goal.returns-clause-served
-returns-clause-served g c =
-    listener_runs (g.C.Clock.coming c.args.clock.now) (g.C.Clock.coming c.serve_share-end.new.clock) c.serve_share-end.new.state
-    (g.L.Listener.connections c.args.listener.now) (g.L.Listener.connections c.bind.new.self) (g.L.Listener.connections c.share.new.self)
-    (g.L.Listener.connections c.in-Ok-share.share) (g.L.Listener.connections c.serve_share-end.new.share)
-    (g.L.Listener.connections c.absorb.new.self) c.serve_share-end.result c.share_status.result c.bind.ensures.connections
-    c.in-Ok-share.ensures.shared (rw c.in-Ok.ensures at c.serve_share-end.ensures.served) c.serve_share-end.ensures.all c.absorb.ensures.absorbs
-    c.share_status.ensures
+pub serve_all-requires-sync-V : goal.serve_all-requires-sync-V
+serve_all-requires-sync-V g c κs within = search (store.the_sync, tables_send, tables_sync, owners.crosses, sendable) depth 60 fits 20000
