@@ -1,5 +1,5 @@
 -- A session that memory was refused to before its first message.
-use Rattle.std.proofs.Common.{◌≡◌, ℕ, List, [], Option, None, Some, IfSome, refl, sym, ap, inl, arith}
+use Rattle.std.proofs.Common.{ℕ, List, [], Option, None, Some, IfSome, refl, sym, ap, inl, arith}
 use Rattle.std.specs.Io.KnownBytes.{Appends}
 use Rattle.std.proofs.lemmas.List.{append-nil}
 use Rattle.http_session.specs.declared.end.SessionEnd.TheVariants.{NoMemory}
