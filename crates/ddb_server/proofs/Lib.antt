@@ -1,4 +1,3 @@
 pub mod Unserved
 pub mod Statuses
-pub mod Workers
 pub mod Serving
