@@ -20,6 +20,3 @@ mod to_json;
 
 pub use kind::ErrorKind;
 pub use reply::{body, budget_error_body, memory_error_body, refusal_body, status};
-
-#[cfg(test)]
-mod tests;

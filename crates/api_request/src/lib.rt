@@ -27,8 +27,3 @@ pub use page::{query, scan};
 pub use request_parts::{Refusal, RequestEnd};
 pub use schema::create_table;
 pub use transaction::{transact_get, transact_write};
-
-#[cfg(test)]
-mod message_tests;
-#[cfg(test)]
-mod tests;

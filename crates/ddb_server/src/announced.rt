@@ -35,7 +35,8 @@ impl<L> Announced<L> {
         };
         drop(if is_bound {
             eprintln!(rt;
-                "ddb_server: listening at http://localhost:{port}, {where_to}; boto3: endpoint_url='http://localhost:{port}'; aws dynamodb: --endpoint-url http://localhost:{port}"
+                "ddb_server: listening at http://localhost:{port}, {where_to}; \
+                boto3: endpoint_url='http://localhost:{port}'; aws dynamodb: --endpoint-url http://localhost:{port}"
             )
         } else {
             eprintln!(rt; "ddb_server: port {port} could not be listened at; is it in use?")

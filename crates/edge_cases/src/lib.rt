@@ -2,12 +2,8 @@
 #![tactic(auto)]
 
 #[cfg(test)]
-mod bodies;
-#[cfg(test)]
 mod listeners;
 #[cfg(test)]
 mod outside;
 #[cfg(test)]
 mod sessions;
-#[cfg(test)]
-mod values;

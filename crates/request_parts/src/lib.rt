@@ -29,6 +29,3 @@ pub use member::{
 pub use part::{Conditional, Placed, Projected};
 pub use placeholder::{Placeholders, pairs_of, values};
 pub use refusal::{Refusal, RequestEnd};
-
-#[cfg(test)]
-mod tests;

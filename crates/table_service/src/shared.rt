@@ -4,6 +4,8 @@ ghost use Rattle.std.specs.Prelude.{◌≡◌, ◌≤◌, IfOk, All};
 ghost use Rattle.std.specs.List.{AllZip};
 ghost use Rattle.turnstile.specs.Passes.{first_passes};
 ghost use Rattle.http_front.specs.Replies.{IsReplyStatus};
+ghost use Rattle.api_request.specs.Requests.{IsRequest};
+ghost use Rattle.request_parts.specs.Ends.{IsToldOf};
 ghost use Rattle.request_history.specs.Steps.{IsAtRest, SeesMore, HaveOneFront};
 ghost use Rattle.request_history.specs.Events.{by_of};
 ghost use Rattle.table_service.specs.Telling.{told};
@@ -18,15 +20,20 @@ use http_session::{Answer, Service};
 use request_history::{OneStore, SharedStore, StepError};
 use std::alloc::{AllocError as NoMemory, Global};
 use std::marker::Model;
-use std::sync::Wait;
+use std::sync::{Mutex, Wait};
 use table_request::Request;
 use turnstile::Pass;
+
+/// A body of more bytes than this is large: it is read while no other large one is. Its tree of JSON may take 130 times its bytes.
+const LARGE_BODY: usize = 1_048_576;
 
 /// Answers the messages of many sessions out of one database. Each session has a pass, and each request that is applied is one
 /// event of the history of all of them.
 #[derive(Drop)]
 pub struct TableService {
     store: SharedStore<Tables>,
+    /// Held while a large body is read, so that the tree of one alone stands at a time.
+    large_bodies: Mutex<()>,
 }
 
 impl Model for TableService {
@@ -48,7 +55,11 @@ impl TableService {
         ensures rest { IfOk result (λ made. All (IsAtRest made.0) made.1) }
     {
         let (store, passes) = SharedStore::make(alloc, Tables::new(alloc)?, passes)?;
-        Ok((TableService { store }, passes))
+        let service = TableService {
+            store,
+            large_bodies: Mutex::new(()),
+        };
+        Ok((service, passes))
     }
 
     /// Lets each pass see all that any of them had seen: one history of which some database is what it led to.
@@ -97,12 +108,28 @@ impl<R: Wait> Service<R> for TableService {
         moment: u64,
     ) -> Answer {
         pass.tick(moment);
-        match read(alloc, message) {
+        match read_in_turn(&self.large_bodies, rt, alloc, message) {
             Ok(request) => serve(&self.store, rt, alloc, pass, request),
             Err(RequestEnd::Refused(refusal)) => refuse(alloc, &refusal),
             Err(RequestEnd::NoMemory) => memory_error(),
         }
     }
+}
+
+/// The request that a message states. Where its body is large, it is read once no other large body is.
+fn read_in_turn<R: Wait>(
+    large_bodies: &Mutex<()>,
+    rt: &R,
+    alloc: Global,
+    message: &Message,
+) -> Result<Request, RequestEnd>
+    ensures { IsToldOf (IsRequest message.now.target message.now.body) result }
+{
+    if message.body.len() <= LARGE_BODY {
+        return read(alloc, message);
+    }
+    let _turn = large_bodies.lock(rt);
+    read(alloc, message)
 }
 
 /// Applies a request at the moment of the pass, and tells what became of it.

@@ -1,4 +1,4 @@
-//! Text, numbers, sets, paths and attribute values, and what is picked of items and written into them: cases by hand.
+//! Text, numbers, sets and paths: cases by hand.
 #![tactic(auto)]
 
 #[cfg(test)]
@@ -8,10 +8,4 @@ mod numbers;
 #[cfg(test)]
 mod paths;
 #[cfg(test)]
-mod projections;
-#[cfg(test)]
 mod sets;
-#[cfg(test)]
-mod values;
-#[cfg(test)]
-mod writes;
