@@ -1,5 +1,5 @@
 -- The faults of a body, in their one order.
-use Rattle.std.specs.Prelude.{ℕ, ◌+◌, ◌&&◌, ◌||◌, not, codes, List, [], ◌∷◌, ◌++◌, Bool, true, false, nat_le, nat_lt, nat_eq, if◌then◌else◌, Option, Some, None, option_and_then, bytes_eq}
+use Rattle.std.specs.Prelude.{ℕ, ◌+◌, ◌&&◌, not, codes, List, [], ◌∷◌, ◌++◌, Bool, true, false, nat_le, nat_lt, nat_eq, if◌then◌else◌, Option, Some, None, option_and_then, bytes_eq}
 use Rattle.std.specs.Option.{is_some}
 use Rattle.serde_json.specs.Data.{Data, null, boolean, number, string, array, object, Items, no_items, item, Members, no_members, member, unsigned, negative}
 use Rattle.serde_json.specs.Find.{get_member, as_number, as_str, as_u64}
@@ -148,23 +148,31 @@ range_faults name form rule.Legacy d = fault.Legacy name ∷ []
 range_faults name form rule.Value d = bad_value (value_fault d)
 range_faults name form rule d = unless (is_in_range form rule d) (fault.OutOfRange name)
 
--- the fault of the value itself, at a stage
+-- the fault of the value itself, at a stage: Any is the others at once, by which a body without a fault is told
 abbrev pub own_faults : Stage → Name → Form → Data → List Fault
 own_faults stage.Kinds name form d = unless (has_kind (rule_of form) d) fault.Kind
 own_faults stage.Absent name form d = []
 own_faults stage.Ranges name form d = range_faults name form (rule_of form) d
+own_faults stage.Any name form d = unless (has_kind (rule_of form) d) fault.Kind ++ range_faults name form (rule_of form) d
 
 -- the fault of a name in a map
 abbrev pub key_faults : Stage → Name → Spelling → List ℕ → List Fault
 key_faults stage.Ranges name spelling key = unless (is_spelled spelling key) (fault.OutOfRange name)
+key_faults stage.Any name spelling key = unless (is_spelled spelling key) (fault.OutOfRange name)
 key_faults _ name spelling key = []
+
+-- what a member has to be beside others of its object
+abbrev pub sibling_faults : Form → Members → List Fault
+sibling_faults form.Select ms =
+    unless (is_selection (text_at name.Select ms) (is_there name.IndexName ms) (is_there name.ProjectionExpression ms)) fault.Select
+sibling_faults form.TotalSegments ms =
+    unless (is_below (whole_at name.Segment ms) (whole_at name.TotalSegments ms)) (fault.OutOfRange name.Segment)
+sibling_faults form ms = []
 
 -- the fault of a member beside others of its object, behind its own
 abbrev pub beside_faults : Stage → Form → Members → List Fault
-beside_faults stage.Ranges form.Select ms =
-    unless (is_selection (text_at name.Select ms) (is_there name.IndexName ms) (is_there name.ProjectionExpression ms)) fault.Select
-beside_faults stage.Ranges form.TotalSegments ms =
-    unless (is_below (whole_at name.Segment ms) (whole_at name.TotalSegments ms)) (fault.OutOfRange name.Segment)
+beside_faults stage.Ranges form ms = sibling_faults form ms
+beside_faults stage.Any form ms = sibling_faults form ms
 beside_faults _ form ms = []
 
 -- ---- the walk
@@ -181,7 +189,8 @@ is_needed (need.With other) ms = is_there other ms
 
 -- the fault of a member that is absent
 abbrev pub absence : Stage → Member → Members → List Fault
-absence stage.Absent m ms = if is_needed m.1 ms then fault.Missing m.0 ∷ [] else []
+absence stage.Absent m ms = unless (not (is_needed m.1 ms)) (fault.Missing m.0)
+absence stage.Any m ms = unless (not (is_needed m.1 ms)) (fault.Missing m.0)
 absence _ m ms = []
 
 -- the faults of one stated member, by those of the value that stands there

@@ -12,6 +12,8 @@ pub enum Stage {
     Absent,
     /// All that is asked of a value beside its kind.
     Ranges,
+    /// All of these at once: whether there is any fault.
+    Any,
 }
 
 /// What is wrong with a body.

@@ -1,10 +1,11 @@
 //! What is wrong with a value itself, or with one member of an object.
 
-ghost use Rattle.std.specs.Prelude.{◌≡◌, IfOk};
+ghost use Rattle.std.specs.Prelude.{◌≡◌, ◌++◌, IfOk};
 ghost use Rattle.serde_json.specs.Data as json;
 ghost use Rattle.serde_json.specs.View.{view, number_view, items_view, members_view};
 ghost use Rattle.attr_json.specs.Values.{value_fault};
 ghost use Rattle.api_form.specs.declared.name.Name.TheVariants as name;
+ghost use Rattle.api_form.specs.declared.fault.Fault.TheVariants as fault;
 ghost use Rattle.api_form.specs.Faults.{first, own_faults, range_faults, bad_value, has_kind, is_in_range, key_faults, beside_faults, is_selection, text_at, is_there, absence, is_needed, unless};
 
 use crate::count::{has_at_most_one, has_requests, is_below, is_there, stated_count, text_at};
@@ -30,7 +31,24 @@ pub fn own_fault(
         Stage::Kinds => Ok(unless(has_kind(stated_rule(form), json), Fault::Kind)),
         Stage::Absent => Ok(None),
         Stage::Ranges => range_fault(alloc, json, name, form, stated_rule(form)),
+        Stage::Any => any_fault(alloc, json, name, form, stated_rule(form)),
     }
+}
+
+/// The fault of the value's kind, and else that of the last stage.
+fn any_fault(
+    alloc: Global,
+    json: &Value,
+    name: Name,
+    form: Form,
+    rule: Rule,
+) -> Result<Option<Fault>, NoMemory>
+    ensures { IfOk result (λ found. found ≡ first (unless (has_kind rule (view json.now)) fault.Kind ++ range_faults name form rule (view json.now))) }
+{
+    if !has_kind(rule, json) {
+        return Ok(Some(Fault::Kind));
+    }
+    range_fault(alloc, json, name, form, rule)
 }
 
 /// Whether the value is of the JSON kind that the rule states.
@@ -133,7 +151,7 @@ pub fn key_fault(stage: Stage, name: Name, spelling: Spelling, key: &str) -> Opt
     ensures { result ≡ first (key_faults stage name spelling key.now) }
 {
     match stage {
-        Stage::Ranges => unless(is_spelled(spelling, key), Fault::OutOfRange(name)),
+        Stage::Ranges | Stage::Any => unless(is_spelled(spelling, key), Fault::OutOfRange(name)),
         Stage::Kinds | Stage::Absent => None,
     }
 }
@@ -143,8 +161,8 @@ pub fn beside_fault(map: &Map<String, Value>, stage: Stage, form: Form) -> Optio
     ensures { result ≡ first (beside_faults stage form (members_view map.now.entries)) }
 {
     match (stage, form) {
-        (Stage::Ranges, Form::Select) => unless(is_selection(map), Fault::Select),
-        (Stage::Ranges, Form::TotalSegments) => unless(
+        (Stage::Ranges | Stage::Any, Form::Select) => unless(is_selection(map), Fault::Select),
+        (Stage::Ranges | Stage::Any, Form::TotalSegments) => unless(
             is_below(map, Name::Segment, Name::TotalSegments),
             Fault::OutOfRange(Name::Segment),
         ),
@@ -172,8 +190,8 @@ pub fn absence(map: &Map<String, Value>, stage: Stage, member: &Member) -> Optio
     ensures { result ≡ first (absence stage member.now (members_view map.now.entries)) }
 {
     match stage {
-        Stage::Absent if is_needed(map, member.1) => Some(Fault::Missing(member.0)),
-        _ => None,
+        Stage::Absent | Stage::Any => unless(!is_needed(map, member.1), Fault::Missing(member.0)),
+        Stage::Kinds | Stage::Ranges => None,
     }
 }
 
