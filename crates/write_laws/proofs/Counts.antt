@@ -162,3 +162,15 @@ kept_or_taken ws (suc many) start end e =
 -- where none is taken out, all stay
 pub all_kept : (ws : List Written) (place : ℕ) → taken_out_before place ws ≡ 0 → kept_of place 0 ws ≡ place
 all_kept ws place none = omega (arith, none, kept_or_taken ws place 0 place (omega arith), kept_most ws place 0)
+
+-- of more elements at least as many stay
+pub kept_more : (ws : List Written) (many more start middle all : ℕ) → all ≡ many + more → middle ≡ start + many → kept_of all start ws ≡ kept_of many start ws + kept_of more middle ws
+kept_more ws zero more start middle all e f =
+    let same : all ≡ more = omega (arith, e) in
+    let here : start ≡ middle = omega (arith, f) in
+    let kept = ap (λ n. kept_of n start ws) same ∙ ap (λ n. kept_of more n ws) here in omega (arith, kept)
+kept_more ws (suc many) more start middle all e f =
+    let same : all ≡ suc (many + more) = omega (arith, e) in
+    let later = kept_more ws many more (suc start) middle (many + more) refl (omega (arith, f)) in
+    let kept = ap (λ n. kept_of n start ws) same in
+    omega (arith, kept, later)

@@ -1,3 +1,5 @@
 pub mod Counts
 pub mod Steps
 pub mod Places
+pub mod Paths
+pub mod Examples

@@ -15,8 +15,8 @@ use Rattle.item_writes.specs.Edits.{appended, element, elements_from, append_one
 use Rattle.item_writes.specs.Extents.{written_here}
 use Rattle.item_writes.specs.NewTree.{Written}
 use Rattle.item_writes.proofs.Extents.{element_new}
-use Rattle.write_laws.specs.ListsByPlace.{new_place, takes_out, appends, appends_before, Stays, ClosesUp, KeepsElements, PutsElements, AppendsInOrder, HasNothingElse}
-use Rattle.write_laws.proofs.Counts.{stays_here, kept_of, kept_is, counted}
+use Rattle.write_laws.specs.ListsByPlace.{new_place, takes_out, appends, appends_before, Stays, ClosesUp, KeepsElements, PutsElements, AppendsInOrder, HasNothingElse, KeepsOrder}
+use Rattle.write_laws.proofs.Counts.{stays_here, kept_of, kept_is, kept_more, counted}
 use Rattle.write_laws.proofs.Steps.{apart_at, ends_here}
 
 -- ---- an element that stays
@@ -94,6 +94,17 @@ pub elements_are_put : (ts : Trees) (ws : List Written) → AreApart (paths_of w
 elements_are_put ts ws apart place old value k there written =
     let here : written_here (below (is_place place) ws) ≡ Some (Some value) = ends_here (Index place) (Some value) ws apart k written in
     closes_up ts ws place old apart there (stays_new (below (is_place place) ws) value here) ∙ element_new old (below (is_place place) ws) (Some value) here
+
+one_stays : (b : Bool) → b ≡ true → ◌≡◌ {A = ℕ} (cond b 1 0) 1
+one_stays true e = refl
+one_stays false e = cc
+
+pub order_is_kept : (ws : List Written) → AreApart (paths_of ws) → KeepsOrder ws
+order_is_kept ws apart place later above stays =
+    let more = later - suc place in
+    let split = kept_more ws place (suc more) 0 place later (omega (arith, above)) (omega arith) in
+    let one = one_stays (stays_here (below (is_place place) ws)) (stays_where place ws stays) in
+    omega (arith, kept_is ws place apart, kept_is ws later apart, split, one)
 
 -- ---- what is put past the end
 

@@ -2,46 +2,78 @@
 use Rattle.std.proofs.Common.{◌≡◌, ℕ, zero, suc, List, [], ◌∷◌, slice_get, Option, Some, None, Bool, true, false, cond, ◌&&◌, refl, sym, ap, ◌∙◌, subst}
 use Rattle.std.specs.List.{AllByRecursion}
 use Rattle.base_types.specs.declared.path.Step.{Step}
+use Rattle.base_types.specs.declared.path.Step.TheVariants.{Name, Index}
 use Rattle.attr_value.specs.Tree.{Tree}
-use Rattle.path_entries.specs.Entries.{below, behind, or_rest}
+use Rattle.path_entries.specs.Entries.{below, behind, is_name, is_place, or_rest}
 use Rattle.item_writes.specs.Apart.{same_step, overlap, AreApart, paths_of}
 use Rattle.item_writes.specs.Extents.{written_here}
 use Rattle.item_writes.specs.NewTree.{Written}
+use Rattle.write_laws.specs.PathsThroughLists.{MeetsNone, NoneBegins, begins, writes_behind}
 use Rattle.item_writes.proofs.Apart.{same_step_is, same_step_itself, apart_turned}
-
--- no written path meets this one
-abbrev pub Misses : List Step → List Written → Type 0
-Misses q ws = AllByRecursion (λ w. overlap w.0 q ≡ false) ws
 
 pub apart_at : (p : List Step) (ws : List Written) → AllByRecursion (λ q. overlap p q ≡ false) (paths_of ws) → (k : ℕ) (w : Written) → slice_get ws k ≡ Some w → overlap p w.0 ≡ false
 apart_at p [] apart k w e = cc
 apart_at p (v ∷ ws) apart zero w e = let same : v ≡ w = cc in subst (λ x. overlap p x.0 ≡ false) same apart.0
 apart_at p (v ∷ ws) apart (suc k) w e = apart_at p ws apart.1 k w e
 
-pub misses_rest : (p : List Step) (ws : List Written) → AllByRecursion (λ q. overlap p q ≡ false) (paths_of ws) → Misses p ws
+misses_rest : (p : List Step) (ws : List Written) → AllByRecursion (λ q. overlap p q ≡ false) (paths_of ws) → MeetsNone p ws
 misses_rest p [] apart = tt
 misses_rest p (w ∷ ws) apart = (apart_turned p w.0 apart.0, misses_rest p ws apart.1)
 
 -- ---- a path that no written path meets, behind its first step
 
-misses_on : (s t : Step) (p q : List Step) → same_step s t ≡ true → overlap (t ∷ p) (s ∷ q) ≡ false → overlap p q ≡ false
-misses_on s t p q e f =
-    let same : same_step t s ≡ true = subst (λ u. same_step u s ≡ true) (same_step_is s t e) (same_step_itself s) in
-    subst (λ b. (b && overlap p q) ≡ false) same f
+-- a test of two paths that goes by their first steps and then by the rest of both
+abbrev GoesByStep : (List Step → List Step → Bool) → Type 0
+GoesByStep test = (s t : Step) (p q : List Step) → test (t ∷ p) (s ∷ q) ≡ (same_step t s && test p q)
 
-pub misses_below : (s : Step) (q : List Step) (ws : List Written) → Misses (s ∷ q) ws → Misses q (below (same_step s) ws)
-misses_below s q [] far = tt
-misses_below s q (([], v) ∷ ws) far = misses_below s q ws far.1
-misses_below s q ((t ∷ p, v) ∷ ws) far = one (same_step s t) refl (misses_below s q ws far.1)
+same_turned : (s t : Step) → same_step s t ≡ true → same_step t s ≡ true
+same_turned s t e = subst (λ u. same_step u s ≡ true) (same_step_is s t e) (same_step_itself s)
+
+fails_below : (test : List Step → List Step → Bool) → GoesByStep test → (s : Step) (q : List Step) (ws : List Written)
+    → AllByRecursion (λ w. test w.0 (s ∷ q) ≡ false) ws → AllByRecursion (λ w. test w.0 q ≡ false) (below (same_step s) ws)
+fails_below test by s q [] far = tt
+fails_below test by s q (([], v) ∷ ws) far = fails_below test by s q ws far.1
+fails_below test by s q ((t ∷ p, v) ∷ ws) far = one (same_step s t) refl (fails_below test by s q ws far.1)
   where
-    one : (b : Bool) → same_step s t ≡ b → Misses q (below (same_step s) ws) → Misses q (or_rest (cond b (Some (p, v)) None) (below (same_step s) ws))
-    one true e later = (misses_on s t p q e far.0, later)
+    one : (b : Bool) → same_step s t ≡ b → AllByRecursion (λ w. test w.0 q ≡ false) (below (same_step s) ws)
+        → AllByRecursion (λ w. test w.0 q ≡ false) (or_rest (cond b (Some (p, v)) None) (below (same_step s) ws))
+    one true e later = (subst (λ b. (b && test p q) ≡ false) (same_turned s t e) (sym (by s t p q) ∙ far.0), later)
     one false e later = later
 
-pub not_here : (q : List Step) (ws : List Written) → Misses q ws → written_here ws ≡ None
+pub misses_below : (s : Step) (q : List Step) (ws : List Written) → MeetsNone (s ∷ q) ws → MeetsNone q (below (same_step s) ws)
+misses_below s q ws far = fails_below overlap (λ s t p q. refl) s q ws far
+
+pub none_begins_below : (s : Step) (q : List Step) (ws : List Written) → NoneBegins (s ∷ q) ws → NoneBegins q (below (same_step s) ws)
+none_begins_below s q ws far = fails_below begins (λ s t p q. refl) s q ws far
+
+-- a path that does not meet another does not begin it
+pub missed_begins : (p q : List Step) → overlap p q ≡ false → begins p q ≡ false
+missed_begins [] q e = e
+missed_begins (s ∷ p) [] e = refl
+missed_begins (s ∷ p) (t ∷ q) e = one (same_step s t) e (missed_begins p q)
+  where
+    one : (b : Bool) → (b && overlap p q) ≡ false → (overlap p q ≡ false → begins p q ≡ false) → (b && begins p q) ≡ false
+    one true f later = later f
+    one false f later = refl
+
+pub misses_begins : (q : List Step) (ws : List Written) → MeetsNone q ws → NoneBegins q ws
+misses_begins q [] far = tt
+misses_begins q (w ∷ ws) far = (missed_begins w.0 q far.0, misses_begins q ws far.1)
+
+pub nothing_behind : (q : List Step) (ws : List Written) → MeetsNone q ws → writes_behind q ws ≡ []
+nothing_behind [] [] far = refl
+nothing_behind [] (([], v) ∷ ws) far = let e : true ≡ false = far.0 in cc
+nothing_behind [] ((s ∷ p, v) ∷ ws) far = let e : true ≡ false = far.0 in cc
+nothing_behind (Name name ∷ q) ws far = nothing_behind q (below (is_name name) ws) (misses_below (Name name) q ws far)
+nothing_behind (Index place ∷ q) ws far = nothing_behind q (below (is_place place) ws) (misses_below (Index place) q ws far)
+
+pub not_here : (q : List Step) (ws : List Written) → NoneBegins q ws → written_here ws ≡ None
 not_here q [] far = refl
 not_here q (([], v) ∷ ws) far = let e : true ≡ false = far.0 in cc
 not_here q ((s ∷ p, v) ∷ ws) far = refl
+
+pub rest_begins : (q : List Step) (ws : List Written) → AllByRecursion (λ p. overlap q p ≡ false) (paths_of ws) → NoneBegins q ws
+rest_begins q ws apart = misses_begins q ws (misses_rest q ws apart)
 
 -- ---- a written path, behind its first step
 

@@ -1,5 +1,5 @@
 -- What becomes of a list by all writes, place by place.
-use Rattle.std.specs.Prelude.{◌≡◌, ℕ, ◌+◌, ◌-◌, ◌≤◌, List, [], ◌∷◌, nat_lt, nat_le, ◌==◌, count_by, slice_get, Option, Some, None, Bool, false, ◌&&◌}
+use Rattle.std.specs.Prelude.{◌≡◌, ℕ, ◌+◌, ◌-◌, ◌<◌, ◌≤◌, List, [], ◌∷◌, nat_lt, nat_le, ◌==◌, count_by, slice_get, Option, Some, None, Bool, false, ◌&&◌}
 use Rattle.std.specs.List.{AllByRecursion}
 use Rattle.base_types.specs.declared.path.Step.{Step}
 use Rattle.base_types.specs.declared.path.Step.TheVariants.{Index}
@@ -41,6 +41,10 @@ taken_out_before place ws = count_by (takes_out_before place) ws
 -- the place of an element that stays: lower by those before it that are taken out
 abbrev pub new_place : ℕ → List Written → ℕ
 new_place place ws = place - taken_out_before place ws
+
+-- of two elements that stay the new places are in order as the old ones are
+abbrev pub KeepsOrder : List Written → Type 0
+KeepsOrder ws = (place later : ℕ) → place < later → Stays place ws → new_place place ws < new_place later ws
 
 -- an element that is not taken out stands at its new place, with the writes that lead on from its old one
 abbrev pub ClosesUp : Trees → List Written → Type 0

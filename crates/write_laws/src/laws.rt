@@ -1,11 +1,14 @@
 //! What holds of every item and all writes, through lists too. Each law is the contract of a function that does nothing.
 
 ghost use Rattle.std.specs.Prelude.{List};
-ghost use Rattle.attr_value.specs.Tree.{Trees};
+ghost use Rattle.attr_value.specs.Tree as tree;
+ghost use Rattle.attr_value.specs.Tree.{Attributes, Trees};
 ghost use Rattle.path_entries.specs.Order.{AreInOrder};
 ghost use Rattle.item_writes.specs.Apart.{AreApart, paths_of};
 ghost use Rattle.item_writes.specs.NewTree.{Written};
-ghost use Rattle.write_laws.specs.ListsByPlace.{AppendsInOrder, ClosesUp, HasNothingElse, KeepsElements, PutsElements};
+ghost use Rattle.write_laws.specs.ListsByPlace.{AppendsInOrder, ClosesUp, HasNothingElse, KeepsElements, KeepsOrder, PutsElements};
+ghost use Rattle.write_laws.specs.PathsThroughLists.{IsInOrder, KeepsOtherPaths, MakesInnerWrites, MovesOtherPaths, PutsMoved, PutsWritten};
+ghost use Rattle.write_laws.specs.Worked.{Worked};
 
 /// What becomes of a list by all writes, of which none begins another: the elements that stay keep their order and close
 /// up, each with the writes that lead on from its old place, and behind them stands what is written past the end, in order
@@ -19,8 +22,39 @@ ghost use Rattle.write_laws.specs.ListsByPlace.{AppendsInOrder, ClosesUp, HasNot
 ))]
 pub fn lists_by_place()
     ensures closes_up { (elements : Trees) (writes : List Written) → AreApart (paths_of writes) → ClosesUp elements writes }
+    ensures order { (writes : List Written) → AreApart (paths_of writes) → KeepsOrder writes }
     ensures kept { (elements : Trees) (writes : List Written) → AreApart (paths_of writes) → KeepsElements elements writes }
     ensures put { (elements : Trees) (writes : List Written) → AreApart (paths_of writes) → PutsElements elements writes }
     ensures appended { (elements : Trees) (writes : List Written) → AreInOrder writes → AreApart (paths_of writes) → AppendsInOrder elements writes }
     ensures nothing_else { (elements : Trees) (writes : List Written) → AreApart (paths_of writes) → HasNothingElse elements writes }
+{}
+
+/// At the end of a path that no written path begins stands the old value with the writes that lead on from there: through
+/// maps and lists, where the lists have the path's places. It is found at the path's new places.
+#[tactic(auto, using(crate::proofs::Paths::makes_inner_writes))]
+pub fn inner_writes_are_made()
+    ensures { (item : Attributes) (writes : List Written) → IsInOrder (tree.map item) → AreApart (paths_of writes) → MakesInnerWrites item writes }
+{}
+
+/// At the end of a path that no written path begins, and that begins none, stands what stood there, where the lists have
+/// the path's places and nothing is taken out before them; and else at the path's new places.
+#[tactic(auto, using(crate::proofs::Paths::keeps_other_paths, crate::proofs::Paths::moves_other_paths))]
+pub fn other_paths_are_kept()
+    ensures in_place { (item : Attributes) (writes : List Written) → IsInOrder (tree.map item) → KeepsOtherPaths item writes }
+    ensures moved { (item : Attributes) (writes : List Written) → IsInOrder (tree.map item) → AreApart (paths_of writes) → MovesOtherPaths item writes }
+{}
+
+/// At the end of a written path stands what is written, where none of the written paths begins another, the path has a
+/// place (each parent is a map for a name, or a list that has the place) and nothing is taken out before it; and else at
+/// the path's new places.
+#[tactic(auto, using(crate::proofs::Paths::puts_written, crate::proofs::Paths::puts_moved))]
+pub fn written_values_stand()
+    ensures in_place { (item : Attributes) (writes : List Written) → IsInOrder (tree.map item) → AreApart (paths_of writes) → PutsWritten item writes }
+    ensures moved { (item : Attributes) (writes : List Written) → IsInOrder (tree.map item) → AreApart (paths_of writes) → PutsMoved item writes }
+{}
+
+/// The worked examples hold.
+#[tactic(auto, using(crate::proofs::Examples::worked_examples))]
+pub fn worked()
+    ensures { Worked }
 {}

@@ -1,0 +1,22 @@
+-- The worked examples compute.
+use Rattle.std.proofs.Common.{refl}
+use Rattle.write_laws.specs.Worked.{Worked}
+
+pub worked_examples : Worked
+worked_examples = record {
+  removed = refl;
+  closed_up = refl;
+  in_front = refl;
+  appended = refl;
+  one_before = refl;
+  two_in_all = refl;
+  at_once = refl;
+  one_out = refl;
+  inner = refl;
+  inner_path = refl;
+  inner_writes = refl;
+  old_path = refl;
+  moved = refl;
+  no_place = refl;
+  filled = refl;
+}
