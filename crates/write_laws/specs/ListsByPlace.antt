@@ -61,10 +61,14 @@ abbrev pub PutsElements : Trees → List Written → Type 0
 PutsElements elements ws = (place : ℕ) (old value : Tree) (k : ℕ) → element_at place elements ≡ Some old
     → slice_get ws k ≡ Some (Index place ∷ [], Some value) → element_at (new_place place ws) (list_with_all elements ws) ≡ Some value
 
--- a value that is written past the end stands behind all that stay and behind those that are written past it before
+-- the place of a value that is written past the end: behind all that stay and behind those that are written past it before
+abbrev pub appended_place : Trees → ℕ → List Written → ℕ
+appended_place elements place ws = new_place (count elements) ws + count_by (appends_before (count elements) place) ws
+
+-- what is written past the end stands there
 abbrev pub AppendsInOrder : Trees → List Written → Type 0
 AppendsInOrder elements ws = (place : ℕ) (value : Tree) (k : ℕ) → count elements ≤ place → slice_get ws k ≡ Some (Index place ∷ [], Some value)
-    → element_at (new_place (count elements) ws + count_by (appends_before (count elements) place) ws) (list_with_all elements ws) ≡ Some value
+    → element_at (appended_place elements place ws) (list_with_all elements ws) ≡ Some value
 
 -- nothing else stands there: there are as many as stay and as are written past the end
 abbrev pub HasNothingElse : Trees → List Written → Type 0

@@ -1,5 +1,5 @@
 -- What an item with all writes made has at the end of a path of names and places.
-use Rattle.std.specs.Prelude.{◌≡◌, ℕ, ◌<◌, List, [], ◌∷◌, slice_get, Option, Some, None, option_map, Bool, true, false, ◌&&◌, ⊤}
+use Rattle.std.specs.Prelude.{◌≡◌, ℕ, ◌<◌, ◌≤◌, List, [], ◌∷◌, ◌++◌, slice_get, Option, Some, None, option_map, Bool, true, false, ◌&&◌, ⊤}
 use Rattle.std.specs.List.{AllByRecursion}
 use Rattle.base_types.specs.declared.path.Step.{Step}
 use Rattle.base_types.specs.declared.path.Step.TheVariants.{Name, Index}
@@ -10,7 +10,7 @@ use Rattle.path_entries.specs.Entries.{below, is_name, is_place}
 use Rattle.item_writes.specs.Apart.{same_step, overlap}
 use Rattle.item_writes.specs.Edits.{inside, item_with_all}
 use Rattle.item_writes.specs.NewTree.{Written}
-use Rattle.write_laws.specs.ListsByPlace.{new_place, taken_out_before}
+use Rattle.write_laws.specs.ListsByPlace.{appended_place, new_place, taken_out_before}
 
 abbrev mutual
   -- a map's names are in order, and so are those of every map in a value, through lists too
@@ -100,3 +100,9 @@ PutsMoved item ws = (step : Step) (path : List Step) (value : Tree) (k : ℕ) �
 abbrev pub PutsWritten : Attributes → List Written → Type 0
 PutsWritten item ws = (step : Step) (path : List Step) (value : Tree) (k : ℕ) → slice_get ws k ≡ Some (step ∷ path, Some value)
     → HasPlace (step ∷ path) (Some (map item)) → KeepsPlaces (step ∷ path) ws → found (step ∷ path) (item_with_all item ws) ≡ Some value
+
+-- what is written past the end of a list that a path leads to stands in the new list behind all that stay, in order of place
+abbrev pub AppendsAlongPaths : Attributes → List Written → Type 0
+AppendsAlongPaths item ws = (path : List Step) (elements : Trees) (place : ℕ) (value : Tree) (k : ℕ) → found path item ≡ Some (list elements)
+    → count elements ≤ place → slice_get ws k ≡ Some (path ++ Index place ∷ [], Some value)
+    → found (new_path path ws ++ Index (appended_place elements place (writes_behind path ws)) ∷ []) (item_with_all item ws) ≡ Some value

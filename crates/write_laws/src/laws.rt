@@ -7,7 +7,7 @@ ghost use Rattle.path_entries.specs.Order.{AreInOrder};
 ghost use Rattle.item_writes.specs.Apart.{AreApart, paths_of};
 ghost use Rattle.item_writes.specs.NewTree.{Written};
 ghost use Rattle.write_laws.specs.ListsByPlace.{AppendsInOrder, ClosesUp, HasNothingElse, KeepsElements, KeepsOrder, PutsElements};
-ghost use Rattle.write_laws.specs.PathsThroughLists.{IsInOrder, KeepsOtherPaths, MakesInnerWrites, MovesOtherPaths, PutsMoved, PutsWritten};
+ghost use Rattle.write_laws.specs.PathsThroughLists.{AppendsAlongPaths, IsInOrder, KeepsOtherPaths, MakesInnerWrites, MovesOtherPaths, PutsMoved, PutsWritten};
 ghost use Rattle.write_laws.specs.Worked.{Worked};
 
 /// What becomes of a list by all writes, of which none begins another: the elements that stay keep their order and close
@@ -46,11 +46,17 @@ pub fn other_paths_are_kept()
 
 /// At the end of a written path stands what is written, where none of the written paths begins another, the path has a
 /// place (each parent is a map for a name, or a list that has the place) and nothing is taken out before it; and else at
-/// the path's new places.
-#[tactic(auto, using(crate::proofs::Paths::puts_written, crate::proofs::Paths::puts_moved))]
+/// the path's new places. What is written past the end of a list stands in the new one behind all that stay.
+#[tactic(auto, using(
+    crate::proofs::Paths::puts_written,
+    crate::proofs::Paths::puts_moved,
+    crate::proofs::Ends::appends_along_paths
+))]
 pub fn written_values_stand()
     ensures in_place { (item : Attributes) (writes : List Written) → IsInOrder (tree.map item) → AreApart (paths_of writes) → PutsWritten item writes }
     ensures moved { (item : Attributes) (writes : List Written) → IsInOrder (tree.map item) → AreApart (paths_of writes) → PutsMoved item writes }
+    ensures appended { (item : Attributes) (writes : List Written) → IsInOrder (tree.map item) → AreInOrder writes → AreApart (paths_of writes)
+        → AppendsAlongPaths item writes }
 {}
 
 /// The worked examples hold.
