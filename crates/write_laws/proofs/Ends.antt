@@ -1,9 +1,10 @@
 -- What is written past the end of a list that a path leads to.
-use Rattle.std.proofs.Common.{◌≡◌, ℕ, zero, suc, ◌+◌, ◌<◌, ◌≤◌, List, [], ◌∷◌, ◌++◌, slice_get, Option, Some, None, option_and_then, option_map, Bool, true, false, ◌&&◌, refl, sym, ap, ◌∙◌, subst, arith}
+use Rattle.std.proofs.Common.{◌≡◌, ℕ, zero, suc, ◌<◌, List, [], ◌∷◌, ◌++◌, slice_get, Option, Some, None}
+use Rattle.std.proofs.Common.{option_and_then, option_map, Bool, true, false, ◌&&◌, refl, ap, ◌∙◌, subst, arith}
 use Rattle.std.specs.List.{AllByRecursion}
 use Rattle.base_types.specs.declared.path.Step.{Step}
 use Rattle.base_types.specs.declared.path.Step.TheVariants.{Name, Index}
-use Rattle.attr_value.specs.Paths.{child, element_at, found, found_in, value_at}
+use Rattle.attr_value.specs.Paths.{child, element_at, found_in}
 use Rattle.attr_value.specs.Sizes.{count}
 use Rattle.attr_value.specs.Tree.{Tree, text, number, binary, boolean, null, list, map, text_set, number_set, binary_set}
 use Rattle.attr_value.specs.Tree.{Trees, no_trees, tree, Attributes}
@@ -16,7 +17,8 @@ use Rattle.item_writes.specs.Edits.{inside, item_with_all}
 use Rattle.item_writes.specs.NewTree.{Written}
 use Rattle.item_writes.proofs.Extents.{apart_name, apart_place}
 use Rattle.write_laws.specs.ListsByPlace.{appended_place}
-use Rattle.write_laws.specs.PathsThroughLists.{IsInOrder, HasItsPlaces, begins, NoneBegins, new_path, writes_behind, AppendsAlongPaths}
+use Rattle.write_laws.specs.PathsThroughLists.{IsInOrder, HasItsPlaces, begins, NoneBegins, new_path, writes_behind}
+use Rattle.write_laws.specs.PathsThroughLists.{AppendsAlongPaths}
 use Rattle.write_laws.proofs.Steps.{apart_at, rest_begins, missed_begins, leads_on}
 use Rattle.write_laws.proofs.Places.{values_are_appended}
 use Rattle.write_laws.proofs.Paths.{makes_inner_writes}
@@ -30,7 +32,8 @@ apart_behind (Index place ∷ path) ws apart = apart_behind path (below (is_plac
 
 order_behind : (path : List Step) (ws : List Written) → AreInOrder ws → AreInOrder (writes_behind path ws)
 order_behind [] ws up = up
-order_behind (Name name ∷ path) ws up = order_behind path (below (is_name name) ws) (order_below (key.Name (record { ref_ptr = (0, 0); now = name })) ws up)
+order_behind (Name name ∷ path) ws up =
+    order_behind path (below (is_name name) ws) (order_below (key.Name (record { ref_ptr = (0, 0); now = name })) ws up)
 order_behind (Index place ∷ path) ws up = order_behind path (below (is_place place) ws) (order_below (key.Place place) ws up)
 
 stands_behind : (path q : List Step) (v : Option Tree) (ws : List Written) (k : ℕ) → slice_get ws k ≡ Some (path ++ q, v)
@@ -48,7 +51,8 @@ begins_less [] q r e = e
 begins_less (s ∷ p) [] r e = refl
 begins_less (s ∷ p) (t ∷ q) r e = one (same_step s t) e (begins_less p q r)
   where
-    one : (b : Bool) → (b && begins p (q ++ r)) ≡ false → (begins p (q ++ r) ≡ false → begins p q ≡ false) → (b && begins p q) ≡ false
+    one : (b : Bool) → (b && begins p (q ++ r)) ≡ false → (begins p (q ++ r) ≡ false → begins p q ≡ false)
+        → (b && begins p q) ≡ false
     one true f later = later f
     one false f later = refl
 
@@ -64,13 +68,16 @@ none_less : (path r : List Step) (ws : List Written) → NoneBegins (path ++ r) 
 none_less path r [] far = tt
 none_less path r (w ∷ ws) far = (begins_less w.0 path r far.0, none_less path r ws far.1)
 
-none_begins_front : (path : List Step) (s : Step) (q : List Step) (v : Option Tree) (ws : List Written) (k : ℕ) → AreApart (paths_of ws)
+none_begins_front : (path : List Step) (s : Step) (q : List Step) (v : Option Tree) (ws : List Written) (k : ℕ)
+    → AreApart (paths_of ws)
     → slice_get ws k ≡ Some (path ++ s ∷ q, v) → NoneBegins path ws
 none_begins_front path s q v [] k apart e = tt
 none_begins_front path s q v (w ∷ ws) zero apart e =
     let same : w ≡ (path ++ s ∷ q, v) = cc in
-    let others : AllByRecursion (λ r. overlap (path ++ s ∷ q) r ≡ false) (paths_of ws) = subst (λ (x : Written). AllByRecursion (λ r. overlap x.0 r ≡ false) (paths_of ws)) same apart.0 in
-    (ap (λ (x : Written). begins x.0 path) same ∙ longer path s q, none_less path (s ∷ q) ws (rest_begins (path ++ s ∷ q) ws others))
+    let others : AllByRecursion (λ r. overlap (path ++ s ∷ q) r ≡ false) (paths_of ws) =
+    subst (λ (x : Written). AllByRecursion (λ r. overlap x.0 r ≡ false) (paths_of ws)) same apart.0 in
+    let first = ap (λ (x : Written). begins x.0 path) same ∙ longer path s q in
+    (first, none_less path (s ∷ q) ws (rest_begins (path ++ s ∷ q) ws others))
 none_begins_front path s q v (w ∷ ws) (suc k) apart e = (
   begins_less w.0 path (s ∷ q) (missed_begins w.0 (path ++ s ∷ q) (apart_at w.0 ws apart.0 k (path ++ s ∷ q, v) e)),
   none_begins_front path s q v ws k apart.1 e,
@@ -87,7 +94,8 @@ found_further (s ∷ p) q t = one (child s t) (found_further p q)
     one None later = refl
     one (Some u) later = later u
 
-element_within : (place : ℕ) (ts : Trees) (o : Option Tree) (u : Tree) (path : List Step) → element_at place ts ≡ o → option_and_then (found_in path) o ≡ Some u → place < count ts
+element_within : (place : ℕ) (ts : Trees) (o : Option Tree) (u : Tree) (path : List Step) → element_at place ts ≡ o
+    → option_and_then (found_in path) o ≡ Some u → place < count ts
 element_within place no_trees None u path here e = cc
 element_within place no_trees (Some t) u path here e = cc
 element_within zero (tree t rest) o u path here e = omega arith
@@ -98,7 +106,8 @@ has_places [] o u e = tt
 has_places (Name name ∷ path) None u e = tt
 has_places (Index place ∷ path) None u e = tt
 has_places (Name name ∷ path) (Some t) u e = has_places path (child (Name name) t) u e
-has_places (Index place ∷ path) (Some (list ts)) u e = (element_within place ts (element_at place ts) u path refl e, has_places path (element_at place ts) u e)
+has_places (Index place ∷ path) (Some (list ts)) u e =
+    (element_within place ts (element_at place ts) u path refl e, has_places path (element_at place ts) u e)
 has_places (Index place ∷ path) (Some (map item)) u e = has_places path None u e
 has_places (Index place ∷ path) (Some (text s)) u e = has_places path None u e
 has_places (Index place ∷ path) (Some (number z)) u e = has_places path None u e
@@ -109,7 +118,8 @@ has_places (Index place ∷ path) (Some (text_set s)) u e = has_places path None
 has_places (Index place ∷ path) (Some (number_set s)) u e = has_places path None u e
 has_places (Index place ∷ path) (Some (binary_set s)) u e = has_places path None u e
 
-pub appends_along_paths : (item : Attributes) (ws : List Written) → IsInOrder (map item) → AreInOrder ws → AreApart (paths_of ws) → AppendsAlongPaths item ws
+pub appends_along_paths : (item : Attributes) (ws : List Written) → IsInOrder (map item) → AreInOrder ws → AreApart (paths_of ws)
+    → AppendsAlongPaths item ws
 appends_along_paths item ws up order apart [] elements place value k there past written = cc
 appends_along_paths item ws up order apart (Index i ∷ path) elements place value k there past written = cc
 appends_along_paths item ws up order apart (Name name ∷ path) elements place value k there past written =
@@ -119,6 +129,8 @@ appends_along_paths item ws up order apart (Name name ∷ path) elements place v
     let on = stands_behind whole (Index place ∷ []) (Some value) ws k written in
     found_further (new_path whole ws) (Index spot ∷ []) (map (item_with_all item ws))
     ∙ ap (option_and_then (found_in (Index spot ∷ [])))
-    (makes_inner_writes item ws up apart whole (none_begins_front whole (Index place) [] (Some value) ws k apart written) (has_places whole (Some (map item)) (list elements) there)
+    (makes_inner_writes item ws up apart whole (none_begins_front whole (Index place) [] (Some value) ws k apart written)
+    (has_places whole (Some (map item)) (list elements) there)
     ∙ ap (option_map (λ t. inside t behind)) there)
-    ∙ ap (option_and_then (found_in [])) (values_are_appended elements behind (order_behind whole ws order) (apart_behind whole ws apart) place value on.0 past on.1)
+    ∙ ap (option_and_then (found_in []))
+    (values_are_appended elements behind (order_behind whole ws order) (apart_behind whole ws apart) place value on.0 past on.1)

@@ -1,9 +1,15 @@
 -- The worked examples compute.
-use Rattle.std.proofs.Common.{refl}
+use Rattle.std.proofs.Common.{refl, lit<}
 use Rattle.write_laws.specs.Worked.{Worked}
 
 pub worked_examples : Worked
 worked_examples = record {
+  apart = ((refl, (refl, tt)), ((refl, tt), (tt, tt)));
+  in_order = ((refl, (refl, tt)), ((refl, tt), (tt, tt)));
+  names_in_order = ((tt, tt), (((tt, (tt, (tt, tt))), (tt, tt)), tt));
+  has_its_places = (lit< tt, tt);
+  has_place = (lit< tt, (lit< tt, tt));
+  keeps_places = (refl, tt);
   removed = refl;
   closed_up = refl;
   in_front = refl;

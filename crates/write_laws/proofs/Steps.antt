@@ -1,5 +1,6 @@
 -- The writes behind a step, where none of the written paths begins another.
-use Rattle.std.proofs.Common.{◌≡◌, ℕ, zero, suc, List, [], ◌∷◌, slice_get, Option, Some, None, Bool, true, false, cond, ◌&&◌, refl, sym, ap, ◌∙◌, subst}
+use Rattle.std.proofs.Common.{◌≡◌, ℕ, zero, suc, List, [], ◌∷◌, slice_get, Option, Some, None, Bool, true, false, cond, ◌&&◌}
+use Rattle.std.proofs.Common.{refl, sym, ap, ◌∙◌, subst}
 use Rattle.std.specs.List.{AllByRecursion}
 use Rattle.base_types.specs.declared.path.Step.{Step}
 use Rattle.base_types.specs.declared.path.Step.TheVariants.{Name, Index}
@@ -11,7 +12,8 @@ use Rattle.item_writes.specs.NewTree.{Written}
 use Rattle.write_laws.specs.PathsThroughLists.{MeetsNone, NoneBegins, begins, writes_behind}
 use Rattle.item_writes.proofs.Apart.{same_step_is, same_step_itself, apart_turned}
 
-pub apart_at : (p : List Step) (ws : List Written) → AllByRecursion (λ q. overlap p q ≡ false) (paths_of ws) → (k : ℕ) (w : Written) → slice_get ws k ≡ Some w → overlap p w.0 ≡ false
+pub apart_at : (p : List Step) (ws : List Written) → AllByRecursion (λ q. overlap p q ≡ false) (paths_of ws)
+    → (k : ℕ) (w : Written) → slice_get ws k ≡ Some w → overlap p w.0 ≡ false
 apart_at p [] apart k w e = cc
 apart_at p (v ∷ ws) apart zero w e = let same : v ≡ w = cc in subst (λ x. overlap p x.0 ≡ false) same apart.0
 apart_at p (v ∷ ws) apart (suc k) w e = apart_at p ws apart.1 k w e
@@ -43,7 +45,8 @@ fails_below test by s q ((t ∷ p, v) ∷ ws) far = one (same_step s t) refl (fa
 pub misses_below : (s : Step) (q : List Step) (ws : List Written) → MeetsNone (s ∷ q) ws → MeetsNone q (below (same_step s) ws)
 misses_below s q ws far = fails_below overlap (λ s t p q. refl) s q ws far
 
-pub none_begins_below : (s : Step) (q : List Step) (ws : List Written) → NoneBegins (s ∷ q) ws → NoneBegins q (below (same_step s) ws)
+pub none_begins_below : (s : Step) (q : List Step) (ws : List Written) → NoneBegins (s ∷ q) ws
+    → NoneBegins q (below (same_step s) ws)
 none_begins_below s q ws far = fails_below begins (λ s t p q. refl) s q ws far
 
 -- a path that does not meet another does not begin it
@@ -82,15 +85,18 @@ pub leads_on : (s : Step) (q : List Step) (v : Option Tree) (ws : List Written) 
 leads_on s q v [] k e = cc
 leads_on s q v (w ∷ ws) zero e =
     let same : w ≡ (s ∷ q, v) = cc in
-    (0, ap (λ x. slice_get (below (same_step s) (x ∷ ws)) 0) same ∙ ap (λ b. slice_get (or_rest (cond b (Some (q, v)) None) (below (same_step s) ws)) 0) (same_step_itself s))
+    let first = ap (λ b. slice_get (or_rest (cond b (Some (q, v)) None) (below (same_step s) ws)) 0) (same_step_itself s) in
+    (0, ap (λ x. slice_get (below (same_step s) (x ∷ ws)) 0) same ∙ first)
 leads_on s q v (w ∷ ws) (suc k) e = one (behind (same_step s) w.0 w.1) (leads_on s q v ws k e)
   where
-    one : (o : Option Written) → (j : ℕ) × (slice_get (below (same_step s) ws) j ≡ Some (q, v)) → (j : ℕ) × (slice_get (or_rest o (below (same_step s) ws)) j ≡ Some (q, v))
+    one : (o : Option Written) → (j : ℕ) × (slice_get (below (same_step s) ws) j ≡ Some (q, v))
+        → (j : ℕ) × (slice_get (or_rest o (below (same_step s) ws)) j ≡ Some (q, v))
     one None found_there = found_there
     one (Some x) found_there = (suc found_there.0, found_there.1)
 
 -- where a written path leads on, no write ends before it
-pub goes_on : (s : Step) (q : List Step) (v : Option Tree) (ws : List Written) → AreApart (paths_of ws) → (k : ℕ) → slice_get ws k ≡ Some (s ∷ q, v) → written_here ws ≡ None
+pub goes_on : (s : Step) (q : List Step) (v : Option Tree) (ws : List Written) → AreApart (paths_of ws) → (k : ℕ)
+    → slice_get ws k ≡ Some (s ∷ q, v) → written_here ws ≡ None
 goes_on s q v [] apart k e = refl
 goes_on s q v ((t ∷ p, u) ∷ ws) apart k e = refl
 goes_on s q v (([], u) ∷ ws) apart zero e =
@@ -104,16 +110,19 @@ only : (b : Bool) → (b && true) ≡ false → b ≡ false
 only true e = e
 only false e = e
 
-skips : (s : Step) (w : Written) (ws : List Written) → overlap w.0 (s ∷ []) ≡ false → below (same_step s) (w ∷ ws) ≡ below (same_step s) ws
+skips : (s : Step) (w : Written) (ws : List Written) → overlap w.0 (s ∷ []) ≡ false
+    → below (same_step s) (w ∷ ws) ≡ below (same_step s) ws
 skips s ([], v) ws e = refl
 skips s (t ∷ p, v) ws e =
     let other : same_step s t ≡ false = only (same_step s t) (apart_turned (t ∷ p) (s ∷ []) e) in
     ap (λ b. or_rest (cond b (Some (p, v)) None) (below (same_step s) ws)) other
 
-pub ends_here : (s : Step) (x : Option Tree) (ws : List Written) → AreApart (paths_of ws) → (k : ℕ) → slice_get ws k ≡ Some (s ∷ [], x) → written_here (below (same_step s) ws) ≡ Some x
+pub ends_here : (s : Step) (x : Option Tree) (ws : List Written) → AreApart (paths_of ws) → (k : ℕ)
+    → slice_get ws k ≡ Some (s ∷ [], x) → written_here (below (same_step s) ws) ≡ Some x
 ends_here s x [] apart k e = cc
 ends_here s x (w ∷ ws) apart zero e =
     let same : w ≡ (s ∷ [], x) = cc in
-    ap (λ v. written_here (below (same_step s) (v ∷ ws))) same ∙ ap (λ b. written_here (or_rest (cond b (Some ([], x)) None) (below (same_step s) ws))) (same_step_itself s)
+    ap (λ v. written_here (below (same_step s) (v ∷ ws))) same
+    ∙ ap (λ b. written_here (or_rest (cond b (Some ([], x)) None) (below (same_step s) ws))) (same_step_itself s)
 ends_here s x (w ∷ ws) apart (suc k) e =
     ap written_here (skips s w ws (apart_at w.0 ws apart.0 k (s ∷ [], x) e)) ∙ ends_here s x ws apart.1 k e

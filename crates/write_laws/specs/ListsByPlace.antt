@@ -1,7 +1,7 @@
 -- What becomes of a list by all writes, place by place.
-use Rattle.std.specs.Prelude.{◌≡◌, ℕ, ◌+◌, ◌-◌, ◌<◌, ◌≤◌, List, [], ◌∷◌, nat_lt, nat_le, ◌==◌, count_by, slice_get, Option, Some, None, Bool, false, ◌&&◌}
+use Rattle.std.specs.Prelude.{◌≡◌, ℕ, ◌+◌, ◌-◌, ◌<◌, ◌≤◌, List, [], ◌∷◌, nat_lt, nat_le, ◌==◌, count_by, slice_get, Some}
+use Rattle.std.specs.Prelude.{None, Bool, false, ◌&&◌, ◌⊎◌}
 use Rattle.std.specs.List.{AllByRecursion}
-use Rattle.base_types.specs.declared.path.Step.{Step}
 use Rattle.base_types.specs.declared.path.Step.TheVariants.{Index}
 use Rattle.attr_value.specs.Paths.{element_at}
 use Rattle.attr_value.specs.Sizes.{count}
@@ -59,7 +59,8 @@ KeepsElements elements ws = (place : ℕ) (old : Tree) → element_at place elem
 -- where a value is written right there, that is what is written
 abbrev pub PutsElements : Trees → List Written → Type 0
 PutsElements elements ws = (place : ℕ) (old value : Tree) (k : ℕ) → element_at place elements ≡ Some old
-    → slice_get ws k ≡ Some (Index place ∷ [], Some value) → element_at (new_place place ws) (list_with_all elements ws) ≡ Some value
+    → slice_get ws k ≡ Some (Index place ∷ [], Some value)
+    → element_at (new_place place ws) (list_with_all elements ws) ≡ Some value
 
 -- the place of a value that is written past the end: behind all that stay and behind those that are written past it before
 abbrev pub appended_place : Trees → ℕ → List Written → ℕ
@@ -67,9 +68,25 @@ appended_place elements place ws = new_place (count elements) ws + count_by (app
 
 -- what is written past the end stands there
 abbrev pub AppendsInOrder : Trees → List Written → Type 0
-AppendsInOrder elements ws = (place : ℕ) (value : Tree) (k : ℕ) → count elements ≤ place → slice_get ws k ≡ Some (Index place ∷ [], Some value)
+AppendsInOrder elements ws =
+    (place : ℕ) (value : Tree) (k : ℕ) → count elements ≤ place → slice_get ws k ≡ Some (Index place ∷ [], Some value)
     → element_at (appended_place elements place ws) (list_with_all elements ws) ≡ Some value
 
--- nothing else stands there: there are as many as stay and as are written past the end
+-- an element that is not taken out has this new place
+abbrev pub StaysAt : Trees → List Written → ℕ → Type 0
+StaysAt elements ws spot = (place : ℕ) × (place < count elements) × Stays place ws × (new_place place ws ≡ spot)
+
+-- the value is written past the end
+abbrev pub IsAppended : Trees → List Written → Tree → Type 0
+IsAppended elements ws value =
+    (place : ℕ) × (k : ℕ) × (count elements ≤ place) × (slice_get ws k ≡ Some (Index place ∷ [], Some value))
+
+-- nothing else stands in the new list
 abbrev pub HasNothingElse : Trees → List Written → Type 0
-HasNothingElse elements ws = count (list_with_all elements ws) ≡ new_place (count elements) ws + count_by (appends (count elements)) ws
+HasNothingElse elements ws = (spot : ℕ) (t : Tree) → element_at spot (list_with_all elements ws) ≡ Some t
+    → StaysAt elements ws spot ⊎ IsAppended elements ws t
+
+-- it has as many elements as stay and as are written past the end
+abbrev pub HasAsMany : Trees → List Written → Type 0
+HasAsMany elements ws =
+    count (list_with_all elements ws) ≡ new_place (count elements) ws + count_by (appends (count elements)) ws

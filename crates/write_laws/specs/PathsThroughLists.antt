@@ -1,5 +1,6 @@
 -- What an item with all writes made has at the end of a path of names and places.
-use Rattle.std.specs.Prelude.{◌≡◌, ℕ, ◌<◌, ◌≤◌, List, [], ◌∷◌, ◌++◌, slice_get, Option, Some, None, option_map, Bool, true, false, ◌&&◌, ⊤}
+use Rattle.std.specs.Prelude.{◌≡◌, ℕ, ◌<◌, ◌≤◌, List, [], ◌∷◌, ◌++◌, slice_get, Option, Some, None, option_map, Bool, true, false}
+use Rattle.std.specs.Prelude.{◌&&◌, ⊤}
 use Rattle.std.specs.List.{AllByRecursion}
 use Rattle.base_types.specs.declared.path.Step.{Step}
 use Rattle.base_types.specs.declared.path.Step.TheVariants.{Name, Index}
@@ -99,10 +100,13 @@ PutsMoved item ws = (step : Step) (path : List Step) (value : Tree) (k : ℕ) �
 -- and at the end of the path itself, where nothing is taken out before its places
 abbrev pub PutsWritten : Attributes → List Written → Type 0
 PutsWritten item ws = (step : Step) (path : List Step) (value : Tree) (k : ℕ) → slice_get ws k ≡ Some (step ∷ path, Some value)
-    → HasPlace (step ∷ path) (Some (map item)) → KeepsPlaces (step ∷ path) ws → found (step ∷ path) (item_with_all item ws) ≡ Some value
+    → HasPlace (step ∷ path) (Some (map item)) → KeepsPlaces (step ∷ path) ws
+    → found (step ∷ path) (item_with_all item ws) ≡ Some value
 
 -- what is written past the end of a list that a path leads to stands in the new list behind all that stay, in order of place
 abbrev pub AppendsAlongPaths : Attributes → List Written → Type 0
-AppendsAlongPaths item ws = (path : List Step) (elements : Trees) (place : ℕ) (value : Tree) (k : ℕ) → found path item ≡ Some (list elements)
+AppendsAlongPaths item ws =
+    (path : List Step) (elements : Trees) (place : ℕ) (value : Tree) (k : ℕ) → found path item ≡ Some (list elements)
     → count elements ≤ place → slice_get ws k ≡ Some (path ++ Index place ∷ [], Some value)
-    → found (new_path path ws ++ Index (appended_place elements place (writes_behind path ws)) ∷ []) (item_with_all item ws) ≡ Some value
+    → found (new_path path ws ++ Index (appended_place elements place (writes_behind path ws)) ∷ []) (item_with_all item ws)
+    ≡ Some value

@@ -1,13 +1,15 @@
 -- Worked examples: what the definitions say of small lists and of paths through them.
-use Rattle.std.specs.Prelude.{◌≡◌, ℕ, List, [], ◌∷◌, codes, count_by, Option, None, Some}
+use Rattle.std.specs.Prelude.{◌≡◌, ℕ, List, [], ◌∷◌, codes, count_by, None, Some}
 use Rattle.base_types.specs.declared.path.Step.{Step}
 use Rattle.base_types.specs.declared.path.Step.TheVariants.{Name, Index}
 use Rattle.attr_value.specs.Paths.{found}
-use Rattle.attr_value.specs.Tree.{Tree, text, list, Trees, no_trees, tree, Attributes, no_attributes, attribute}
+use Rattle.attr_value.specs.Tree.{text, list, map, Trees, no_trees, tree, Attributes, no_attributes, attribute}
+use Rattle.path_entries.specs.Order.{AreInOrder}
+use Rattle.item_writes.specs.Apart.{AreApart, paths_of}
 use Rattle.item_writes.specs.Edits.{item_with_all, list_with_all}
 use Rattle.item_writes.specs.NewTree.{Written}
 use Rattle.write_laws.specs.ListsByPlace.{appends, appends_before, new_place, taken_out_before}
-use Rattle.write_laws.specs.PathsThroughLists.{new_path, writes_behind}
+use Rattle.write_laws.specs.PathsThroughLists.{IsInOrder, HasItsPlaces, HasPlace, KeepsPlaces, new_path, writes_behind}
 
 -- ---- lists and items
 
@@ -69,12 +71,21 @@ past_the_end = (in_list (Index 7 ∷ []), Some (text (codes "d"))) ∷ []
 -- ---- the examples
 
 pub record Worked : Type 0 where
+  -- what the laws ask of writes, of an item and of a path holds here
+  pub apart : AreApart (paths_of mixed)
+  pub in_order : AreInOrder mixed
+  pub names_in_order : IsInOrder (map (item (nested (codes "z") abc)))
+  pub has_its_places : HasItsPlaces (in_list (Index 1 ∷ Index 4 ∷ [])) (Some (map (item abc)))
+  pub has_place : HasPlace (in_list (Index 0 ∷ Index 2 ∷ [])) (Some (map (item (nested (codes "z") abc))))
+  pub keeps_places : KeepsPlaces (in_list (Index 2 ∷ [])) past_the_end
   -- those behind an element that is taken out close up
   pub removed : list_with_all abc second_out ≡ two (codes "a") (codes "c")
   pub closed_up : new_place 2 second_out ≡ 1
   pub in_front : new_place 0 second_out ≡ 0
   -- values past the end come in order of place, without holes
-  pub appended : list_with_all abc two_more ≡ tree (text (codes "a")) (tree (text (codes "b")) (three (codes "c") (codes "d") (codes "e")))
+  pub appended :
+      list_with_all abc two_more
+      ≡ tree (text (codes "a")) (tree (text (codes "b")) (three (codes "c") (codes "d") (codes "e")))
   pub one_before : count_by (appends_before 3 9) two_more ≡ 1
   pub two_in_all : count_by (appends 3) two_more ≡ 2
   -- all at once, by the old places

@@ -6,57 +6,54 @@ ghost use Rattle.attr_value.specs.Tree.{Attributes, Trees};
 ghost use Rattle.path_entries.specs.Order.{AreInOrder};
 ghost use Rattle.item_writes.specs.Apart.{AreApart, paths_of};
 ghost use Rattle.item_writes.specs.NewTree.{Written};
-ghost use Rattle.write_laws.specs.ListsByPlace.{AppendsInOrder, ClosesUp, HasNothingElse, KeepsElements, KeepsOrder, PutsElements};
-ghost use Rattle.write_laws.specs.PathsThroughLists.{AppendsAlongPaths, IsInOrder, KeepsOtherPaths, MakesInnerWrites, MovesOtherPaths, PutsMoved, PutsWritten};
+ghost use Rattle.write_laws.specs.ListsByPlace.{ClosesUp, KeepsElements, KeepsOrder, PutsElements};
+ghost use Rattle.write_laws.specs.ListsByPlace.{AppendsInOrder, HasAsMany, HasNothingElse};
+ghost use Rattle.write_laws.specs.PathsThroughLists.{IsInOrder, MakesInnerWrites, KeepsOtherPaths, MovesOtherPaths};
+ghost use Rattle.write_laws.specs.PathsThroughLists.{AppendsAlongPaths, PutsMoved, PutsWritten};
 ghost use Rattle.write_laws.specs.Worked.{Worked};
 
 /// What becomes of a list by all writes, of which none begins another: the elements that stay keep their order and close
 /// up, each with the writes that lead on from its old place, and behind them stands what is written past the end, in order
 /// of place.
-#[tactic(auto, using(
-    crate::proofs::Places::elements_close_up,
-    crate::proofs::Places::elements_are_kept,
-    crate::proofs::Places::elements_are_put,
-    crate::proofs::Places::values_are_appended,
-    crate::proofs::Places::nothing_else
-))]
 pub fn lists_by_place()
     ensures closes_up { (elements : Trees) (writes : List Written) → AreApart (paths_of writes) → ClosesUp elements writes }
     ensures order { (writes : List Written) → AreApart (paths_of writes) → KeepsOrder writes }
     ensures kept { (elements : Trees) (writes : List Written) → AreApart (paths_of writes) → KeepsElements elements writes }
     ensures put { (elements : Trees) (writes : List Written) → AreApart (paths_of writes) → PutsElements elements writes }
-    ensures appended { (elements : Trees) (writes : List Written) → AreInOrder writes → AreApart (paths_of writes) → AppendsInOrder elements writes }
-    ensures nothing_else { (elements : Trees) (writes : List Written) → AreApart (paths_of writes) → HasNothingElse elements writes }
+    ensures appended { (elements : Trees) (writes : List Written) → AreInOrder writes
+        → AreApart (paths_of writes) → AppendsInOrder elements writes }
+    ensures nothing_else { (elements : Trees) (writes : List Written)
+        → AreApart (paths_of writes) → HasNothingElse elements writes }
+    ensures as_many { (elements : Trees) (writes : List Written) → AreApart (paths_of writes) → HasAsMany elements writes }
 {}
 
 /// At the end of a path that no written path begins stands the old value with the writes that lead on from there: through
 /// maps and lists, where the lists have the path's places. It is found at the path's new places.
 #[tactic(auto, using(crate::proofs::Paths::makes_inner_writes))]
 pub fn inner_writes_are_made()
-    ensures { (item : Attributes) (writes : List Written) → IsInOrder (tree.map item) → AreApart (paths_of writes) → MakesInnerWrites item writes }
+    ensures { (item : Attributes) (writes : List Written) → IsInOrder (tree.map item)
+        → AreApart (paths_of writes) → MakesInnerWrites item writes }
 {}
 
 /// At the end of a path that no written path begins, and that begins none, stands what stood there, where the lists have
 /// the path's places and nothing is taken out before them; and else at the path's new places.
-#[tactic(auto, using(crate::proofs::Paths::keeps_other_paths, crate::proofs::Paths::moves_other_paths))]
 pub fn other_paths_are_kept()
-    ensures in_place { (item : Attributes) (writes : List Written) → IsInOrder (tree.map item) → KeepsOtherPaths item writes }
-    ensures moved { (item : Attributes) (writes : List Written) → IsInOrder (tree.map item) → AreApart (paths_of writes) → MovesOtherPaths item writes }
+    ensures in_place { (item : Attributes) (writes : List Written)
+        → IsInOrder (tree.map item) → KeepsOtherPaths item writes }
+    ensures moved { (item : Attributes) (writes : List Written) → IsInOrder (tree.map item)
+        → AreApart (paths_of writes) → MovesOtherPaths item writes }
 {}
 
 /// At the end of a written path stands what is written, where none of the written paths begins another, the path has a
 /// place (each parent is a map for a name, or a list that has the place) and nothing is taken out before it; and else at
 /// the path's new places. What is written past the end of a list stands in the new one behind all that stay.
-#[tactic(auto, using(
-    crate::proofs::Paths::puts_written,
-    crate::proofs::Paths::puts_moved,
-    crate::proofs::Ends::appends_along_paths
-))]
 pub fn written_values_stand()
-    ensures in_place { (item : Attributes) (writes : List Written) → IsInOrder (tree.map item) → AreApart (paths_of writes) → PutsWritten item writes }
-    ensures moved { (item : Attributes) (writes : List Written) → IsInOrder (tree.map item) → AreApart (paths_of writes) → PutsMoved item writes }
-    ensures appended { (item : Attributes) (writes : List Written) → IsInOrder (tree.map item) → AreInOrder writes → AreApart (paths_of writes)
-        → AppendsAlongPaths item writes }
+    ensures in_place { (item : Attributes) (writes : List Written) → IsInOrder (tree.map item)
+        → AreApart (paths_of writes) → PutsWritten item writes }
+    ensures moved { (item : Attributes) (writes : List Written) → IsInOrder (tree.map item)
+        → AreApart (paths_of writes) → PutsMoved item writes }
+    ensures appended { (item : Attributes) (writes : List Written)
+        → IsInOrder (tree.map item) → AreInOrder writes → AreApart (paths_of writes) → AppendsAlongPaths item writes }
 {}
 
 /// The worked examples hold.
