@@ -27,16 +27,16 @@ pub fn lists_by_place()
     ensures as_many { (elements : Trees) (writes : List Written) → AreApart (paths_of writes) → HasAsMany elements writes }
 {}
 
-/// At the end of a path that no written path begins stands the old value with the writes that lead on from there: through
-/// maps and lists, where the lists have the path's places. It is found at the path's new places.
+/// What stood at the end of a path that no written path begins stands at the end of the new path, with the writes that lead
+/// on from there: through maps and lists, of which the lists have the path's places.
 #[tactic(auto, using(crate::proofs::Paths::makes_inner_writes))]
 pub fn inner_writes_are_made()
     ensures { (item : Attributes) (writes : List Written) → IsInOrder (tree.map item)
         → AreApart (paths_of writes) → MakesInnerWrites item writes }
 {}
 
-/// At the end of a path that no written path begins, and that begins none, stands what stood there, where the lists have
-/// the path's places and nothing is taken out before them; and else at the path's new places.
+/// What stood at the end of a path that no written path begins, and that begins none, stands there still, where nothing is
+/// taken out before its places, and else at the end of the new path. The lists along the path have its places.
 pub fn other_paths_are_kept()
     ensures in_place { (item : Attributes) (writes : List Written)
         → IsInOrder (tree.map item) → KeepsOtherPaths item writes }
@@ -44,9 +44,9 @@ pub fn other_paths_are_kept()
         → AreApart (paths_of writes) → MovesOtherPaths item writes }
 {}
 
-/// At the end of a written path stands what is written, where none of the written paths begins another, the path has a
-/// place (each parent is a map for a name, or a list that has the place) and nothing is taken out before it; and else at
-/// the path's new places. What is written past the end of a list stands in the new one behind all that stay.
+/// What is written stands at the end of its path, where nothing is taken out before its places, and else at the end of the
+/// new path. None of the written paths begins another, and each parent is a map for a name, or a list that has the place.
+/// What is written past the end of a list stands in the new one behind all that stay, in order of place.
 pub fn written_values_stand()
     ensures in_place { (item : Attributes) (writes : List Written) → IsInOrder (tree.map item)
         → AreApart (paths_of writes) → PutsWritten item writes }
