@@ -2,6 +2,7 @@ use crate::run;
 use base_types::{Bytes, Seq};
 use ddb_outside::{ListClock, MemListener, MemSink, MemSource, StepClock};
 use std::alloc::Global;
+use std::process::Abort;
 use std::sync::Wait;
 use std::test::Fail;
 use std::thread::Threads;
@@ -38,6 +39,26 @@ const REFUSED: &str =
 const USAGE: &str =
     "usage: ddb_server stdio|serve|load [--partitions N] [--port N] [--workers N] [--start N] [--clients N] [--count N]\n";
 
+// One run of the program: its words, what comes in and in what pieces, which calls of the outside fail, and what its clock tells.
+#[derive(Clone, Copy)]
+struct Scene<'a> {
+    words: &'a [&'a str],
+    input: &'a str,
+    piece: usize,
+    failing_reads: &'a [u64],
+    failing_writes: &'a [u64],
+    moments: &'a [u64],
+}
+
+const STDIO: Scene<'static> = Scene {
+    words: &["stdio"],
+    input: "",
+    piece: 4_096,
+    failing_reads: &[],
+    failing_writes: &[],
+    moments: &[],
+};
+
 fn numbers(alloc: Global, from: &[u64]) -> Result<Seq<u64>, Fail> {
     Ok(Seq::from(Vec::from_slice(alloc, from)?))
 }
@@ -55,42 +76,54 @@ fn nobody(alloc: Global) -> Result<MemListener, Fail> {
     Ok(MemListener::make(alloc, Seq::new(alloc), 1, Seq::new(alloc))?)
 }
 
-// The status and the output of `stdio` over an input that comes in pieces.
-fn stdio<R: AllocGlobal + Threads + Wait + Sync>(
+// The status of a run, and what it wrote.
+fn ran<R: AllocGlobal + Threads + Wait + Sync>(
     rt: &R,
-    input: &str,
-    piece: usize,
+    scene: &Scene<'_>,
 ) -> Result<(u8, String), Fail> {
     let alloc = rt.alloc();
-    let content = Bytes::copied(alloc, input.as_bytes())?;
-    let mut source = MemSource::make(content, piece.max(1), Seq::new(alloc));
-    let mut sink = MemSink::make(alloc, piece.max(1), Seq::new(alloc));
-    let mut clock = StepClock::make(0, 0);
+    let words = words(alloc, scene.words)?;
+    let content = Bytes::copied(alloc, scene.input.as_bytes())?;
+    let piece = scene.piece.max(1);
+    let mut source = MemSource::make(content, piece, numbers(alloc, scene.failing_reads)?);
+    let mut sink = MemSink::make(alloc, piece, numbers(alloc, scene.failing_writes)?);
+    let mut clock = ListClock::make(numbers(alloc, scene.moments)?);
     let status = run(
         rt,
-        words(alloc, &["stdio", "--partitions=4"])?.as_slice(),
+        words.as_slice(),
         &mut source,
         &mut sink,
         &mut clock,
         &mut nobody(alloc)?,
     );
-    Ok((
-        status,
-        String::from_utf8(Vec::from(sink.into_parts().0))
-            .ok()
-            .ok_or("text")?,
-    ))
+    let written = Vec::from(sink.into_parts().0);
+    Ok((status, String::from_utf8(written).ok().ok_or("text")?))
+}
+
+fn assert_ran<R: AllocGlobal + Threads + Wait + Sync + Abort>(
+    rt: &R,
+    scene: &Scene<'_>,
+    status: u8,
+    output: &str,
+) -> Result<(), Fail> {
+    let (ended, written) = ran(rt, scene)?;
+    assert!(rt; ended == status, "{ended} where {status} is wanted");
+    assert!(rt; written.as_str() == output, "{written}");
+    Ok(())
 }
 
 #[test]
 fn pieces(rt: HostRuntime) -> Result<(), Fail> {
-    let alloc = rt.alloc();
-    let twice = format!(in alloc; "{MUSIC}{MUSIC}")?;
-    let both = format!(in alloc; "{MUSIC_MADE}{MUSIC_EXISTS}")?;
+    let input = format!(in rt.alloc(); "{MUSIC}{MUSIC}")?;
+    let output = format!(in rt.alloc(); "{MUSIC_MADE}{MUSIC_EXISTS}")?;
     for piece in [1, 2, 3, 7, 4_096] {
-        let (status, output) = stdio(&rt, twice.as_str(), piece)?;
-        assert_eq!(rt; status, 0);
-        assert_eq!(rt; output.as_str(), both.as_str());
+        let scene = Scene {
+            words: &["stdio", "--partitions=4"],
+            input: input.as_str(),
+            piece,
+            ..STDIO
+        };
+        assert_ran(&rt, &scene, 0, output.as_str())?;
     }
     Ok(())
 }
@@ -98,10 +131,9 @@ fn pieces(rt: HostRuntime) -> Result<(), Fail> {
 #[test]
 fn fronts(rt: HostRuntime) -> Result<(), Fail> {
     for end in 0..MUSIC.len() {
-        let front = MUSIC.get(..end).ok_or("ASCII")?;
-        let (status, output) = stdio(&rt, front, 4_096)?;
-        assert_eq!(rt; status, if end == 0 { 0 } else { 5 });
-        assert_eq!(rt; output.as_str(), "");
+        let input = MUSIC.get(..end).ok_or("ASCII")?;
+        let status = if end == 0 { 0 } else { 5 };
+        assert_ran(&rt, &Scene { input, ..STDIO }, status, "")?;
     }
     Ok(())
 }
@@ -109,13 +141,9 @@ fn fronts(rt: HostRuntime) -> Result<(), Fail> {
 #[test]
 fn refusal(rt: HostRuntime) -> Result<(), Fail> {
     let input = format!(in rt.alloc(); "{MUSIC}GET / HTTP/1.1\r\n\r\n{MUSIC}")?;
-    let (status, output) = stdio(&rt, input.as_str(), 4_096)?;
-    assert_eq!(rt; status, 0);
-    assert_eq!(rt;
-        output.as_str(),
-        format!(in rt.alloc(); "{MUSIC_MADE}{REFUSED}")?.as_str()
-    );
-    Ok(())
+    let output = format!(in rt.alloc(); "{MUSIC_MADE}{REFUSED}")?;
+    let input = input.as_str();
+    assert_ran(&rt, &Scene { input, ..STDIO }, 0, output.as_str())
 }
 
 #[test]
@@ -124,66 +152,24 @@ fn last_message(rt: HostRuntime) -> Result<(), Fail> {
     let input = format!(in rt.alloc(); "{start}Connection: close\r\nHost{rest}{MUSIC}")?;
     let (head, body) = MUSIC_MADE.split_once("\r\n\r\n").ok_or("head")?;
     let output = format!(in rt.alloc(); "{head}\r\nConnection: close\r\n\r\n{body}")?;
-    let (status, written) = stdio(&rt, input.as_str(), 4_096)?;
-    assert_eq!(rt; status, 0);
-    assert_eq!(rt; written.as_str(), output.as_str());
-    Ok(())
-}
-
-// The status of `stdio` over one message and the bytes written, where these reads and these writes fail.
-fn failing<R: AllocGlobal + Threads + Wait + Sync>(
-    rt: &R,
-    reads: &[u64],
-    writes: &[u64],
-) -> Result<(u8, Bytes), Fail> {
-    let alloc = rt.alloc();
-    let content = Bytes::copied(alloc, MUSIC.as_bytes())?;
-    let mut source = MemSource::make(content, 4_096, numbers(alloc, reads)?);
-    let mut sink = MemSink::make(alloc, 4_096, numbers(alloc, writes)?);
-    let mut clock = StepClock::make(0, 0);
-    let words = words(alloc, &["stdio"])?;
-    let status = run(
-        rt,
-        words.as_slice(),
-        &mut source,
-        &mut sink,
-        &mut clock,
-        &mut nobody(alloc)?,
-    );
-    Ok((status, sink.into_parts().0))
+    let input = input.as_str();
+    assert_ran(&rt, &Scene { input, ..STDIO }, 0, output.as_str())
 }
 
 #[test]
 fn faults(rt: HostRuntime) -> Result<(), Fail> {
-    let (status, written) = failing(&rt, &[1], &[])?;
-    assert_eq!(rt; status, 1);
-    assert_eq!(rt; written.as_slice(), MUSIC_MADE.as_bytes());
-    let (status, written) = failing(&rt, &[], &[0])?;
-    assert_eq!(rt; status, 3);
-    assert!(rt; written.is_empty());
-    Ok(())
-}
-
-// The status and the bytes written with these words, where these writes fail.
-fn refused_words<R: AllocGlobal + Threads + Wait + Sync>(
-    rt: &R,
-    from: &[&str],
-    writes: &[u64],
-) -> Result<(u8, Bytes), Fail> {
-    let alloc = rt.alloc();
-    let mut source = MemSource::make(Bytes::from(Vec::new(alloc)), 1, Seq::new(alloc));
-    let mut sink = MemSink::make(alloc, 7, numbers(alloc, writes)?);
-    let mut clock = StepClock::make(0, 0);
-    let words = words(alloc, from)?;
-    let status = run(
-        rt,
-        words.as_slice(),
-        &mut source,
-        &mut sink,
-        &mut clock,
-        &mut nobody(alloc)?,
-    );
-    Ok((status, sink.into_parts().0))
+    let scene = Scene {
+        input: MUSIC,
+        failing_reads: &[1],
+        ..STDIO
+    };
+    assert_ran(&rt, &scene, 1, MUSIC_MADE)?;
+    let scene = Scene {
+        input: MUSIC,
+        failing_writes: &[0],
+        ..STDIO
+    };
+    assert_ran(&rt, &scene, 3, "")
 }
 
 #[test]
@@ -196,15 +182,16 @@ fn other_words(rt: HostRuntime) -> Result<(), Fail> {
         &["load", "--count", "1"],
         &["help"],
     ];
-    for case in cases {
-        let (status, written) = refused_words(&rt, case, &[])?;
-        assert_eq!(rt; status, 2);
-        assert_eq!(rt; written.as_slice(), USAGE.as_bytes());
+    for words in cases {
+        assert_ran(&rt, &Scene { words, ..STDIO }, 2, USAGE)?;
     }
-    let (status, written) = refused_words(&rt, &[], &[1])?;
-    assert_eq!(rt; status, 3);
-    assert_eq!(rt; written.as_slice(), b"usage: ".as_slice());
-    Ok(())
+    let scene = Scene {
+        words: &[],
+        piece: 7,
+        failing_writes: &[1],
+        ..STDIO
+    };
+    assert_ran(&rt, &scene, 3, "usage: ")
 }
 
 // A message with this target and this body.
@@ -236,9 +223,10 @@ fn limit_of_tables(rt: HostRuntime) -> Result<(), Fail> {
     }
     let body = create_table(alloc, "table7")?;
     input.push_str(message(alloc, TARGET, body.as_str())?.as_str())?;
-    let (status, output) = stdio(&rt, input.as_str(), 4_096)?;
-    assert_eq!(rt; status, 0);
-    assert_eq!(rt; output.as_str().matches("HTTP/1.1 200 OK\r\n").count(), 256);
+    let input = input.as_str();
+    let (status, output) = ran(&rt, &Scene { input, ..STDIO })?;
+    assert!(rt; status == 0);
+    assert!(rt; output.as_str().matches("HTTP/1.1 200 OK\r\n").count() == 256);
     let replies =
         "HTTP/1.1 400 Bad Request\r\nContent-Type: application/x-amz-json-1.0\r\nContent-Length: 101\r\n\
         x-amzn-RequestId: 00000000000000000000000000000257\r\n\r\n\
@@ -258,36 +246,16 @@ fn moments(rt: HostRuntime) -> Result<(), Fail> {
         let body = create_table(alloc, name)?;
         input.push_str(message(alloc, TARGET, body.as_str())?.as_str())?;
     }
-    let mut source = MemSource::make(
-        Bytes::copied(alloc, input.as_bytes())?,
-        4_096,
-        Seq::new(alloc),
-    );
-    let mut sink = MemSink::make(alloc, 4_096, Seq::new(alloc));
-    // The clock goes back at the second message, and the moment stays.
-    let mut clock = ListClock::make(numbers(alloc, &[7_999_999, 5_000_000, 8_000_000])?);
-    assert_eq!(rt;
-        run(
-            &rt,
-            words(alloc, &["stdio"])?.as_slice(),
-            &mut source,
-            &mut sink,
-            &mut clock,
-            &mut nobody(alloc)?
-        ),
-        0
-    );
-    let output = String::from_utf8(Vec::from(sink.into_parts().0))
-        .ok()
-        .ok_or("text")?;
-    assert_eq!(rt;
-        output.as_str().matches("\"CreationDateTime\":7,").count(),
-        2
-    );
-    assert_eq!(rt;
-        output.as_str().matches("\"CreationDateTime\":8,").count(),
-        1
-    );
+    let scene = Scene {
+        input: input.as_str(),
+        // The clock goes back at the second message, and the moment stays.
+        moments: &[7_999_999, 5_000_000, 8_000_000],
+        ..STDIO
+    };
+    let (status, output) = ran(&rt, &scene)?;
+    assert!(rt; status == 0);
+    assert!(rt; output.as_str().matches("\"CreationDateTime\":7,").count() == 2);
+    assert!(rt; output.as_str().matches("\"CreationDateTime\":8,").count() == 1);
     Ok(())
 }
 
@@ -341,16 +309,16 @@ fn serve<R: AllocGlobal + Threads + Wait + Sync>(
 #[test]
 fn connections(rt: HostRuntime) -> Result<(), Fail> {
     let (status, listener) = serve(&rt, &[])?;
-    assert_eq!(rt; status, 0);
+    assert!(rt; status == 0);
     // In order of worker: the first has the first and the third connection.
     let tables = ["one", "three", "two", "four"];
-    assert_eq!(rt; listener.outputs().len(), tables.len());
+    assert!(rt; listener.outputs().len() == tables.len());
     for (output, table) in listener.outputs().iter().zip(tables) {
         let output = std::str::from_utf8(output.as_slice()).ok().ok_or("text")?;
         assert!(rt; output.ends_with(PUT_AND_READ), "{table}");
         let name = format!(in rt.alloc(); "\"TableName\":\"{table}\"")?;
-        assert_eq!(rt; output.matches(name.as_str()).count(), 1);
-        assert_eq!(rt; output.matches("HTTP/1.1 200 OK\r\n").count(), 3);
+        assert!(rt; output.matches(name.as_str()).count() == 1);
+        assert!(rt; output.matches("HTTP/1.1 200 OK\r\n").count() == 3);
     }
     Ok(())
 }
@@ -360,8 +328,8 @@ fn refused_listening(rt: HostRuntime) -> Result<(), Fail> {
     // The port is refused; then the second share is.
     for failing in [[0], [2]] {
         let (status, listener) = serve(&rt, &failing)?;
-        assert_eq!(rt; status, 4);
-        assert_eq!(rt; listener.outputs().len(), 0);
+        assert!(rt; status == 4);
+        assert!(rt; listener.outputs().is_empty());
     }
     Ok(())
 }
