@@ -172,21 +172,28 @@ fn faults(rt: HostRuntime) -> Result<(), Fail> {
     assert_ran(&rt, &scene, 3, "")
 }
 
+// Words that state no command.
+static OTHER_WORDS: [&[&str]; 6] = [
+    &[],
+    &["stdio", "--"],
+    &["stdio", "stdio"],
+    &["serve", "--workers", "63"],
+    &["load", "--count", "1"],
+    &["help"],
+];
+
 #[test]
 fn other_words(rt: HostRuntime) -> Result<(), Fail> {
-    let cases: [&[&str]; 6] = [
-        &[],
-        &["stdio", "--"],
-        &["stdio", "stdio"],
-        &["serve", "--workers", "63"],
-        &["load", "--count", "1"],
-        &["help"],
-    ];
-    for words in cases {
+    for words in OTHER_WORDS {
         assert_ran(&rt, &Scene { words, ..STDIO }, 2, USAGE)?;
     }
+    Ok(())
+}
+
+#[test]
+fn usage_cut_off(rt: HostRuntime) -> Result<(), Fail> {
     let scene = Scene {
-        words: &[],
+        words: OTHER_WORDS[0],
         piece: 7,
         failing_writes: &[1],
         ..STDIO
