@@ -12,8 +12,9 @@
 //! entries of the cell and of its own pass, and the law `goes_on` of the world has to make do with that.
 //!
 //! A turn can't be dropped: it must be left. Nothing is promised of waiting. Who wants a turn that others are after looks
-//! again later and later, draws a ticket in the end, looks a hundred times more and then sleeps; who leaves wakes the
-//! holder of the next ticket where it sleeps.
+//! again later and later, then sleeps without a ticket, and draws one when it finds nobody after the turn, was woken or has
+//! slept for 10 milliseconds; with it, it looks a hundred times more and then sleeps. Who leaves wakes the holder of the next
+//! ticket where it sleeps, and where nobody has that ticket one of those that sleep without.
 #![tactic(auto)]
 
 mod bells;

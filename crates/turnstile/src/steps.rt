@@ -9,7 +9,7 @@ ghost use Rattle.turnstile.specs.Passes.{IsSized};
 
 use crate::bells::Bells;
 use crate::board::{Board, Count, Draw, Gather, Learn, Leave, Look, Note, Place};
-use crate::waiting::{pause, sleep};
+use crate::waiting::{call, pause, sleep};
 use crate::world::{EntryOf, World};
 use std::sync::Wait;
 
@@ -80,7 +80,7 @@ pub fn count<W: World, E: EntryOf<W, W::Entry>>(board: &Board<W>, place: &mut Pl
     board.shared.fetch_add::<Count<W, E>>(place, 0, 1);
 }
 
-/// Puts the value back, serves the next ticket, and wakes who has it.
+/// Puts the value back, serves the next ticket, and wakes who has it or waits for one.
 pub fn put_back<W: World>(
     board: &Board<W>,
     bells: &Bells,
@@ -105,7 +105,7 @@ pub fn put_back<W: World>(
     let slot = place.slot_mut(&board.shared, cell);
     slot.replace(Some(value));
     board.shared.store::<Leave>(place, 24 + 16 * cell, next);
-    bells.of(cell, next).ring();
+    call(board, bells, cell, next);
 }
 
 // Lets `place` learn what `other` has seen.

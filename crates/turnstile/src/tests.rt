@@ -1,4 +1,4 @@
-ghost use Rattle.std.specs.Prelude.{◌≡◌, ◌+◌, ◌<◌, ◌≤◌, ◌%◌, ◌^◌, ℕ, true, false, [], ◌∷◌, ◌++◌, Some, None, IfOk, sum_by, length, slice_get};
+ghost use Rattle.std.specs.Prelude.{◌≡◌, ◌+◌, ◌<◌, ◌≤◌, ◌%◌, ◌^◌, ℕ, true, false, [], ◌∷◌, ◌++◌, Some, None, IfOk, IfSome, sum_by, length, slice_get};
 ghost use Rattle.turnstile.specs.Passes.{HoldsAll};
 ghost use Rattle.turnstile.specs.Histories.{at_cell};
 ghost use Rattle.turnstile.specs.Kept.{ticket};
@@ -343,22 +343,29 @@ fn hold<R: Wait>(
     seen
 }
 
-// Adds 1 to the cell, once the turn of the cell 0 is held.
+// Adds 1 to the cell, or counts an entry of all cells, once the turn of the cell 0 is held.
 fn visit<R: Wait>(
     turnstile: &Turnstile<Counters>,
     pass: Pass<Counters>,
     rt: &R,
     flags: &Flags,
-    cell: u32,
+    alloc: Global,
+    cell: Option<u32>,
 )
     requires of { pass.turnstile ≡ turnstile.now.id }
     requires free { pass.turns ≡ [] }
-    requires cell { cell < turnstile.now.id.slots }
+    requires cells { 3 ≤ turnstile.now.id.slots }
+    requires cell { IfSome cell (λ c. c < 3) }
 {
     let mut pass = pass;
-    if is_raised(&flags.held, ROUNDS) && add(turnstile, &mut pass, rt, cell, 1).is_ok() {
-        flags.done.store(true, Ordering::SeqCst);
+    if !is_raised(&flags.held, ROUNDS) {
+        return;
     }
+    let has_come = match cell {
+        Some(cell) => add(turnstile, &mut pass, rt, cell, 1).is_ok(),
+        None => touch_all(turnstile, &mut pass, rt, alloc).is_ok(),
+    };
+    flags.done.store(has_come, Ordering::SeqCst);
 }
 
 // Whether the visitor was done within the rounds, and whether it was done in the end.
@@ -367,12 +374,14 @@ fn visited<R: Wait + Threads + Sync>(
     turnstile: &Turnstile<Counters>,
     one: Pass<Counters>,
     two: Pass<Counters>,
-    cell: u32,
+    alloc: Global,
+    cell: Option<u32>,
     rounds: u32,
 ) -> (bool, bool)
     requires of { (one.turnstile ≡ turnstile.now.id) × (two.turnstile ≡ turnstile.now.id) }
     requires free { (one.turns ≡ []) × (two.turns ≡ []) }
-    requires cells { (3 ≤ turnstile.now.id.slots) × (cell < turnstile.now.id.slots) }
+    requires cells { 3 ≤ turnstile.now.id.slots }
+    requires cell { IfSome cell (λ c. c < 3) }
 {
     let flags = Flags {
         held: AtomicBool::new(false),
@@ -385,38 +394,48 @@ fn visited<R: Wait + Threads + Sync>(
             requires { (one.turnstile ≡ turnstile.now.id) × (one.turns ≡ []) × (3 ≤ turnstile.now.id.slots) }
         { hold(turnstile, one, rt, shared, rounds) },
         move ||
-            requires { (two.turnstile ≡ turnstile.now.id) × (two.turns ≡ []) × (cell < turnstile.now.id.slots) }
-        { visit(turnstile, two, rt, shared, cell) },
+            requires { (two.turnstile ≡ turnstile.now.id) × (two.turns ≡ []) × (3 ≤ turnstile.now.id.slots) × IfSome cell (λ c. c < 3) }
+        { visit(turnstile, two, rt, shared, alloc, cell) },
     );
     (seen, shared.done.load(Ordering::SeqCst))
 }
 
-// The visit of a cell while the turn of the cell 0 is held.
+// The visit of a cell, or of all of them, while the turn of the cell 0 is held.
 fn visited_of_three<R: Wait + Threads + Sync>(
     rt: &R,
     alloc: Global,
-    cell: u32,
+    cell: Option<u32>,
     rounds: u32,
 ) -> Result<(bool, bool), Fail>
-    requires { cell < 3 }
+    requires { IfSome cell (λ c. c < 3) }
 {
     let cells = vec![in alloc; 0, 0, 0]?;
     let (turnstile, passes) = Turnstile::<Counters>::make(alloc, Seq::from(cells), 2)?;
     let mut passes: Vec<Pass<Counters>> = passes.into();
     let two = passes.pop().ok_or("the second pass")?;
     let one = passes.pop().ok_or("the first pass")?;
-    Ok(visited(rt, &turnstile, one, two, cell, rounds))
+    Ok(visited(rt, &turnstile, one, two, alloc, cell, rounds))
 }
 
 #[test]
 fn cells_apart(rt: HostRuntime) -> Result<(), Fail> {
-    assert_eq!(rt; visited_of_three(&rt, rt.alloc(), 1, ROUNDS)?, (true, true));
+    let visited = visited_of_three(&rt, rt.alloc(), Some(1), ROUNDS)?;
+    assert_eq!(rt; visited, (true, true));
     Ok(())
 }
 
-// The visitor comes in only when the turn is left, and is woken for it.
+// The visitor comes in only when the turn is left. It waits outside the queue, where it would in the end look again unwoken.
 #[test]
 fn turn_waited_for(rt: HostRuntime) -> Result<(), Fail> {
-    assert_eq!(rt; visited_of_three(&rt, rt.alloc(), 0, LONG)?, (false, true));
+    let visited = visited_of_three(&rt, rt.alloc(), Some(0), LONG)?;
+    assert_eq!(rt; visited, (false, true));
+    Ok(())
+}
+
+// So does one that waits with a ticket, which sleeps until it is woken: without that this would not end.
+#[test]
+fn turns_waited_for(rt: HostRuntime) -> Result<(), Fail> {
+    let visited = visited_of_three(&rt, rt.alloc(), None, LONG)?;
+    assert_eq!(rt; visited, (false, true));
     Ok(())
 }

@@ -86,7 +86,7 @@ impl<W: World> Turnstile<W> {
             return Err(Spent);
         }
         pass.used += 1;
-        approach(&self.table, rt, cell as usize);
+        approach(&self.table, &self.bells, rt, cell as usize);
         let number = draw(&self.table, &mut pass.seat, cell as usize);
         let value = wait(
             &self.table,

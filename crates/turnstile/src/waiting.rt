@@ -7,16 +7,9 @@ use crate::board::Board;
 use crate::world::World;
 use std::hint;
 use std::sync::Wait;
-use std::time::Duration;
 
-/// How often a thread looks for a cell that nobody waits for, before it naps.
-const LOOKS: u32 = 8;
-
-/// How often it naps, before it draws a ticket.
-const NAPS: u32 = 6;
-
-/// How long the first nap is, in microseconds. Each is twice as long as the one before.
-const FIRST_NAP: u64 = 50;
+/// How often a thread looks for a cell that nobody waits for, before it sleeps: some 28 µs in all.
+const LOOKS: u32 = 9;
 
 /// Spins, some 50 ns a round on the processors of the day.
 pub fn pause(count: u64) {
@@ -48,26 +41,36 @@ fn hover<W: World>(board: &Board<W>, cell: usize) -> bool
     false
 }
 
-/// Keeps a thread out of the queue of a cell while others are in it, for some milliseconds at most.
-/// Tickets are served in order, so one that was drawn by a thread that is not running holds up all
-/// behind it. Threads that come back a little later leave those that run to take turn after turn;
-/// and since others may then come first each time, a thread draws a ticket in the end all the same.
-pub fn approach<W: World, R: Wait>(board: &Board<W>, rt: &R, cell: usize)
+/// Keeps a thread out of the queue of a cell while others are in it. Tickets are served in order, so one that was drawn by
+/// a thread that is not running holds up all behind it. A thread that sleeps outside leaves those that run to take turn
+/// after turn, until one that leaves wakes it or it has slept for long; and since others may then have come first, it draws
+/// a ticket all the same, now that it runs.
+pub fn approach<W: World, R: Wait>(board: &Board<W>, bells: &Bells, rt: &R, cell: usize)
     requires sized { IsSized board.now.shared.table_id board.now.shared.key }
     requires cell { cell < board.now.shared.table_id.slots }
 {
     if hover(board, cell) {
         return;
     }
-    for nap in 0..NAPS {
-        let served = board.shared.peek(24 + 16 * cell);
-        if board.shared.peek(16 + 16 * cell) == served {
-            return;
-        }
-        let long = Duration::from_micros(FIRST_NAP << nap);
-        board
-            .shared
-            .park_timeout(rt, 24 + 16 * cell, (served & 0xffff_ffff) as u32, long);
+    let lot = bells.lot(cell);
+    lot.announce();
+    if is_idle(board, cell) {
+        return;
+    }
+    lot.park(rt);
+    lot.announce();
+}
+
+/// Wakes who has the ticket that is served where it sleeps. Where nobody has it, wakes one of those that sleep outside:
+/// where somebody has, that one does as it leaves.
+pub fn call<W: World>(board: &Board<W>, bells: &Bells, cell: usize, served: u64)
+    requires sized { IsSized board.now.shared.table_id board.now.shared.key }
+    requires cell { cell < board.now.shared.table_id.slots }
+{
+    bells.of(cell, served).ring();
+    let lot = bells.lot(cell);
+    if lot.has_waiters() && board.shared.peek(16 + 16 * cell) == served {
+        lot.unpark_one();
     }
 }
 

@@ -3,7 +3,7 @@ pub trait World {
     ghost use Rattle.std.specs.Prelude.{◌≡◌, ◌<◌, ℕ, List, [], ◌∷◌, ◌++◌, Option};
     ghost use Rattle.turnstile.specs.Histories.{Trail, IsBeginning, SeesAll};
 
-    /// What lies behind a turn.
+    /// What lies behind a turn. A turn moves it out of its slot and back, so a large one should lie in a box.
     type Cell: Drop;
 
     /// One event.
