@@ -1,7 +1,8 @@
 -- Bytes and levels of what is made are those of its parts.
-use Rattle.std.proofs.Common.{◌≡◌, ℕ, suc, ◌+◌, max, length, List, [], ◌∷◌, nat_lt, nat_cmp, Option, Some, None, option_and_then, Bool, true, false, ◌==◌, cond, ◌&&◌, bytes_eq, Ordering, Less, Equal, Greater, is_eq, refl, sym, ap, ◌∙◌, subst, arith}
+use Rattle.std.proofs.Common.{◌≡◌, ℕ, suc, ◌+◌, max, length, List, [], ◌∷◌, nat_lt, nat_cmp, Option, Some, None, option_and_then, Bool, true, false, ◌==◌, cond, ◌&&◌, bytes_eq, Ordering, Less, Equal, Greater, is_eq, sum_by, refl, sym, ap, ◌∙◌, subst, arith}
 use Rattle.std.proofs.Math.Logic.{inl, inr}
 use Rattle.std.proofs.lemmas.Bool.Decides.{Decides-eqb}
+use Rattle.std.proofs.lemmas.List.Sums.{sum_by-cons}
 use Rattle.std.proofs.lemmas.Map.Text.{is_eq-slice_cmp}
 use Rattle.std.proofs.lemmas.Slice.Eq.{bytes_eq-Decides}
 use Rattle.std.specs.Cmp.Lexicographic.{slice_cmp}
@@ -14,6 +15,8 @@ use Rattle.attr_value.specs.Paths.{put, kept_attribute, kept_element, value_at}
 use Rattle.attr_value.specs.Sizes.{size, depth, list_size, elements_depth, attribute_count, item_size, item_depth}
 use Rattle.attr_value.specs.Tree.{Tree, text, number, binary, boolean, null, list, map, text_set, number_set, binary_set}
 use Rattle.attr_value.specs.Tree.{Trees, no_trees, tree, Attributes, no_attributes, attribute, AreInOrder as AreNamesInOrder}
+use Rattle.attr_value.specs.View.{tree_of, trees_of}
+use Rattle.attr_value.specs.declared.value.Value.{Value}
 use Rattle.path_entries.specs.Entries.{below, behind, is_name, is_place, or_rest}
 use Rattle.item_writes.specs.Apart.{same_step, overlap, AreApart, paths_of}
 use Rattle.item_writes.specs.NewTree.{Written}
@@ -124,6 +127,11 @@ append_levels end (Index place ∷ next ∷ steps) o rest = omega arith
 pub onto_size : (ts us : Trees) → list_size (onto ts us) ≡ list_size ts + list_size us
 onto_size no_trees us = omega arith
 onto_size (tree t ts) us = omega (arith, onto_size ts us)
+
+-- the bytes of a list, element by element
+pub elements_sum : (vs : List Value) → sum_by (λ v. 1 + size (tree_of v)) vs ≡ list_size (trees_of vs)
+elements_sum [] = refl
+elements_sum (v ∷ vs) = omega (arith, sum_by-cons (λ u. 1 + size (tree_of u)) v vs, elements_sum vs)
 
 pub onto_levels : (ts us : Trees) → elements_depth (onto ts us) ≡ max (elements_depth ts) (elements_depth us)
 onto_levels no_trees us = omega arith

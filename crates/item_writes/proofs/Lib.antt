@@ -4,4 +4,5 @@ pub mod Apart
 pub mod ByName
 pub mod Extents
 pub mod Limits
+pub mod Steps
 pub mod WholePaths

@@ -14,13 +14,9 @@ use Rattle.item_writes.specs.Edits.{inside, item_with_all, kept}
 use Rattle.item_writes.specs.Extents.{written_here}
 use Rattle.item_writes.specs.ValuesByName.{put_or, last_put}
 use Rattle.item_writes.specs.WholePaths.{by_names, IsInOrder, AreAllInOrder, KeepsOtherPaths, HasPlace, PutsWritten}
-use Rattle.item_writes.proofs.Apart.{apart_turned}
 use Rattle.item_writes.proofs.ByName.{by_name}
 use Rattle.item_writes.proofs.Extents.{apart_name, inside_none, kept_inside}
-
--- no written path meets this one
-abbrev Misses : List Step → List Written → Type 0
-Misses q ws = AllByRecursion (λ w. overlap w.0 q ≡ false) ws
+use Rattle.item_writes.proofs.Steps.{Misses, apart_at, goes_on, leads_on, misses_below, misses_rest}
 
 -- ---- no write puts a value at the first name
 
@@ -38,23 +34,6 @@ put_elsewhere name q (Name here ∷ []) (Some v) before e = rw (misses_name name
 none_put : (name : List ℕ) (q : List Step) (ws : List Written) (before : Option Tree) → Misses (Name name ∷ q) ws → last_put name ws before ≡ before
 none_put name q [] before far = refl
 none_put name q (w ∷ ws) before far = ap (last_put name ws) (put_elsewhere name q w.0 w.1 before far.0) ∙ none_put name q ws before far.1
-
--- ---- the writes that lead on below the first name
-
-misses_on : (name here : List ℕ) (p q : List Step) → bytes_eq here name ≡ true → overlap (Name here ∷ p) (Name name ∷ q) ≡ false → overlap p q ≡ false
-misses_on name here p q e f =
-    let same : bytes_eq name here ≡ true = (bytes_eq-Decides name here).1 (sym ((bytes_eq-Decides here name).0 e)) in
-    subst (λ b. (b && overlap p q) ≡ false) same f
-
-misses_below : (name : List ℕ) (q : List Step) (ws : List Written) → Misses (Name name ∷ q) ws → Misses q (below (is_name name) ws)
-misses_below name q [] far = tt
-misses_below name q (([], v) ∷ ws) far = misses_below name q ws far.1
-misses_below name q ((Index place ∷ p, v) ∷ ws) far = misses_below name q ws far.1
-misses_below name q ((Name here ∷ p, v) ∷ ws) far = one (bytes_eq here name) refl (misses_below name q ws far.1)
-  where
-    one : (b : Bool) → bytes_eq here name ≡ b → Misses q (below (is_name name) ws) → Misses q (or_rest (cond b (Some (p, v)) None) (below (is_name name) ws))
-    one true e later = (misses_on name here p q e far.0, later)
-    one false e later = later
 
 not_here : (q : List Step) (ws : List Written) → Misses q ws → written_here ws ≡ None
 not_here q [] far = refl
@@ -89,7 +68,7 @@ keeps (name ∷ names) (map item) ws up far =
     let deeper = below (is_name name) ws in
     let there = option_and_then (λ t. kept t deeper) (value_at name item) in
     ap (option_and_then (found_in q)) (by_name item ws up.0 name ∙ none_put name q ws there far)
-    ∙ stays q deeper (value_at name item) (misses_below name q ws far) (λ t e. keeps names t deeper (in_order_at name item t up.1 e) (misses_below name q ws far))
+    ∙ stays q deeper (value_at name item) (misses_below (Name name) q ws far) (λ t e. keeps names t deeper (in_order_at name item t up.1 e) (misses_below (Name name) q ws far))
 keeps (name ∷ names) (list ts) ws up far = refl
 keeps (name ∷ names) (text s) ws up far = refl
 keeps (name ∷ names) (number z) ws up far = refl
@@ -105,15 +84,6 @@ keeps_other_paths item ws up [] far = refl
 keeps_other_paths item ws up (name ∷ names) far = keeps (name ∷ names) (map item) ws up far
 
 -- ---- a written path
-
-apart_at : (p : List Step) (ws : List Written) → AllByRecursion (λ q. overlap p q ≡ false) (paths_of ws) → (k : ℕ) (w : Written) → slice_get ws k ≡ Some w → overlap p w.0 ≡ false
-apart_at p [] apart k w e = cc
-apart_at p (v ∷ ws) apart zero w e = let same : v ≡ w = cc in subst (λ x. overlap p x.0 ≡ false) same apart.0
-apart_at p (v ∷ ws) apart (suc k) w e = apart_at p ws apart.1 k w e
-
-misses_rest : (p : List Step) (ws : List Written) → AllByRecursion (λ q. overlap p q ≡ false) (paths_of ws) → Misses p ws
-misses_rest p [] apart = tt
-misses_rest p (w ∷ ws) apart = (apart_turned p w.0 apart.0, misses_rest p ws apart.1)
 
 -- the only write to a name puts its value
 put_here : (name : List ℕ) (v before : Option Tree) (x : Tree) → v ≡ Some x → put_or name (Name name ∷ []) v before ≡ Some x
@@ -140,26 +110,6 @@ none_ends name s q v (w ∷ ws) before apart zero e =
 none_ends name s q v (w ∷ ws) before apart (suc k) e =
     none_ends name s q v ws (put_or name w.0 w.1 before) apart.1 k e ∙ put_elsewhere name (s ∷ q) w.0 w.1 before (apart_at w.0 ws apart.0 k (Name name ∷ s ∷ q, v) e)
 
-leads_on : (name : List ℕ) (q : List Step) (v : Option Tree) (ws : List Written) (k : ℕ) → slice_get ws k ≡ Some (Name name ∷ q, v)
-    → (j : ℕ) × (slice_get (below (is_name name) ws) j ≡ Some (q, v))
-leads_on name q v [] k e = cc
-leads_on name q v (w ∷ ws) zero e =
-    let same : w ≡ (Name name ∷ q, v) = cc in
-    (0, ap (λ x. slice_get (below (is_name name) (x ∷ ws)) 0) same ∙ ap (λ b. slice_get (or_rest (cond b (Some (q, v)) None) (below (is_name name) ws)) 0) ((bytes_eq-Decides name name).1 refl))
-leads_on name q v (w ∷ ws) (suc k) e = one (behind (is_name name) w.0 w.1) (leads_on name q v ws k e)
-  where
-    one : (o : Option Written) → (j : ℕ) × (slice_get (below (is_name name) ws) j ≡ Some (q, v)) → (j : ℕ) × (slice_get (or_rest o (below (is_name name) ws)) j ≡ Some (q, v))
-    one None found_there = found_there
-    one (Some x) found_there = (suc found_there.0, found_there.1)
-
-goes_on : (s : Step) (q : List Step) (v : Option Tree) (ws : List Written) → AreApart (paths_of ws) → (k : ℕ) → slice_get ws k ≡ Some (s ∷ q, v) → written_here ws ≡ None
-goes_on s q v [] apart k e = refl
-goes_on s q v ((t ∷ p, u) ∷ ws) apart k e = refl
-goes_on s q v (([], u) ∷ ws) apart zero e =
-    let same : ◌≡◌ {A = Written} ([], u) (s ∷ q, v) = cc in
-    let steps : ◌≡◌ {A = List Step} [] (s ∷ q) = ap (λ w. w.0) same in cc
-goes_on s q v (([], u) ∷ ws) apart (suc k) e = let h : true ≡ false = apart_at [] ws apart.0 k (s ∷ q, v) e in cc
-
 pub puts_written : (item : Attributes) (ws : List Written) → IsInOrder (map item) → AreApart (paths_of ws) → PutsWritten item ws
 puts_written item ws up apart name [] x k e place =
     ap (option_and_then (found_in [])) (by_name item ws up.0 name ∙ last_is name x ws (option_and_then (λ t. kept t (below (is_name name) ws)) (value_at name item)) apart k e)
@@ -167,7 +117,7 @@ puts_written item ws up apart name (next ∷ names) x k e place =
     let q = by_names (next ∷ names) in
     let deeper = below (is_name name) ws in
     let there = option_and_then (λ t. kept t deeper) (value_at name item) in
-    let on = leads_on name q (Some x) ws k e in
+    let on = leads_on (Name name) q (Some x) ws k e in
     let far = apart_name name ws apart in
     ap (option_and_then (found_in q)) (by_name item ws up.0 name ∙ none_ends name (Name next) (by_names names) (Some x) ws there apart k e)
     ∙ deep (value_at name item) refl place (goes_on (Name next) (by_names names) (Some x) deeper far on.0 on.1)

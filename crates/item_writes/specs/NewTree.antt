@@ -1,25 +1,20 @@
 -- The tree of what is written at a path.
-use Rattle.std.specs.Prelude.{List, [], ◌∷◌, map, Option, option_map}
+use Rattle.std.specs.Prelude.{List, map, Option, option_map}
 use Rattle.std.specs.Borrow.{Bor}
 use Rattle.std.specs.Cmp.Lexicographic.{slice_cmp}
 use Rattle.std.specs.Ordering.{nat_cmp, int_cmp}
 use Rattle.base_types.specs.declared.path.Step.{Step}
-use Rattle.attr_value.specs.Tree.{Tree, list, text_set, number_set, binary_set, Trees, no_trees}
+use Rattle.attr_value.specs.Tree.{Tree, list, text_set, number_set, binary_set}
 use Rattle.attr_value.specs.View.{tree_of}
+use Rattle.item_writes.specs.Joined.{joined}
 use Rattle.item_writes.specs.Union.{united}
-use Rattle.attr_value.specs.Parts.{onto}
 use Rattle.item_writes.specs.declared.new_value.NewValue.{NewValue}
 use Rattle.item_writes.specs.declared.new_value.NewValue.TheVariants.{Lent, Made, Joined, Texts, Numbers, Binaries}
 
--- the elements of all lists
-abbrev pub joined : List (Bor Trees) → Trees
-joined [] = no_trees
-joined (first ∷ rest) = onto first.now (joined rest)
-
 abbrev pub new_tree : NewValue → Tree
-new_tree (Lent value) = tree_of value.now
+new_tree (Lent lent) = tree_of lent.value.now
 new_tree (Made value) = tree_of value
-new_tree (Joined lists) = list (joined lists)
+new_tree (Joined lent) = list (joined lent.lists)
 new_tree (Texts set more) = text_set (united (slice_cmp nat_cmp) set.now more.now)
 new_tree (Numbers set more) = number_set (united int_cmp set.now more.now)
 new_tree (Binaries set more) = binary_set (united (slice_cmp nat_cmp) set.now more.now)

@@ -107,7 +107,7 @@ impl Extent {
 }
 
 /// The bytes of a value, of which nothing is looked at where there is no room.
-fn bytes_of(value: &Value, limit: u64) -> u64
+pub(crate) fn bytes_of(value: &Value, limit: u64) -> u64
     ensures { result ≡ min (size (tree_of value.now)) limit }
 {
     if limit == 0 {

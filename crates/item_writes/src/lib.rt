@@ -9,10 +9,12 @@
 mod edit;
 mod extent;
 mod laws;
+mod lent;
 mod new_value;
 mod union;
 
 pub use edit::write_all;
 pub use extent::{Extent, extent_with_all};
 pub use laws::{other_paths_are_kept, values_by_name, written_values_stand};
+pub use lent::{LentLists, LentValue};
 pub use new_value::NewValue;

@@ -1,8 +1,9 @@
-//! The bytes of the set of two sets' elements, which is not made for it.
+//! The bytes of elements: of a list, and of the set of two sets' elements, which is not made for it.
 
 ghost use Rattle.std.specs.Prelude.{ℕ, ◌≡◌, ◌+◌, filter, length, min, not, sum_by};
 ghost use Rattle.std.specs.List.Sorted.{IsStrictlySortedBy};
-ghost use Rattle.attr_value.specs.Sizes.{number_size};
+ghost use Rattle.attr_value.specs.Sizes.{number_size, size};
+ghost use Rattle.attr_value.specs.View.{tree_of};
 ghost use Rattle.ordered_set.specs.Sets.{has};
 
 use attr_value::Value;
@@ -10,11 +11,11 @@ use base_types::{Bytes, Text};
 use number38::Number;
 use ordered_set::OrderedSet;
 
-/// An element of a set.
+/// An element of a set or a list.
 pub(crate) trait Measured {
     ghost size: { Self → ℕ };
 
-    /// The bytes, as an element of a set has them.
+    /// The bytes, as an element has them.
     fn bytes(&self) -> u64
         ensures { result ≡ min (size self.now) u64.MAX };
 }
@@ -43,6 +44,15 @@ impl Measured for Number {
     }
 }
 
+/// In a list, an element has 1 byte more than its value.
+impl Measured for Value {
+    ghost size = { λ value. 1 + size (tree_of value) };
+
+    fn bytes(&self) -> u64 {
+        self.size().saturating_add(1)
+    }
+}
+
 /// The bytes of the second set and of those elements of the first that the second has not, up to a limit. It costs a
 /// search by halves for each of the latter.
 pub(crate) fn both_bytes<T: Ord + Measured>(
@@ -58,7 +68,8 @@ pub(crate) fn both_bytes<T: Ord + Measured>(
     second + other_bytes(set.as_slice(), more, limit - second)
 }
 
-fn all_bytes<T: Measured>(elements: &[T], limit: u64) -> u64
+/// The bytes of the elements, of which none is asked once the limit is reached.
+pub(crate) fn all_bytes<T: Measured>(elements: &[T], limit: u64) -> u64
     ensures { result ≡ min (sum_by T.size elements.now) limit }
 {
     let mut total = 0;

@@ -1,4 +1,5 @@
 pub mod Joining
 pub mod ByPath
+pub mod Lent
 pub mod Apart
 pub mod Touched

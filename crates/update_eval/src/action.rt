@@ -11,6 +11,7 @@ ghost use Rattle.update_eval.specs.Views.{one_seen, seen_write};
 use crate::fault::{EvalEnd, EvalFault};
 use crate::path::has_place;
 use crate::set::{add_of, less_of};
+use crate::sources::Sources;
 use crate::sum::sum_of;
 use attr_value::{Item, Value};
 use base_types::{DocPath, Seq, Step};
@@ -29,12 +30,11 @@ pub(crate) struct Write<'u> {
 pub(crate) fn set_write<'u>(
     alloc: Global,
     set: &'u SetTo,
-    values: &'u Seq<Value>,
-    old: &'u Item,
+    sources: &Sources<'u>,
 ) -> Result<Write<'u>, EvalEnd>
-    ensures { Gives (λ write. seen_write write ∷ []) (set_writes values.now old.now (set_tree set.now)) result }
+    ensures { Gives (λ write. seen_write write ∷ []) (set_writes sources.now.values.now sources.now.old.now (set_tree set.now)) result }
 {
-    placed_at(&set.path, old, sum_of(alloc, &set.sum, values, old)?)
+    placed_at(&set.path, sources.old, sum_of(alloc, &set.sum, sources)?)
 }
 
 /// A write there, where the path has a place for it.

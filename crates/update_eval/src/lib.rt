@@ -6,8 +6,10 @@
 
 mod action;
 mod fault;
+mod named;
 mod path;
 mod set;
+mod sources;
 mod sum;
 mod term;
 mod update;

@@ -11,7 +11,7 @@ ghost use Rattle.std.specs.Ordering.{int_cmp};
 use crate::fault::{EvalEnd, EvalFault};
 use crate::sum::number_of;
 use attr_value::Value;
-use item_writes::NewValue;
+use item_writes::{LentValue, NewValue};
 use number38::Number;
 use ordered_set::OrderedSet;
 
@@ -33,7 +33,9 @@ fn first_added<'v>(value: &'v Value) -> Result<NewValue<'v>, EvalFault>
     ensures { Answers new_tree (first_added (tree_of value.now)) result }
 {
     match value {
-        Value::N(_) | Value::Ss(_) | Value::Ns(_) | Value::Bs(_) => Ok(NewValue::Lent(value)),
+        Value::N(_) | Value::Ss(_) | Value::Ns(_) | Value::Bs(_) => Ok(NewValue::Lent(
+            LentValue::new(value),
+        )),
         _ => Err(EvalFault::OperandType),
     }
 }

@@ -8,33 +8,32 @@ ghost use Rattle.update_eval.specs.Sums.{added, number_in, number_of, sum_of, ta
 ghost use Rattle.update_eval.specs.Views.{term_value};
 
 use crate::fault::{EvalEnd, EvalFault};
+use crate::sources::Sources;
 use crate::term::{TermValue, term_of};
-use attr_value::{Item, Value};
-use base_types::Seq;
+use attr_value::Value;
 use expr_words::Sum;
 use item_writes::NewValue;
 use number38::{Number, NumberFault};
 use std::alloc::Global;
 
-/// What the sum is of the old item, with these values. Both terms are found before their types are asked.
+/// What the sum is, of these values and the old item. Both terms are found before their types are asked.
 pub(crate) fn sum_of<'v>(
     alloc: Global,
     sum: &Sum,
-    values: &'v Seq<Value>,
-    old: &'v Item,
+    sources: &Sources<'v>,
 ) -> Result<NewValue<'v>, EvalEnd>
-    ensures { Gives new_tree (sum_of values.now old.now (sum_tree sum.now)) result }
+    ensures { Gives new_tree (sum_of sources.now.values.now sources.now.old.now (sum_tree sum.now)) result }
 {
     match sum {
-        Sum::One(term) => Ok(NewValue::from(term_of(alloc, term, values, old)?)),
+        Sum::One(term) => Ok(NewValue::from(term_of(alloc, term, sources)?)),
         Sum::Plus(left, right) => {
-            let left = term_of(alloc, left, values, old)?;
-            let right = term_of(alloc, right, values, old)?;
+            let left = term_of(alloc, left, sources)?;
+            let right = term_of(alloc, right, sources)?;
             Ok(added(&left, &right)?)
         }
         Sum::Minus(left, right) => {
-            let left = term_of(alloc, left, values, old)?;
-            let right = term_of(alloc, right, values, old)?;
+            let left = term_of(alloc, left, sources)?;
+            let right = term_of(alloc, right, sources)?;
             Ok(taken(&left, &right)?)
         }
     }
@@ -63,8 +62,11 @@ fn number_in(value: &TermValue<'_>) -> Result<Number, EvalFault>
     ensures { result ≡ number_in (term_value value.now) }
 {
     match value {
-        TermValue::Lent(Value::N(number)) => Ok(*number),
-        _ => Err(EvalFault::OperandType),
+        TermValue::Lent(lent) => match lent.value {
+            Value::N(number) => Ok(*number),
+            _ => Err(EvalFault::OperandType),
+        },
+        TermValue::Joined(_) => Err(EvalFault::OperandType),
     }
 }
 

@@ -15,6 +15,7 @@ ghost use Rattle.update_eval.specs.Views.{one_seen, seen_writes};
 
 use crate::action::{Write, add_write, delete_write, remove_write, set_write};
 use crate::fault::{EvalEnd, EvalFault};
+use crate::sources::Sources;
 use attr_value::{Item, MAX_DEPTH, Value};
 use base_types::{DocPath, Seq};
 use expr_parse::Update;
@@ -32,9 +33,10 @@ pub const MAX_SIZE: u64 = 409_600;
 /// The first fault is answered, of the actions in the order SET, REMOVE, ADD, DELETE, each in order of the text; then
 /// `TooDeep` and `ItemTooLarge` of the new item, which is made only where it has neither. `IndexKey` is never answered.
 ///
-/// Values are lent until then, so what is refused takes memory for its writes alone, and for numbers and rests of sets
-/// that are computed. Bytes are counted up to the most that an item has: of what is written, each value that comes
-/// after is not looked at. How deep it nests is asked of each value as often as it is written.
+/// Values are lent until then, so what is refused takes memory for its writes alone, for what is lent to them, and for
+/// numbers and rests of sets that are computed. Bytes are counted up to the most that an item has: of what is written,
+/// each value that comes after is not looked at. How deep it nests is asked once of each value that came, and once for
+/// each path of what the path finds, however often right sides name them.
 pub fn apply(alloc: Global, tree: &Update, values: &Seq<Value>, old: &Item) -> Result<Item, EvalEnd>
     ensures { Gives (λ item. item) (updated values.now old.now (update_tree tree.now)) result }
 {
@@ -131,8 +133,21 @@ fn push_sets<'u>(
     ensures { GivesOn (seen_writes writes.new.items)
         (with_writes (set_writes values.now old.now) (map set_tree sets.now) (seen_writes writes.old.items)) result }
 {
+    let sources = Sources::new(alloc, sets, values, old)?;
+    push_each_set(alloc, sets, &sources, writes)
+}
+
+fn push_each_set<'u>(
+    alloc: Global,
+    sets: &'u [SetTo],
+    sources: &Sources<'u>,
+    writes: &mut Vec<Write<'u>>,
+) -> Result<(), EvalEnd>
+    ensures { GivesOn (seen_writes writes.new.items)
+        (with_writes (set_writes sources.now.values.now sources.now.old.now) (map set_tree sets.now) (seen_writes writes.old.items)) result }
+{
     for set in sets {
-        let write = set_write(alloc, set, values, old)?;
+        let write = set_write(alloc, set, sources)?;
         push(writes, Some(write))?;
     }
     Ok(())

@@ -16,10 +16,11 @@ use Rattle.item_writes.specs.Apart.{same_step, overlap, AreApart, paths_of}
 use Rattle.item_writes.specs.Edits.{inside, item_with_all}
 use Rattle.item_writes.specs.NewTree.{Written}
 use Rattle.item_writes.proofs.Extents.{apart_name, apart_place}
+use Rattle.item_writes.proofs.Steps.{apart_at, leads_on}
 use Rattle.write_laws.specs.ListsByPlace.{appended_place}
 use Rattle.write_laws.specs.PathsThroughLists.{IsInOrder, HasItsPlaces, begins, NoneBegins, new_path, writes_behind}
 use Rattle.write_laws.specs.PathsThroughLists.{AppendsAlongPaths}
-use Rattle.write_laws.proofs.Steps.{apart_at, rest_begins, missed_begins, leads_on}
+use Rattle.write_laws.proofs.Steps.{rest_begins, missed_begins}
 use Rattle.write_laws.proofs.Places.{values_are_appended}
 use Rattle.write_laws.proofs.Paths.{makes_inner_writes}
 

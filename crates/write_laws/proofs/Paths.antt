@@ -17,14 +17,15 @@ use Rattle.item_writes.specs.NewTree.{Written}
 use Rattle.item_writes.specs.ValuesByName.{put_or, last_put}
 use Rattle.item_writes.proofs.ByName.{by_name}
 use Rattle.item_writes.proofs.Extents.{apart_name, apart_place, element_inside, element_new, inside_none, kept_inside}
+use Rattle.item_writes.proofs.Steps.{apart_at, goes_on, leads_on}
 use Rattle.write_laws.specs.ListsByPlace.{new_place}
 use Rattle.write_laws.specs.PathsThroughLists.{IsInOrder, AttributesAreInOrder, ElementsAreInOrder, MeetsNone, HasItsPlaces}
 use Rattle.write_laws.specs.PathsThroughLists.{KeepsPlaces, new_path, begins, NoneBegins, writes_behind, MakesInnerWrites}
 use Rattle.write_laws.specs.PathsThroughLists.{MovesOtherPaths, KeepsOtherPaths, HasPlace, PutsMoved, PutsWritten}
 use Rattle.write_laws.proofs.Counts.{kept_of, kept_is, all_kept}
 use Rattle.write_laws.proofs.Places.{stays_at, stays_open, stays_new}
-use Rattle.write_laws.proofs.Steps.{apart_at, rest_begins, missed_begins, misses_begins, none_begins_below, nothing_behind}
-use Rattle.write_laws.proofs.Steps.{not_here, leads_on, goes_on, ends_here}
+use Rattle.write_laws.proofs.Steps.{rest_begins, missed_begins, misses_begins, none_begins_below, nothing_behind}
+use Rattle.write_laws.proofs.Steps.{not_here, ends_here}
 
 -- ---- the path to the elements that stay, which is the new one
 

@@ -16,10 +16,11 @@ use Rattle.item_writes.specs.Edits.{appended, element, elements_from, append_one
 use Rattle.item_writes.specs.Extents.{written_here}
 use Rattle.item_writes.specs.NewTree.{Written}
 use Rattle.item_writes.proofs.Extents.{element_new}
+use Rattle.item_writes.proofs.Steps.{apart_at}
 use Rattle.write_laws.specs.ListsByPlace.{new_place, appends, appends_before, Stays, ClosesUp, KeepsElements}
 use Rattle.write_laws.specs.ListsByPlace.{PutsElements, AppendsInOrder, HasAsMany, KeepsOrder}
 use Rattle.write_laws.proofs.Counts.{stays_here, kept_of, kept_is, kept_more, counted}
-use Rattle.write_laws.proofs.Steps.{apart_at, ends_here}
+use Rattle.write_laws.proofs.Steps.{ends_here}
 
 -- ---- an element that stays
 

@@ -3,7 +3,7 @@ use Rattle.std.proofs.lemmas.List.{at_drop_all}
 use Rattle.attr_value.specs.Tree.{no_trees}
 use Rattle.attr_value.specs.View.{trees_of}
 use Rattle.attr_value.specs.Parts.{onto}
-use Rattle.item_writes.specs.NewTree.{joined}
+use Rattle.item_writes.specs.Joined.{joined}
 use Rattle.attr_value.proofs.PartLaws.{onto_none}
 use Rattle.item_writes.proofs.new_value.joined.Goals as goal
 

@@ -1,5 +1,5 @@
 use Rattle.std.proofs.Common.{[], ◌∷◌, ◌++◌, ap, ◌∙◌}
-use Rattle.item_writes.specs.NewTree.{joined}
+use Rattle.item_writes.specs.Joined.{joined}
 use Rattle.attr_value.proofs.PartLaws.{onto_none}
 use Rattle.update_eval.proofs.term.one_list.Goals as goal
 
