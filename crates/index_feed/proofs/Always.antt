@@ -90,9 +90,16 @@ module _ {K V C : Type 0} (I : Indexed K V C) (law : IsLawful I) where
         | inr t ↦ k.gone g q t ∙ sym (ap (λ b. if b then at_key I q (row_in I f.catalog g (I.item_of q) (f.row (I.item_of q))) else None) t)
       ]
 
+  -- an ApplyIndex that comes again isn't Fed, and leaves all as it was
+  pub not_fed_again :
+      (c : C) (es : List (Event K V C)) (i s : ℕ) (x : Change K V) → IsLegal I c (Feeds i s x ∷ es) → WasSent I es i s
+      → (is_fed I (feed I c es) i s x ≡ false) × (feed I c (Feeds i s x ∷ es) ≡ feed I c es)
+  not_fed_again c es i s x legal sent =
+      let no' = spent_not_fed (feed I c es) i s x (sent_spent c es (feed I c es) i s x (always c es legal.0) legal.1 sent) in
+      (no', ap (λ b. if b then fed I (feed I c es) i s x else feed I c es) no')
+
   pub repeats : RepeatsChangeNothing I
-  repeats c es i s x legal sent =
-      ap (λ b. if b then fed I (feed I c es) i s x else feed I c es) (spent_not_fed (feed I c es) i s x (sent_spent c es (feed I c es) i s x (always c es legal.0) legal.1 sent))
+  repeats c es i s x legal sent = (not_fed_again c es i s x legal sent).1
 
   acked_once : (f : Feed K V C) (i s : ℕ) (xs : List (Change K V)) → s ≤ f.sent i → acked I f i s xs ≡ f
   acked_once f i s [] below = refl

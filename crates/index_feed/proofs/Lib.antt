@@ -7,3 +7,4 @@ pub mod Growing
 pub mod Always
 mod Worked
 pub mod Local
+pub mod Homes

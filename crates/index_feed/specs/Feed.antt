@@ -261,6 +261,17 @@ module _ {K V C : Type 0} (I : Indexed K V C) where
   WasDue c [] g q r = ⊥
   WasDue c (e ∷ es) g q r = (due (feed c (e ∷ es)) g q ≡ Some r) ⊎ WasDue c es g q r
 
+  -- both hold the same in a cell
+  pub record AlikeAt (i : ℕ) (f h : Feed K V C) : Type 0 where
+    pub catalog : f.catalog ≡ h.catalog
+    pub row : (q : K) → I.cell_of q ≡ i → f.row q ≡ h.row q
+    pub keys : f.keys i ≡ h.keys i
+    pub row_keys : f.row_keys i ≡ h.row_keys i
+    pub sent : f.sent i ≡ h.sent i
+    pub outbox : f.outbox i ≡ h.outbox i
+    pub mark : (j : ℕ) → f.mark i j ≡ h.mark i j
+    pub shown : (g : ℕ) (q : K) → I.cell_of q ≡ i → f.shown g q ≡ h.shown g q
+
 -- keys and rows that pass the tests are equal; a row's item is the item that it was made of; numbers are drawn
 pub record IsLawful {K V C : Type 0} (I : Indexed K V C) : Type 0 where
   pub itself : (x : K) → I.same x x ≡ true

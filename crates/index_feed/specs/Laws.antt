@@ -1,8 +1,9 @@
 -- What holds of the feed in every legal list of events.
 use Rattle.std.specs.Prelude.{◌≡◌, ℕ, ◌≤◌, true, false, List, [], ◌∷◌, Option, None, Some, is_some}
 use Rattle.std.specs.List.{list_any}
+use Rattle.std.specs.declared.cmp.Ordering.TheVariants.{Less}
 use Rattle.index_feed.specs.declared.change.Change.{Change}
-use Rattle.index_feed.specs.Feed.{Out, Indexed, Feed, Event, Peeks, Feeds, Acks, served, overlay, feed, due, WasSent, IsLegal, WasDue}
+use Rattle.index_feed.specs.Feed.{Each, Out, Indexed, Feed, items_in, rows_in, Event, Peeks, Feeds, Acks, served, overlay, feed, due, WasSent, IsLegal, WasDue}
 
 module _ {K V C : Type 0} (I : Indexed K V C) where
   -- each row of an index is its item's projection at a prefix
@@ -15,6 +16,27 @@ module _ {K V C : Type 0} (I : Indexed K V C) where
   pub record AreListed (f : Feed K V C) : Type 0 where
     pub items : (k : K) → is_some (f.row k) ≡ true → list_any (λ x. I.same x k) (f.keys (I.cell_of k)) ≡ true
     pub rows : (g : ℕ) (q : K) → is_some (f.shown g q) ≡ true → list_any (λ x. I.same x q) (f.row_keys (I.cell_of q)) ≡ true
+
+  -- each key is below those after it
+  abbrev pub AreInOrder : List (K × V) → Type 0
+  AreInOrder [] = Unit {0}
+  AreInOrder (r ∷ rows) = Each (λ (s : K × V). I.cmp r.0 s.0 ≡ Less) rows × AreInOrder rows
+
+  -- the rows at keys of one cell, all of them, each once and in the order of keys
+  pub record IsListOf (i : ℕ) (row : K → Option V) (rows : List (K × V)) : Type 0 where
+    pub each : Each (λ (r : K × V). (I.cell_of r.0 ≡ i) × (row r.0 ≡ Some r.1)) rows
+    pub all : (k : K) → I.cell_of k ≡ i → is_some (row k) ≡ true → list_any (λ (r : K × V). I.same r.0 k) rows ≡ true
+    pub in_order : AreInOrder rows
+
+  -- a cell's lists are of its items, and of its rows of each index
+  abbrev pub ItemsAreListed : Type 0
+  ItemsAreListed =
+      (c : C) (es : List (Event K V C)) → IsLegal I c es → (i : ℕ) → IsListOf i (feed I c es).row (items_in I (feed I c es) i)
+
+  abbrev pub IndexRowsAreListed : Type 0
+  IndexRowsAreListed =
+      (c : C) (es : List (Event K V C)) → IsLegal I c es → (g i : ℕ)
+      → IsListOf i ((feed I c es).shown g) (rows_in I (feed I c es) g i)
 
   abbrev pub RowsAreListed : Type 0
   RowsAreListed = (c : C) (es : List (Event K V C)) → IsLegal I c es → AreListed (feed I c es)

@@ -1,13 +1,15 @@
 //! What holds of the feed: each law is the contract of a function without parameters.
 ghost use Rattle.index_feed.specs.Feed.{Indexed, IsLawful};
-ghost use Rattle.index_feed.specs.Laws.{AcksChangeOnce, DrainedIsProjection, FeedsLeaveItems, IndexRowsProject, RowsAreListed, NoneServedNoRow, RepeatsChangeNothing, WhatWaitsCompletes};
+ghost use Rattle.index_feed.specs.Laws.{AcksChangeOnce, DrainedIsProjection, FeedsLeaveItems, IndexRowsAreListed, IndexRowsProject, ItemsAreListed, RowsAreListed, NoneServedNoRow, RepeatsChangeNothing, WhatWaitsCompletes};
 
 /// [Index rows project]. Each row of an index is its item's projection at a beginning of the list;
 /// of an index that is not there, there is none. A cell lists the keys of all items and rows that it
-/// has, in their order.
+/// has, and what stands at them is what pages are made of, each once and in the order of keys.
 pub fn index_rows_project<K: Drop, V: Drop, C: Drop>()
     ensures rows { (I : Indexed K V C) → IsLawful I → IndexRowsProject I }
     ensures listed { (I : Indexed K V C) → IsLawful I → RowsAreListed I }
+    ensures items { (I : Indexed K V C) → IsLawful I → ItemsAreListed I }
+    ensures index_rows { (I : Indexed K V C) → IsLawful I → IndexRowsAreListed I }
     ensures none { (I : Indexed K V C) → IsLawful I → NoneServedNoRow I }
 {}
 

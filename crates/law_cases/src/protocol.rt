@@ -4,7 +4,7 @@ use std::alloc::{AllocError as NoMemory, Global};
 use std::test::Fail;
 use txn_core::{
     Answer, Break, BreakKind, Course, Entry, Event, Fate, Message, Move, Reason, Rules, Stamp,
-    Verdict, cells, driver, laws, sending_check,
+    Verdict, cells, driver, indexes, laws, sending_check,
 };
 
 #[test]
@@ -21,6 +21,15 @@ fn laws_hold_of_a_table(rt: HostRuntime) -> Result<(), Fail> {
     laws::rules_one_by_one::<Simple>();
     assert!(rt; Simple::is_same(&3, &3));
     assert!(rt; !Simple::is_same(&3, &4));
+    Ok(())
+}
+
+#[test]
+fn indexes_of_a_table_follow_it(_rt: HostRuntime) -> Result<(), Fail> {
+    indexes::index_rows_project::<Simple>();
+    indexes::drained_is_projection::<Simple>();
+    indexes::feeds_harmless::<Simple>();
+    indexes::pages_are_shown::<Simple>();
     Ok(())
 }
 

@@ -5,8 +5,8 @@ use std::test::Fail;
 use txn_core::{Answer, Break, BreakKind, Entry, Event, Fate, HeldItem, Message, Stamp};
 use txn_replay::{ReplayEnd, replay_check};
 
-/// An entry of a history over 16 partitions, in short. It is about the item under 1, and each
-/// transaction puts 8 there.
+/// An entry of a history over 16 partitions, in short. It is about the item under 1, each
+/// transaction puts 8 there, and its index row is under 2.
 #[derive(Clone, Copy)]
 enum Line {
     Create,
@@ -23,6 +23,14 @@ enum Line {
     Pending(u64),
     Unfinished(u64),
     Again,
+    Items(u64),
+    Rows(u64),
+    Out(u64, u64),
+    Empty,
+    Fed(u64, u64),
+    Already(u64, u64),
+    Acked(u64),
+    Unacked(u64),
 }
 
 /// What a line asks and is answered, and at which cell.
@@ -34,6 +42,21 @@ type Said = (
 
 fn stamp(moment: u64, number: u64) -> Stamp {
     Stamp { moment, number }
+}
+
+fn create(answer: Answer<u64, u64, (u64, u64), u64, u64>) -> Said {
+    (None, Message::Command { command: 0 }, answer)
+}
+
+fn put(value: u64, old: Option<u64>) -> Said {
+    (
+        Some(1),
+        Message::Write { action: (1, value) },
+        Answer::Written {
+            old,
+            new: Some(value),
+        },
+    )
 }
 
 fn begun(alloc: Global, number: u64, moment: u64) -> Result<Said, NoMemory> {
@@ -80,6 +103,15 @@ fn prepared(number: u64, answer: Answer<u64, u64, (u64, u64), u64, u64>) -> Said
     )
 }
 
+fn late(number: u64, moment: u64) -> Said {
+    prepared(
+        number,
+        Answer::Late {
+            stamp: stamp(moment, 0),
+        },
+    )
+}
+
 fn decided(alloc: Global, number: u64, first: bool) -> Said {
     (
         Some(16),
@@ -95,42 +127,77 @@ fn decided(alloc: Global, number: u64, first: bool) -> Said {
     )
 }
 
+fn page(cell: u32, page: u64, rows: u64) -> Said {
+    (
+        Some(cell),
+        Message::QueryPage { page },
+        Answer::Part { told: rows },
+    )
+}
+
+fn peeked(answer: Answer<u64, u64, (u64, u64), u64, u64>) -> Said {
+    (Some(1), Message::PeekOut { source: 1 }, answer)
+}
+
+fn out(sequence: u64, after: u64) -> Said {
+    peeked(Answer::Out {
+        sequence,
+        index: 1,
+        target: 2,
+        row_key: 2,
+        after: Some(after),
+    })
+}
+
+fn sent(sequence: u64, after: u64, answer: Answer<u64, u64, (u64, u64), u64, u64>) -> Said {
+    (
+        Some(2),
+        Message::ApplyIndex {
+            source: 1,
+            sequence,
+            index: 1,
+            row_key: 2,
+            after: Some(after),
+        },
+        answer,
+    )
+}
+
+fn acked(sequence: u64, answer: Answer<u64, u64, (u64, u64), u64, u64>) -> Said {
+    (
+        Some(1),
+        Message::Ack {
+            source: 1,
+            sequence,
+        },
+        answer,
+    )
+}
+
 fn said(alloc: Global, line: Line) -> Result<Said, NoMemory> {
     Ok(match line {
-        Line::Create => (
-            None,
-            Message::Command { command: 0 },
-            Answer::Changed { told: 1 },
-        ),
-        Line::Put(value, old) => (
-            Some(1),
-            Message::Write { action: (1, value) },
-            Answer::Written {
-                old,
-                new: Some(value),
-            },
-        ),
+        Line::Create => create(Answer::Changed { told: 1 }),
+        Line::Put(value, old) => put(value, old),
         Line::Get(cell, item) => (Some(cell), Message::Get { key: 1 }, Answer::Row { item }),
         Line::GetAt(_) => (Some(1), Message::Get { key: 1 }, Answer::Row { item: None }),
         Line::Begin(number, moment) => begun(alloc, number, moment)?,
         Line::Pending(number) => pending(alloc, number)?,
         Line::Unfinished(number) => unfinished(alloc, number)?,
-        Line::Again => (
-            None,
-            Message::Command { command: 0 },
-            Answer::Refused { told: 1 },
-        ),
+        Line::Again => create(Answer::Refused { told: 1 }),
         Line::Accepted(number) => prepared(number, Answer::Accepted),
         Line::Held(number, holder) => prepared(number, Answer::Held { number: holder }),
-        Line::Late(number, moment) => prepared(
-            number,
-            Answer::Late {
-                stamp: stamp(moment, 0),
-            },
-        ),
+        Line::Late(number, moment) => late(number, moment),
         Line::Commit(number, first) => decided(alloc, number, first),
         Line::Apply(number) => (Some(1), Message::Apply { number, key: 1 }, Answer::Applied),
         Line::Fate(number, fate) => (Some(16), Message::FateOf { number }, Answer::Is { fate }),
+        Line::Items(rows) => page(1, 1, rows),
+        Line::Rows(rows) => page(2, 114, rows),
+        Line::Out(sequence, after) => out(sequence, after),
+        Line::Empty => peeked(Answer::Empty),
+        Line::Fed(sequence, after) => sent(sequence, after, Answer::Fed),
+        Line::Already(sequence, after) => sent(sequence, after, Answer::Already),
+        Line::Acked(sequence) => acked(sequence, Answer::Acked),
+        Line::Unacked(sequence) => acked(sequence, Answer::Nothing),
     })
 }
 
@@ -226,6 +293,99 @@ const CASES: &[(&[Line], Option<(usize, BreakKind)>)] = &[
     (&[Line::Create, Line::Pending(1)], Some((1, WRONG))),
     (&[Line::Again], Some((0, WRONG))),
     (&[Line::Apply(1)], Some((0, WRONG))),
+    (
+        &[
+            Line::Create,
+            Line::Put(3, None),
+            Line::Items(1),
+            Line::Rows(0),
+            Line::Out(1, 3),
+            Line::Fed(1, 3),
+            Line::Rows(1),
+            Line::Already(1, 3),
+            Line::Put(4, Some(3)),
+            Line::Out(1, 3),
+            Line::Acked(1),
+            Line::Out(2, 4),
+            Line::Unacked(1),
+            Line::Fed(2, 4),
+            Line::Acked(2),
+            Line::Put(4, Some(4)),
+            Line::Empty,
+            Line::Begin(1, 5),
+            Line::Accepted(1),
+            Line::Commit(1, true),
+            Line::Empty,
+            Line::Apply(1),
+            Line::Out(3, 8),
+            Line::Items(1),
+            Line::Rows(1),
+        ],
+        None,
+    ),
+    (&[Line::Create, Line::Out(1, 3)], Some((1, WRONG))),
+    (
+        &[Line::Create, Line::Put(3, None), Line::Empty],
+        Some((2, WRONG)),
+    ),
+    (
+        &[Line::Create, Line::Put(3, None), Line::Out(1, 4)],
+        Some((2, WRONG)),
+    ),
+    (
+        &[Line::Create, Line::Put(3, None), Line::Out(2, 3)],
+        Some((2, WRONG)),
+    ),
+    (
+        &[
+            Line::Create,
+            Line::Put(3, None),
+            Line::Out(1, 3),
+            Line::Already(1, 3),
+        ],
+        Some((3, WRONG)),
+    ),
+    (
+        &[
+            Line::Create,
+            Line::Put(3, None),
+            Line::Out(1, 3),
+            Line::Fed(1, 3),
+            Line::Fed(1, 3),
+        ],
+        Some((4, WRONG)),
+    ),
+    (
+        &[
+            Line::Create,
+            Line::Put(3, None),
+            Line::Out(1, 3),
+            Line::Fed(1, 3),
+            Line::Unacked(1),
+        ],
+        Some((4, WRONG)),
+    ),
+    (
+        &[Line::Create, Line::Put(3, None), Line::Items(0)],
+        Some((2, WRONG)),
+    ),
+    (
+        &[Line::Create, Line::Put(3, None), Line::Rows(1)],
+        Some((2, WRONG)),
+    ),
+    (
+        &[Line::Create, Line::Put(3, None), Line::Fed(1, 3)],
+        Some((2, BreakKind::IndexOrder)),
+    ),
+    (
+        &[
+            Line::Create,
+            Line::Put(3, None),
+            Line::Out(1, 3),
+            Line::Acked(1),
+        ],
+        Some((3, BreakKind::IndexOrder)),
+    ),
 ];
 
 #[test]

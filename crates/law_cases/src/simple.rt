@@ -1,13 +1,17 @@
 //! The rules of a small service, at which laws and replays are tried.
 
+ghost use Rattle.std.specs.Prelude.{refl};
 ghost use Rattle.txn_core.specs.Simple.{service};
 ghost use Rattle.txn_core.specs.SimpleLaws.{service_lawful};
 
+use index_feed::Row;
 use std::alloc::{AllocError as NoMemory, Global};
+use std::cmp::Ordering;
 use txn_core::{Outcome, Rules, Ruling};
 
 /// One table of numbers under numbers, with actions that are a key and a number: 0 deletes, 1
-/// checks, and any other is put.
+/// checks, and any other is put. Its index has the items below 1000, each under the key that
+/// follows.
 pub(crate) struct Simple;
 
 impl Rules for Simple {
@@ -29,10 +33,16 @@ impl Rules for Simple {
 
     ghost protocol = { service };
 
+    ghost numbered = { λ n. refl };
+
     ghost lawful = { service_lawful };
 
     fn is_same(left: &u64, right: &u64) -> bool {
         *left == *right
+    }
+
+    fn compare(left: &u64, right: &u64) -> Ordering {
+        left.cmp(right)
     }
 
     fn cell_of(partitions: u32, key: &u64) -> u32 {
@@ -93,8 +103,41 @@ impl Rules for Simple {
         Ok(None)
     }
 
-    fn are_same_actions(_left: &[(u64, u64)], _right: &[(u64, u64)]) -> bool {
-        true
+    fn brings(alloc: Global, _command: &u64, _catalog: &u64) -> Result<Vec<u64>, NoMemory> {
+        Ok(Vec::new(alloc))
+    }
+
+    fn item_of(_alloc: Global, row_key: &u64) -> Result<u64, NoMemory> {
+        Ok(row_key.saturating_sub(1))
+    }
+
+    fn indexes(alloc: Global, catalog: &u64, _key: &u64) -> Result<Vec<u64>, NoMemory> {
+        let mut numbers = Vec::new(alloc);
+        if 1 <= *catalog {
+            numbers.push(1)?;
+        }
+        Ok(numbers)
+    }
+
+    fn row_of(
+        _alloc: Global,
+        _catalog: &u64,
+        _index: u64,
+        key: &u64,
+        item: &u64,
+    ) -> Result<Option<Row<u64, u64>>, NoMemory> {
+        Ok(if *key < 1000 {
+            Some(Row {
+                key: *key + 1,
+                content: *item,
+            })
+        } else {
+            None
+        })
+    }
+
+    fn are_same_actions(left: &[(u64, u64)], right: &[(u64, u64)]) -> bool {
+        left == right
     }
 
     fn tell(_alloc: Global, catalog: &u64, _question: &u64) -> Result<u64, NoMemory> {
@@ -103,6 +146,19 @@ impl Rules for Simple {
 
     fn serves(catalog: &u64, _page: &u64) -> bool {
         1 <= *catalog
+    }
+
+    fn page_index(page: &u64) -> Option<u64> {
+        if 100 <= *page { Some(1) } else { None }
+    }
+
+    fn page(
+        _alloc: Global,
+        _catalog: &u64,
+        rows: &[(u64, u64)],
+        _page: &u64,
+    ) -> Result<u64, NoMemory> {
+        Ok(rows.len() as u64)
     }
 
     fn refuses(_alloc: Global, _command: &u64, catalog: &u64) -> Result<Option<u64>, NoMemory> {

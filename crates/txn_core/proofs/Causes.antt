@@ -16,11 +16,13 @@ use Rattle.txn_core.specs.declared.ruling.Ruling.TheVariants.{Carries, Refuses}
 use Rattle.txn_core.specs.Service.{Service, IsServiceLawful}
 use Rattle.txn_core.specs.State.{holder, last, here, state_after}
 use Rattle.txn_core.specs.Serial.{serial, tables, shown}
-use Rattle.txn_core.specs.Answers.{KeptToken, get_answer, write_answer, outcome_answer, prepare_answer, is_holder, version_answer, begin_answer, has_record, decide_answer, recall_answer}
+use Rattle.txn_core.specs.Answers.{KeptToken, get_answer, write_answer, outcome_answer, prepare_answer, is_holder, version_answer, begin_answer, has_record, decide_answer, recall_answer, page_answer, out_answer}
 use Rattle.txn_core.specs.Effects.{Effect}
 use Rattle.txn_core.specs.Runs.{IsRun}
 use Rattle.txn_core.specs.History.{effect, effects, found_kept, reasons_of}
-use Rattle.txn_core.specs.Legal.{ruling_answer, IsRuled, IsInTheWay, IsPage, IsAnswer, IsLegal}
+use Rattle.index_feed.specs.Feed.{Out}
+use Rattle.txn_core.specs.Feeding.{change, has_sequence, rows_for}
+use Rattle.txn_core.specs.Legal.{ruling_answer, IsRuled, IsInTheWay, out_after, feeds_after, IsAnswer, IsLegal}
 use Rattle.txn_core.specs.Laws.{version_of, IsRealHolder, last_by}
 use Rattle.txn_core.proofs.LegalRuns.{legal_run}
 use Rattle.txn_core.proofs.SerialLaws.{rows_are_shown}
@@ -93,9 +95,13 @@ module _ {K V A F B : Type 0} (P : Answer K V A F B → Type 0) where
   decide_other true Gone commit d = d Gone false
 
 module _ {K V A F C D Q B : Type 0} (S : Service K V A F C D Q B) (law : IsServiceLawful S) where
-  page_other : (b : Bool) (n : ℕ) → IsPage S b (Answer.Held n) → ⊥
-  page_other true n is = is
-  page_other false n is = cc
+  page_other : (b : Bool) (told : B) (n : ℕ) → HeldIn {K = K} {V = V} {A = A} {F = F} {B = B} (page_answer b told) n → ⊥
+  page_other true told n e = cc
+  page_other false told n e = cc
+
+  out_other : (o : Option (Out K V)) (n : ℕ) → HeldIn {K = K} {V = V} {A = A} {F = F} {B = B} (out_answer S.core.cell_of o) n → ⊥
+  out_other None n e = cc
+  out_other (Some o) n e = cc
 
   pub real_holder : (es : List (Entry K V A F D Q B)) (moment : ℕ) (m : Message K V A F D Q) (n : ℕ) → IsAnswer S es moment m (Answer.Held n) → IsRealHolder S es m n
   real_holder es moment (Message.Write action) n is =
@@ -145,14 +151,18 @@ module _ {K V A F C D Q B : Type 0} (S : Service K V A F C D Q B) (law : IsServi
       recall_other false e = cc
   real_holder es moment Message.Unfinished n is = cc
   real_holder es moment (Message.Ask question) n is = cc
-  real_holder es moment (Message.QueryPage page) n is = page_other (S.serves (state_after S.core (effects es)).catalog page) n is
-  real_holder es moment (Message.ScanPage page) n is = page_other (S.serves (state_after S.core (effects es)).catalog page) n is
+  real_holder es moment (Message.QueryPage page) n is =
+      let c = (state_after S.core (effects es)).catalog in
+      page_other (S.serves c page) (S.page c (rows_for S es (S.page_cell page) (S.page_index page)) page) n (sym is)
+  real_holder es moment (Message.ScanPage page) n is =
+      let c = (state_after S.core (effects es)).catalog in
+      page_other (S.serves c page) (S.page c (rows_for S es (S.page_cell page) (S.page_index page)) page) n (sym is)
   real_holder es moment (Message.Pendings cell) n is = is.1
-  real_holder es moment (Message.PeekOut source) n is = is.1
-  real_holder es moment (Message.ApplyIndex source sequence index row_key after) n (inl is) = cc
-  real_holder es moment (Message.ApplyIndex source sequence index row_key after) n (inr is) = cc
-  real_holder es moment (Message.Ack source sequence) n (far, inl is) = cc
-  real_holder es moment (Message.Ack source sequence) n (far, inr is) = cc
+  real_holder es moment (Message.PeekOut source) n is = out_other (out_after S es source) n (sym is.1)
+  real_holder es moment (Message.ApplyIndex source sequence index row_key after) n is =
+      cond_both (feeds_after S es source sequence (change index row_key after)) Answer.Fed Answer.Already (λ x. Answer.Held n ≡ x → ⊥) (λ _ e. cc) (λ _ e. cc) is
+  real_holder es moment (Message.Ack source sequence) n is =
+      cond_both (has_sequence (out_after S es source) sequence) Answer.Acked Answer.Nothing (λ x. Answer.Held n ≡ x → ⊥) (λ _ e. cc) (λ _ e. cc) is.1
 
   -- a Late, of a Prepare
   pub late_stamp : (es : List (Entry K V A F D Q B)) (moment : ℕ) (n : ℕ) (stamp : Stamp) (action : A) (t : Stamp) → IsAnswer S es moment (Message.Prepare n stamp action) (Answer.Late t) → (t ≡ last_by S es (S.core.key_of action)) × IsBy stamp t

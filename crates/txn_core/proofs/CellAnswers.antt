@@ -1,5 +1,5 @@
 -- A cell's own entries decide what it answers, and the cells' own entries together what a command is answered.
-use Rattle.std.proofs.Common.{◌≡◌, ◌⊎◌, inl, inr, ◌↔◌, ℕ, ◌<◌, ◌≤◌, true, nat_eq, List, [], ◌∷◌, ◌++◌, Option, None, Some, is_some, if◌then◌else◌, refl, sym, ap, ◌∙◌, subst, arith}
+use Rattle.std.proofs.Common.{◌≡◌, ◌⊎◌, inl, inr, ◌↔◌, ℕ, ◌<◌, ◌≤◌, true, ◌&&◌, nat_eq, nat_lt, List, [], ◌∷◌, ◌++◌, Option, None, Some, is_some, if◌then◌else◌, refl, sym, ap, ◌∙◌, subst, arith}
 use Rattle.std.specs.List.{list_all}
 use Rattle.std.specs.Prelude.{slice_index_or}
 use Rattle.std.proofs.lemmas.Bool.{cond_both, cases_lt, eqb-false}
@@ -7,11 +7,16 @@ use Rattle.txn_core.specs.declared.message.Message.{Message}
 use Rattle.txn_core.specs.declared.answer.Answer.{Answer}
 use Rattle.txn_core.specs.declared.answer.HeldItem.{HeldItem}
 use Rattle.txn_core.specs.declared.entry.Entry.{Entry}
+use Rattle.index_feed.specs.declared.change.Change.{Change}
+use Rattle.index_feed.specs.Feed.{peek, served}
+use Rattle.index_feed.proofs.Homes.{homes, items_alike, rows_alike}
+use Rattle.txn_core.specs.Indexing.{indexed}
+use Rattle.txn_core.specs.Feeding.{change, has_sequence, feed_events, feed_after, rows_for}
 use Rattle.txn_core.specs.Service.{Service, IsServiceLawful}
 use Rattle.txn_core.specs.State.{Pending, State, holder}
-use Rattle.txn_core.specs.Answers.{get_answer, write_answer, prepare_answer, apply_answer, release_answer, version_answer, begin_answer, has_record, decide_answer, done_answer, forget_answer, fate_answer, recall_answer, unfinished}
+use Rattle.txn_core.specs.Answers.{get_answer, write_answer, prepare_answer, apply_answer, release_answer, version_answer, begin_answer, has_record, decide_answer, done_answer, forget_answer, fate_answer, recall_answer, unfinished, page_answer, out_answer, feed_answer, ack_answer}
 use Rattle.txn_core.specs.History.{unless_over, found_kept, IsTimely}
-use Rattle.txn_core.specs.Legal.{state, IsInTheWay, ruling_answer, IsRuled, ArePendings, IsPendingList, IsPage, IsAnswer, Allowed, sent_to, IsLegal}
+use Rattle.txn_core.specs.Legal.{state, IsInTheWay, ruling_answer, IsRuled, ArePendings, IsPendingList, page_after, out_after, feeds_after, IsAnswer, Allowed, sent_to, IsLegal}
 use Rattle.txn_core.specs.Cells.{of_cell, of_pass, IsAlike, AreAlike, HaveSameEntries, IsFirstHolder, IsClearThere, IsRuledByCells}
 use Rattle.txn_core.proofs.Basics.{holder_is}
 use Rattle.txn_core.proofs.Prefix.{legal_before}
@@ -67,6 +72,22 @@ module _ {K V A F C D Q B : Type 0} (S : Service K V A F C D Q B) where
   pendings_alike es fs cell s (Answer.PendingList pendings) h = are_pendings_alike es fs cell s pendings h
   pendings_alike es fs cell s _ h = absurd h
 
+  -- a page of a cell, and the first of an outbox, go by what the cell holds
+  rows_alike_in : (i : ℕ) (es fs : List (Entry K V A F D Q B)) → IsAlike S i es fs → (g : Option ℕ) → rows_for S es i g ≡ rows_for S fs i g
+  rows_alike_in i es fs s None = items_alike (indexed S.core S.index) i (feed_after S es) (feed_after S fs) (homes (indexed S.core S.index) S.core.empty (feed_events S es)) s.feed
+  rows_alike_in i es fs s (Some g) = rows_alike (indexed S.core S.index) i g (feed_after S es) (feed_after S fs) (homes (indexed S.core S.index) S.core.empty (feed_events S es)) s.feed
+
+  page_alike : (es fs : List (Entry K V A F D Q B)) (page : Q) → IsAlike S (S.page_cell page) es fs → page_after S es page ≡ page_after S fs page
+  page_alike es fs page s =
+      λ j. page_answer (S.serves (s.catalog j) page) (S.page (s.catalog j) (rows_alike_in (S.page_cell page) es fs s (S.page_index page) j) page)
+
+  out_alike : (es fs : List (Entry K V A F D Q B)) (source : ℕ) → IsAlike S source es fs → out_after S es source ≡ out_after S fs source
+  out_alike es fs source s = λ j. peek (s.feed.sent j) (s.feed.outbox j)
+
+  feeds_alike : (es fs : List (Entry K V A F D Q B)) (source sequence : ℕ) (x : Change K V) → IsAlike S (S.core.cell_of x.key) es fs → feeds_after S es source sequence x ≡ feeds_after S fs source sequence x
+  feeds_alike es fs source sequence x s =
+      λ j. nat_lt (s.feed.mark source j) sequence && served (indexed S.core S.index) (s.feed.catalog j) x.index (S.index.item_of x.key)
+
   -- histories which leave the cells that are asked with the same have the same answers
   pub alike_answer : (es fs : List (Entry K V A F D Q B)) (moment : ℕ) (m : Message K V A F D Q) (a : Answer K V A F B) → AreAlike S (sent_to S m) es fs → IsAnswer S es moment m a → IsAnswer S fs moment m a
   alike_answer es fs moment (Message.Get key) a s is = is ∙ (λ j. get_answer (S.core.there (s.catalog j) key) (s.items key refl j).row)
@@ -91,12 +112,14 @@ module _ {K V A F C D Q B : Type 0} (S : Service K V A F C D Q B) where
       is ∙ (λ j. let l = s.ledger refl j in recall_answer (has_record l n) (l.fate n) (l.stamp n) (l.actions n) (s.reasons refl n j))
   alike_answer es fs moment Message.Unfinished a s is = is ∙ (λ j. Answer.Numbers (unfinished (s.ledger refl j)))
   alike_answer es fs moment (Message.Ask question) a s is = is ∙ (λ j. Answer.Told (S.tell (s.catalog j) question))
-  alike_answer es fs moment (Message.QueryPage page) a s is = subst (λ b. IsPage S b a) (λ j. S.serves (s.catalog j) page) is
-  alike_answer es fs moment (Message.ScanPage page) a s is = subst (λ b. IsPage S b a) (λ j. S.serves (s.catalog j) page) is
+  alike_answer es fs moment (Message.QueryPage page) a s is = is ∙ page_alike es fs page s
+  alike_answer es fs moment (Message.ScanPage page) a s is = is ∙ page_alike es fs page s
   alike_answer es fs moment (Message.Pendings cell) a s is = (is.0, pendings_alike es fs cell s a is.1)
-  alike_answer es fs moment (Message.PeekOut source) a s is = is
-  alike_answer es fs moment (Message.ApplyIndex source sequence index row_key after) a s is = is
-  alike_answer es fs moment (Message.Ack source sequence) a s is = is
+  alike_answer es fs moment (Message.PeekOut source) a s is = (is.0, is.1 ∙ ap (λ o. out_answer S.core.cell_of o) (out_alike es fs source s))
+  alike_answer es fs moment (Message.ApplyIndex source sequence index row_key after) a s is =
+      is ∙ ap (λ b. feed_answer b) (feeds_alike es fs source sequence (change index row_key after) s)
+  alike_answer es fs moment (Message.Ack source sequence) a s is =
+      (is.0, is.1 ∙ ap (λ o. ack_answer (has_sequence o sequence)) (out_alike es fs source s))
   alike_answer es fs moment (Message.Command d) a s is =
       let cat = (s S.control (inl refl)).catalog in
       subst (λ o. IsRuled S (state S fs) d moment o a) (λ j. S.refuses d (cat j))

@@ -23,6 +23,17 @@ pub use Rattle.txn_core.proofs.Causes.{real_holder, late_stamp, get_is_shown, re
 pub use Rattle.txn_core.proofs.Writes.{catalog_is_serial, writes_are_serial}
 pub use Rattle.txn_core.proofs.Moves.{others_leave_the_order, first_decision_stands, moved_is_real}
 pub use Rattle.txn_core.proofs.TokenLife.{drawn_once, later_begins}
+pub use Rattle.txn_core.proofs.OwnItems.{points_pass_own, read_holders_are_real, moved_item_is_real}
+pub use Rattle.txn_core.proofs.Cancels.{cancels_are_real}
+pub use Rattle.txn_core.proofs.Accepted.{held_is_accepted}
+pub use Rattle.txn_core.proofs.Begins.{time_ends_life, cancel_ends_life, stale_begins_are_real, repeats_are_done}
+-- the feed: its rows are those of the state, its events are legal, and the laws of index rows and pages
+pub use Rattle.txn_core.proofs.Agreement.{Agrees, agrees}
+pub use Rattle.txn_core.proofs.FeedLegality.{was_sent, legal_events}
+pub use Rattle.txn_core.proofs.IndexLaws.{index_rows_project, gone_has_no_rows, drained_is_projection, what_waits_completes}
+pub use Rattle.txn_core.proofs.IndexLaws.{repeats_change_nothing, acks_change_once, others_leave_projections, empty_is_empty}
+pub use Rattle.txn_core.proofs.IndexLaws.{table_pages_are_shown, index_pages_are_shown}
+pub use Rattle.txn_core.proofs.Queues.{others_queue_nothing}
 -- cells: what own entries tell and decide, and the step of who has seen them
 pub use Rattle.txn_core.proofs.Locality.{own_entries_tell, alike_turned, alike_on, same_entries_alike}
 pub use Rattle.txn_core.proofs.CellAnswers.{own_timely, timely_by_own, alike_answer, own_entries_answer, cells_answer, same_entries_answer, seen_cells_are_enough}

@@ -7,7 +7,7 @@ use Rattle.txn_core.specs.declared.fate.Fate.TheVariants.{Undecided, Committed, 
 use Rattle.txn_core.specs.Stamps.{earlier, IsBy, single}
 use Rattle.txn_core.specs.Protocol.{after, IsNew, Protocol, IsLawful}
 use Rattle.txn_core.specs.Effects.{Effect, Wrote, Begun, Prepared, Commits, Cancels, Applied, Released, Finished, Forgot, Changed, Quiet}
-use Rattle.txn_core.specs.State.{Pending, Spot, Tally, Ledger, State, holder, last, action_on, touches, at, hold, image_or, stamp_or, tally_after, spot_wrote, spot_prepared, spot_applied, spot_released, spot_commits, spot_changed, here, on_key, step, start, state_after, tally_changed}
+use Rattle.txn_core.specs.State.{Pending, Spot, Tally, Ledger, State, holder, last, action_on, touches, at, hold, image_or, stamp_or, tally_after, spot_wrote, spot_prepared, spot_applied, spot_released, spot_commits, spot_changed, here, on_key, step, start, state_after}
 use Rattle.txn_core.specs.Runs.{May, IsRun, MayWrite, MayPrepare, MayCommit, MayFinish, MayChange, IsReady}
 use Rattle.txn_core.proofs.Basics.{none_some, true_false, at_split, held}
 use Rattle.txn_core.proofs.Invariant.{GoodSpot, Good}

@@ -1,6 +1,6 @@
 -- A cell's own entries leave it with what the whole history does.
-use Rattle.std.proofs.Common.{◌≡◌, ℕ, ◌+◌, Bool, true, false, List, [], ◌∷◌, Option, None, Some, is_some, if◌then◌else◌, refl, sym, ◌∙◌, subst}
-use Rattle.std.proofs.lemmas.Bool.{cond_both, eqb-false}
+use Rattle.std.proofs.Common.{◌≡◌, ℕ, ◌+◌, Bool, true, false, nat_eq, List, [], ◌∷◌, Option, None, Some, is_some, if◌then◌else◌, refl, sym, ◌∙◌, subst, inl, inr}
+use Rattle.std.proofs.lemmas.Bool.{cond_both, cases_Bool, eqb-true, eqb-false}
 use Rattle.txn_core.specs.declared.stamp.Stamp.{Stamp}
 use Rattle.txn_core.specs.declared.fate.Fate.{Fate}
 use Rattle.txn_core.specs.declared.fate.Fate.TheVariants.{Committed, Cancelled}
@@ -13,7 +13,11 @@ use Rattle.txn_core.specs.Protocol.{after, Protocol, IsLawful}
 use Rattle.txn_core.specs.Service.{Service, IsServiceLawful}
 use Rattle.txn_core.specs.Effects.{Effect, Wrote, Begun, Prepared, Commits, Cancels, Applied, Released, Finished, Forgot, Changed, Quiet}
 use Rattle.txn_core.specs.State.{Spot, Tally, State, at, hold, image_or, stamp_or, tally_after, tally_changed, kept_or, ledger_begun, ledger_decided, ledger_finished, ledger_forgot, spot_wrote, spot_prepared, spot_applied, spot_released, here, on_key, step}
+use Rattle.index_feed.specs.Feed.{Feed, Event as FeedEvent, Sets, Commands, AlikeAt, step as feed_step}
+use Rattle.index_feed.proofs.Local.{IsOf, alike_itself, alike_turned as feed_turned, alike_on as feed_on, others_leave, command_alike, any_alike}
 use Rattle.txn_core.specs.Answers.{KeptToken}
+use Rattle.txn_core.specs.Indexing.{Indexing, indexed, IsIndexingLawful}
+use Rattle.txn_core.specs.Feeding.{message_event, item_event, event_of, feed_after}
 use Rattle.txn_core.specs.History.{where_so, begin_effect, decide_effect, effect_of, effect, kept_after, kept, reasons_in, reasons_of}
 use Rattle.txn_core.specs.Legal.{state, sent_to, IsLegal}
 use Rattle.txn_core.specs.Cells.{Item, item, reaches, of_cell, IsAlike}
@@ -176,6 +180,46 @@ module _ {K V A F C D : Type 0} (P : Protocol K V A F C D) (law : IsLawful P) (i
   away_decide n (Answer.Decided Fate.Cancelled true) = tt
   away_decide n _ = tt
 
+-- the feed beside the state
+module _ {K V A F C D : Type 0} (P : Protocol K V A F C D) (law : IsLawful P) (X : Indexing K V C D) (index : IsIndexingLawful P X) (i : ℕ) where
+  module _ (w u : State K V A C) (s : AreSame P law i w u) (f h : Feed K V C) (a : AlikeAt (indexed P X) i f h) where
+    -- an item of any cell is set: of this one to the same in both
+    sets_alike : (k : K) (v : State K V A C → Option V) → (P.cell_of k ≡ i → v w ≡ v u)
+        → AlikeAt (indexed P X) i (feed_step (indexed P X) f (Sets k (v w))) (feed_step (indexed P X) h (Sets k (v u)))
+    sets_alike k v same =
+        let I = indexed P X in
+        elim (cases_Bool (nat_eq (P.cell_of k) i)) [
+          | inl t ↦ subst (λ x. AlikeAt I i (feed_step I f (Sets k (v w))) (feed_step I h (Sets k x))) (same (eqb-true (P.cell_of k) i t)) (any_alike I index.feed i f h (Sets k (v w)) a)
+          | inr t ↦
+              feed_on I i (feed_step I f (Sets k (v w))) f (feed_step I h (Sets k (v u))) (others_leave I index.feed i f (Sets k (v w)) (eqb-false (P.cell_of k) i t))
+              (feed_on I i f h (feed_step I h (Sets k (v u))) a (feed_turned I i (feed_step I h (Sets k (v u))) h (others_leave I index.feed i h (Sets k (v u)) (eqb-false (P.cell_of k) i t))))
+        ]
+
+    -- both take the same effect, or else the same message
+    feed_same_step : (e : Effect K A D) (x : FeedEvent K V C)
+        → AlikeAt (indexed P X) i (feed_step (indexed P X) f (item_event P X w e x)) (feed_step (indexed P X) h (item_event P X u e x))
+    feed_same_step (Wrote b moment) x =
+        let k = P.key_of b in
+        sets_alike k (λ y. after (P.act y.catalog b (y.spot k).row) (y.spot k).row)
+        (λ home j. let row = (s.items k home j).row in after (P.act (s.catalog j) b row) row)
+    feed_same_step (Applied n k) x =
+        sets_alike k (λ y. image_or (y.spot k).row (y.spot k).pend) (λ home j. let t = s.items k home j in image_or t.row t.pend)
+    feed_same_step (Changed d moment) x =
+        subst (λ c. AlikeAt (indexed P X) i (feed_step (indexed P X) f (item_event P X w (Changed d moment) x)) (feed_step (indexed P X) h (Commands (P.change d moment c) (X.brings d c) (λ q. kept_or (P.there c q) (P.there (P.change d moment c) q) (u.spot q).row (P.adds d c q))))) s.catalog
+        (command_alike (indexed P X) index.feed i f h (P.change d moment w.catalog) (X.brings d w.catalog)
+        (λ q. kept_or (P.there w.catalog q) (P.there (P.change d moment w.catalog) q) (w.spot q).row (P.adds d w.catalog q))
+        (λ q. kept_or (P.there w.catalog q) (P.there (P.change d moment w.catalog) q) (u.spot q).row (P.adds d w.catalog q))
+        (λ q home j. kept_or (P.there w.catalog q) (P.there (P.change d moment w.catalog) q) (s.items q home j).row (P.adds d w.catalog q)) a)
+    feed_same_step _ x = any_alike (indexed P X) index.feed i f h x a
+
+  -- an effect of another cell with a message to another one
+  feed_away : (u : State K V A C) (e : Effect K A D) (x : FeedEvent K V C) → IsAway P law i e → (IsOf (indexed P X) i x → ⊥)
+      → IsOf (indexed P X) i (item_event P X u e x) → ⊥
+  feed_away u (Wrote b moment) x away other h = away h
+  feed_away u (Applied n k) x away other h = away h
+  feed_away u (Changed d moment) x away other h = away
+  feed_away u _ x away other h = other h
+
 module _ {K V A F C D Q B : Type 0} (S : Service K V A F C D Q B) (law : IsServiceLawful S) where
   -- what went to another cell changes nothing of this one
   away_entry : (i moment : ℕ) (m : Message K V A F D Q) (a : Answer K V A F B) → reaches (sent_to S m) i ≡ false → IsAway S.core law.core i (effect_of moment m a)
@@ -189,6 +233,12 @@ module _ {K V A F C D Q B : Type 0} (S : Service K V A F C D Q B) (law : IsServi
   away_entry i moment (Message.Forget n) a e = away_where S.core law.core i _ (Forgot n) tt
   away_entry i moment (Message.Command d) a e = absurd (cc)
   away_entry i moment _ a e = tt
+
+  away_message : (i : ℕ) (m : Message K V A F D Q) (a : Answer K V A F B) → reaches (sent_to S m) i ≡ false → IsOf (indexed S.core S.index) i (message_event m a) → ⊥
+  away_message i (Message.PeekOut source) a e h = reach_other source i e h
+  away_message i (Message.ApplyIndex source sequence index row_key after) a e h = reach_other (S.core.cell_of row_key) i e h
+  away_message i (Message.Ack source sequence) a e h = reach_other source i e h
+  away_message i _ a e h = h
 
   module _ (u : State K V A C) where
     ledger_where : (b : Bool) (e : Effect K A D) → (step S.core u e).ledger ≡ u.ledger → (step S.core u (where_so b e)).ledger ≡ u.ledger
@@ -216,6 +266,9 @@ module _ {K V A F C D Q B : Type 0} (S : Service K V A F C D Q B) (law : IsServi
         items = same.items;
         numbers = same.numbers;
         catalog = same.catalog;
+        feed =
+            feed_same_step S.core law.core S.index law.index i (state S es) (state S fs)
+            (record { items = s.items; numbers = s.numbers; catalog = s.catalog }) (feed_after S es) (feed_after S fs) s.feed (effect e) (message_event e.message e.answer);
         ledger = λ c. same_ledger S.core law.core i (state S es) (state S fs) (record { items = s.items; numbers = s.numbers; catalog = s.catalog }) (s.ledger c) (effect e);
         tokens = λ c t j. kept_after e.moment e.message e.answer t (s.tokens c t j);
         reasons = λ c n j. reasons_in n e.message e.answer (s.reasons c n j);
@@ -230,6 +283,12 @@ module _ {K V A F C D Q B : Type 0} (S : Service K V A F C D Q B) (law : IsServi
         items = same.items;
         numbers = same.numbers;
         catalog = same.catalog;
+        feed =
+            let I = indexed S.core S.index in
+            feed_on I i (feed_after S es) (feed_after S fs) (feed_after S (e ∷ fs)) s.feed
+            (feed_turned I i (feed_after S (e ∷ fs)) (feed_after S fs)
+            (others_leave I law.index.feed i (feed_after S fs) (event_of S (state S fs) e.moment e.message e.answer)
+            (feed_away S.core law.core S.index law.index i (state S fs) (effect e) (message_event e.message e.answer) (away_entry i e.moment e.message e.answer away) (away_message i e.message e.answer away))));
         ledger = λ c. s.ledger c ∙ sym (same_control (state S fs) e.moment e.message e.answer (subst (λ k. reaches (sent_to S e.message) k ≡ false) c away)).0;
         tokens = λ c t. s.tokens c t ∙ sym ((same_control (state S fs) e.moment e.message e.answer (subst (λ k. reaches (sent_to S e.message) k ≡ false) c away)).1 t (kept fs t));
         reasons = λ c n. s.reasons c n ∙ sym ((same_control (state S fs) e.moment e.message e.answer (subst (λ k. reaches (sent_to S e.message) k ≡ false) c away)).2 n (reasons_of fs n));
@@ -237,7 +296,8 @@ module _ {K V A F C D Q B : Type 0} (S : Service K V A F C D Q B) (law : IsServi
 
   -- a cell's own entries leave it with what the whole history does
   pub own_entries_tell : (es : List (Entry K V A F D Q B)) → IsLegal S es → (i : ℕ) → IsAlike S i (of_cell i es) es
-  own_entries_tell [] legal i = record { items = λ q at. refl; numbers = refl; catalog = refl; ledger = λ c. refl; tokens = λ c t. refl; reasons = λ c n. refl }
+  own_entries_tell [] legal i =
+      record { items = λ q at. refl; numbers = refl; catalog = refl; feed = alike_itself (indexed S.core S.index) i (feed_after S []); ledger = λ c. refl; tokens = λ c t. refl; reasons = λ c n. refl }
   own_entries_tell (e ∷ es) legal i =
       let s = own_entries_tell es legal.0 i in
       cond_both (reaches e.cell i) (e ∷ of_cell i es) (of_cell i es) (λ own. IsAlike S i own (e ∷ es))
@@ -250,6 +310,7 @@ module _ {K V A F C D Q B : Type 0} (S : Service K V A F C D Q B) (law : IsServi
         items = λ q at. sym (s.items q at);
         numbers = sym s.numbers;
         catalog = sym s.catalog;
+        feed = feed_turned (indexed S.core S.index) i (feed_after S es) (feed_after S fs) s.feed;
         ledger = λ c. sym (s.ledger c);
         tokens = λ c t. sym (s.tokens c t);
         reasons = λ c n. sym (s.reasons c n);
@@ -261,6 +322,7 @@ module _ {K V A F C D Q B : Type 0} (S : Service K V A F C D Q B) (law : IsServi
         items = λ q at. s.items q at ∙ r.items q at;
         numbers = s.numbers ∙ r.numbers;
         catalog = s.catalog ∙ r.catalog;
+        feed = feed_on (indexed S.core S.index) i (feed_after S es) (feed_after S fs) (feed_after S gs) s.feed r.feed;
         ledger = λ c. s.ledger c ∙ r.ledger c;
         tokens = λ c t. s.tokens c t ∙ r.tokens c t;
         reasons = λ c n. s.reasons c n ∙ r.reasons c n;

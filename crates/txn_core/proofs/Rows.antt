@@ -369,16 +369,10 @@ abbrev scan : Row
 scan = at_cell 2 8 4 (Message.ScanPage 4) (Answer.Part 0)
 
 abbrev peek : Row
-peek = at_cell 2 8 1 (Message.PeekOut 1) (Answer.Out 5 2 4 20 (Some 8))
-
-abbrev feed : Row
-feed = at_cell 2 8 4 (Message.ApplyIndex 1 5 2 20 (Some 8)) Answer.Fed
-
-abbrev ack : Row
-ack = at_cell 2 8 1 (Message.Ack 1 5) Answer.Acked
+peek = at_cell 2 8 1 (Message.PeekOut 1) Answer.Empty
 
 -- one after another, each after those before it
-quiet_legal : IsLegal (service 16) (ack ∷ feed ∷ peek ∷ scan ∷ query ∷ ask ∷ unfinished_now ∷ recall ∷ fate_of ∷ version_1 ∷ get_1 ∷ holding)
+quiet_legal : IsLegal (service 16) (peek ∷ scan ∷ query ∷ ask ∷ unfinished_now ∷ recall ∷ fate_of ∷ version_1 ∷ get_1 ∷ holding)
 quiet_legal = (
   (
     (
@@ -387,26 +381,90 @@ quiet_legal = (
           (
             (
               (
-                (
-                  (
-                    (holding_legal, record { answer = refl; allowed = tt; cell = refl; timely = timely_by holding 2 8 refl }),
-                    record { answer = refl; allowed = tt; cell = refl; timely = timely_by (get_1 ∷ holding) 2 8 refl },
-                  ),
-                  record { answer = refl; allowed = tt; cell = refl; timely = timely_by (version_1 ∷ get_1 ∷ holding) 2 8 refl },
-                ),
-                record { answer = refl; allowed = tt; cell = refl; timely = timely_by (fate_of ∷ version_1 ∷ get_1 ∷ holding) 2 8 refl },
+                (holding_legal, record { answer = refl; allowed = tt; cell = refl; timely = timely_by holding 2 8 refl }),
+                record { answer = refl; allowed = tt; cell = refl; timely = timely_by (get_1 ∷ holding) 2 8 refl },
               ),
-              record { answer = refl; allowed = tt; cell = refl; timely = timely_by (recall ∷ fate_of ∷ version_1 ∷ get_1 ∷ holding) 2 8 refl },
+              record { answer = refl; allowed = tt; cell = refl; timely = timely_by (version_1 ∷ get_1 ∷ holding) 2 8 refl },
             ),
-            record { answer = refl; allowed = tt; cell = refl; timely = timely_by (unfinished_now ∷ recall ∷ fate_of ∷ version_1 ∷ get_1 ∷ holding) 2 8 refl },
+            record { answer = refl; allowed = tt; cell = refl; timely = timely_by (fate_of ∷ version_1 ∷ get_1 ∷ holding) 2 8 refl },
           ),
-          record { answer = tt; allowed = tt; cell = refl; timely = timely_by (ask ∷ unfinished_now ∷ recall ∷ fate_of ∷ version_1 ∷ get_1 ∷ holding) 2 8 refl },
+          record { answer = refl; allowed = tt; cell = refl; timely = timely_by (recall ∷ fate_of ∷ version_1 ∷ get_1 ∷ holding) 2 8 refl },
         ),
-        record { answer = tt; allowed = tt; cell = refl; timely = timely_by (query ∷ ask ∷ unfinished_now ∷ recall ∷ fate_of ∷ version_1 ∷ get_1 ∷ holding) 2 8 refl },
+        record { answer = refl; allowed = tt; cell = refl; timely = timely_by (unfinished_now ∷ recall ∷ fate_of ∷ version_1 ∷ get_1 ∷ holding) 2 8 refl },
       ),
-      record { answer = (lit< tt, refl); allowed = tt; cell = refl; timely = timely_by (scan ∷ query ∷ ask ∷ unfinished_now ∷ recall ∷ fate_of ∷ version_1 ∷ get_1 ∷ holding) 2 8 refl },
+      record { answer = refl; allowed = tt; cell = refl; timely = timely_by (ask ∷ unfinished_now ∷ recall ∷ fate_of ∷ version_1 ∷ get_1 ∷ holding) 2 8 refl },
     ),
-    record { answer = inl refl; allowed = (0, peek, lit< tt, refl, (refl, refl)); cell = refl; timely = timely_by (peek ∷ scan ∷ query ∷ ask ∷ unfinished_now ∷ recall ∷ fate_of ∷ version_1 ∷ get_1 ∷ holding) 2 8 refl },
+    record { answer = refl; allowed = tt; cell = refl; timely = timely_by (query ∷ ask ∷ unfinished_now ∷ recall ∷ fate_of ∷ version_1 ∷ get_1 ∷ holding) 2 8 refl },
   ),
-  record { answer = (lit< tt, inl refl); allowed = refl; cell = refl; timely = timely_by (feed ∷ peek ∷ scan ∷ query ∷ ask ∷ unfinished_now ∷ recall ∷ fate_of ∷ version_1 ∷ get_1 ∷ holding) 2 8 refl },
+  record { answer = (lit< tt, refl); allowed = tt; cell = refl; timely = timely_by (scan ∷ query ∷ ask ∷ unfinished_now ∷ recall ∷ fate_of ∷ version_1 ∷ get_1 ∷ holding) 2 8 refl },
 )
+
+-- the item 1 is put, and its row in the index, whose key is 2, comes into the cell 2
+abbrev put_1 : Row
+put_1 = at_cell 1 6 1 (Message.Write (1, 8)) (Answer.Written None (Some 8))
+
+abbrev written : List Row
+written = put_1 ∷ create ∷ []
+
+written_legal : IsLegal (service 16) written
+written_legal = (create_legal, record { answer = refl; allowed = tt; cell = refl; timely = timely_by (create ∷ []) 1 6 refl })
+
+abbrev peek_1 : Row
+peek_1 = at_cell 2 8 1 (Message.PeekOut 1) (Answer.Out 1 1 2 2 (Some 8))
+
+abbrev feed_2 : Answer ℕ ℕ (ℕ × ℕ) ℕ ℕ → Row
+feed_2 a = at_cell 2 8 2 (Message.ApplyIndex 1 1 1 2 (Some 8)) a
+
+abbrev ack_1 : Row
+ack_1 = at_cell 2 8 1 (Message.Ack 1 1) Answer.Acked
+
+-- a page of the cell 2, of the index
+abbrev index_page : ℕ → Row
+index_page told = at_cell 2 8 2 (Message.ScanPage 114) (Answer.Part told)
+
+-- and one of the cell 1, of the table
+abbrev table_page : ℕ → Row
+table_page told = at_cell 2 8 1 (Message.ScanPage 17) (Answer.Part told)
+
+fed_legal : IsLegal (service 16) (feed_2 Answer.Already ∷ index_page 1 ∷ table_page 1 ∷ ack_1 ∷ feed_2 Answer.Fed ∷ index_page 0 ∷ peek_1 ∷ written)
+fed_legal = (
+  (
+    (
+      (
+        (
+          (
+            (written_legal, record { answer = (lit< tt, refl); allowed = tt; cell = refl; timely = timely_by written 2 8 refl }),
+            record { answer = refl; allowed = tt; cell = refl; timely = timely_by (peek_1 ∷ written) 2 8 refl },
+          ),
+          record { answer = refl; allowed = (1, peek_1, lit< tt, refl, (refl, refl)); cell = refl; timely = timely_by (index_page 0 ∷ peek_1 ∷ written) 2 8 refl },
+        ),
+        record { answer = (lit< tt, refl); allowed = refl; cell = refl; timely = timely_by (feed_2 Answer.Fed ∷ index_page 0 ∷ peek_1 ∷ written) 2 8 refl },
+      ),
+      record { answer = refl; allowed = tt; cell = refl; timely = timely_by (ack_1 ∷ feed_2 Answer.Fed ∷ index_page 0 ∷ peek_1 ∷ written) 2 8 refl },
+    ),
+    record { answer = refl; allowed = tt; cell = refl; timely = timely_by (table_page 1 ∷ ack_1 ∷ feed_2 Answer.Fed ∷ index_page 0 ∷ peek_1 ∷ written) 2 8 refl },
+  ),
+  record { answer = refl; allowed = (5, peek_1, lit< tt, refl, (refl, refl)); cell = refl; timely = timely_by (index_page 1 ∷ table_page 1 ∷ ack_1 ∷ feed_2 Answer.Fed ∷ index_page 0 ∷ peek_1 ∷ written) 2 8 refl },
+)
+
+-- a page without one of its rows, and one with a row of another cell
+row_left_out : IsLegal (service 16) (table_page 0 ∷ written) → ⊥
+row_left_out h = let e = h.1.answer in cc
+
+row_of_another_cell : IsLegal (service 16) (at_cell 2 8 3 (Message.ScanPage 19) (Answer.Part 1) ∷ written) → ⊥
+row_of_another_cell h = let e = h.1.answer in cc
+
+-- an index row before it was fed
+row_before_its_feed : IsLegal (service 16) (index_page 1 ∷ peek_1 ∷ written) → ⊥
+row_before_its_feed h = let e = h.1.answer in cc
+
+-- an Out that nobody queued, and one with another row than the item's
+out_of_nothing : IsLegal (service 16) (at_cell 2 8 3 (Message.PeekOut 3) (Answer.Out 1 1 4 4 (Some 8)) ∷ written) → ⊥
+out_of_nothing h = let e = h.1.answer.1 in cc
+
+out_of_another_image : IsLegal (service 16) (at_cell 2 8 1 (Message.PeekOut 1) (Answer.Out 1 1 2 2 (Some 9)) ∷ written) → ⊥
+out_of_another_image h = let e = h.1.answer.1 in cc
+
+-- an outbox that is acknowledged without an ApplyIndex
+early_ack : IsLegal (service 16) (ack_1 ∷ peek_1 ∷ written) → ⊥
+early_ack h = let e = h.1.allowed in cc

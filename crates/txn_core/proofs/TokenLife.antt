@@ -43,7 +43,7 @@ purged_live : {A : Type 0} (k : KeptToken A) (moment : ℕ) → is_over k.comple
 purged_live k moment e = ap (λ b. if b then None else Some k) e
 
 -- what is kept of a number while its life goes on
-abbrev token_of : {A : Type 0} → ℕ → List A → Option ℕ → KeptToken A
+abbrev pub token_of : {A : Type 0} → ℕ → List A → Option ℕ → KeptToken A
 token_of n actions completed = record { number = n; actions = actions; completed = completed }
 
 completed_is : {A : Type 0} (n m moment : ℕ) (actions : List A) (d : Option ℕ) → completed m moment (Some (token_of n actions d)) ≡ Some (token_of n actions (done_by (nat_eq n m) moment d))
@@ -58,7 +58,7 @@ completed_is n m moment actions (Some d) = go (nat_eq n m)
     go true = refl
     go false = refl
 
-eq_comm : (n m : ℕ) → nat_eq n m ≡ nat_eq m n
+pub eq_comm : (n m : ℕ) → nat_eq n m ≡ nat_eq m n
 eq_comm n m = cond_cases (nat_eq n m) (nat_eq m n) refl refl
   where
     cond_cases : (a b : Bool) → nat_eq n m ≡ a → nat_eq m n ≡ b → nat_eq n m ≡ nat_eq m n
@@ -136,7 +136,7 @@ module _ {K V A F C D Q B : Type 0} (S : Service K V A F C D Q B) (t : List ℕ)
       unchanged (Some d) = refl
 
   -- all through its life
-  lives : (since older : List (Entry K V A F D Q B)) → kept older t ≡ Some (token_of n actions None) → IsLegal S (since ++ older) → LivesOn n since → kept (since ++ older) t ≡ Some (token_of n actions (first_done since n))
+  pub lives : (since older : List (Entry K V A F D Q B)) → kept older t ≡ Some (token_of n actions None) → IsLegal S (since ++ older) → LivesOn n since → kept (since ++ older) t ≡ Some (token_of n actions (first_done since n))
   lives [] older is legal on = is
   lives (e ∷ since) older is legal on =
       kept_step (since ++ older) since e.moment e.message e.answer (lives since older is legal.0 on.0) legal.1.answer on.1
@@ -160,7 +160,7 @@ module _ {K V A F C D Q B : Type 0} (S : Service K V A F C D Q B) (t : List ℕ)
       newest moment _ a answer off k living = cc
 
 -- at its start it is kept
-started : {K V A F D Q B : Type 0} (t : List ℕ) (n : ℕ) (start : Entry K V A F D Q B) (older : List (Entry K V A F D Q B)) → draws t n start.message start.answer ≡ true → (actions : List A) × (kept (start ∷ older) t ≡ Some (token_of n actions None))
+pub started : {K V A F D Q B : Type 0} (t : List ℕ) (n : ℕ) (start : Entry K V A F D Q B) (older : List (Entry K V A F D Q B)) → draws t n start.message start.answer ≡ true → (actions : List A) × (kept (start ∷ older) t ≡ Some (token_of n actions None))
 started {K} {V} {A} {F} {D} {Q} {B} t n start older h = go start.message start.answer h
   where
     drawn : (u : List ℕ) (asked : List A) (a : Answer K V A F B) (old : Option (KeptToken A)) → bytes_eq u t ≡ true → is_begun n a ≡ true → begun_with (Some u) t asked a old ≡ Some (token_of n asked None)

@@ -9,6 +9,7 @@ use Rattle.txn_core.specs.Stamps.{earlier}
 use Rattle.txn_core.specs.declared.outcome.Outcome.{Outcome}
 use Rattle.txn_core.specs.declared.outcome.Outcome.TheVariants.{New, Unmet, Fails}
 use Rattle.txn_core.specs.State.{Ledger}
+use Rattle.index_feed.specs.Feed.{Out}
 
 -- what is kept with a token: the number and the actions of its transaction, and the moment of its first Done
 pub record KeptToken (A : Type 0) : Type 0 where
@@ -98,3 +99,22 @@ module _ {K V A F B : Type 0} where
   abbrev pub recall_answer : Bool → Fate → Stamp → List A → List (Reason V F) → Answer K V A F B
   recall_answer false fate stamp actions reasons = Answer.Unknown
   recall_answer true fate stamp actions reasons = Answer.Known fate stamp actions reasons
+
+  -- a page, by whether its table and index are there, and what it tells
+  abbrev pub page_answer : Bool → B → Answer K V A F B
+  page_answer false told = Answer.Stale
+  page_answer true told = Answer.Part told
+
+  -- a PeekOut, by the cells of rows and the first of the outbox
+  abbrev pub out_answer : (K → ℕ) → Option (Out K V) → Answer K V A F B
+  out_answer cell_of None = Answer.Empty
+  out_answer cell_of (Some o) =
+      Answer.Out o.sequence o.change.index (cell_of o.change.key) o.change.key o.change.after
+
+  -- an ApplyIndex, by whether it changes the row or the mark
+  abbrev pub feed_answer : Bool → Answer K V A F B
+  feed_answer changes = if changes then Answer.Fed else Answer.Already
+
+  -- an Ack, by whether the outbox's first has its sequence
+  abbrev pub ack_answer : Bool → Answer K V A F B
+  ack_answer first = if first then Answer.Acked else Answer.Nothing

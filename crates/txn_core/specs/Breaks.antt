@@ -1,7 +1,6 @@
 -- The rules of legal histories one by one, each with the kind of break where an entry doesn't keep it.
 use Rattle.std.specs.Prelude.{◌≡◌, ◌⊎◌, ℕ, ◌<◌, length, reverse, take, slice_index_or, Bool, true, false, List, [], ◌∷◌, Option, None, Some}
 use Rattle.txn_core.specs.declared.message.Message.{Message}
-use Rattle.txn_core.specs.declared.entry.Entry.{Entry}
 use Rattle.txn_core.specs.declared.replay.Break.{Break}
 use Rattle.txn_core.specs.declared.kind.BreakKind.{BreakKind}
 use Rattle.txn_core.specs.declared.kind.BreakKind.TheVariants.{NotBegun, EarlyCommit, CauselessCancel, EarlyApply, EarlyRelease, EarlyDone, EarlyForget, WrongAnswer, IndexOrder, AllCells}

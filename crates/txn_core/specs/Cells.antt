@@ -5,8 +5,11 @@ use Rattle.txn_core.specs.declared.message.Message.{Message}
 use Rattle.txn_core.specs.declared.answer.Answer.{Answer}
 use Rattle.txn_core.specs.declared.entry.Entry.{Entry}
 use Rattle.txn_core.specs.Service.{Service, Asked, Reply, Event, History}
-use Rattle.txn_core.specs.State.{Pending, Spot, State, holder, state_after}
-use Rattle.txn_core.specs.History.{effects, reasons_of, kept, IsTimely}
+use Rattle.txn_core.specs.State.{Pending, Spot, State, holder}
+use Rattle.txn_core.specs.History.{reasons_of, kept, IsTimely}
+use Rattle.index_feed.specs.Feed.{AlikeAt}
+use Rattle.txn_core.specs.Indexing.{indexed}
+use Rattle.txn_core.specs.Feeding.{feed_after}
 use Rattle.txn_core.specs.Legal.{state, IsAnswer, ruling_answer, Allowed, sent_to, IsLegal}
 
 -- what a cell holds of one item: the committed row with its stamp and version, and the pending on it
@@ -33,12 +36,13 @@ abbrev pub of_pass : {K V A F D Q B : Type 0} → ℕ → List (Entry K V A F D 
 of_pass p es = filter (λ e. nat_eq e.pass p) es
 
 module _ {K V A F C D Q B : Type 0} (S : Service K V A F C D Q B) where
-  -- both histories leave the cell with the same: its items, its floor and numbers, and the catalog; and the control cell
-  -- with the same transactions, tokens and reasons
+  -- both histories leave the cell with the same: its items, its floor and numbers, the catalog, its outbox, marks and index
+  -- rows; and the control cell with the same transactions, tokens and reasons
   pub record IsAlike (i : ℕ) (es fs : History S) : Type 0 where
     pub items : (q : K) → S.core.cell_of q ≡ i → item ((state S es).spot q) ≡ item ((state S fs).spot q)
     pub numbers : (state S es).cell i ≡ (state S fs).cell i
     pub catalog : (state S es).catalog ≡ (state S fs).catalog
+    pub feed : AlikeAt (indexed S.core S.index) i (feed_after S es) (feed_after S fs)
     pub ledger : i ≡ S.control → (state S es).ledger ≡ (state S fs).ledger
     pub tokens : i ≡ S.control → (t : List ℕ) → kept es t ≡ kept fs t
     pub reasons : i ≡ S.control → (n : ℕ) → reasons_of es n ≡ reasons_of fs n

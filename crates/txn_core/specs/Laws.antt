@@ -1,5 +1,5 @@
 -- What holds of every legal history, one definition a law.
-use Rattle.std.specs.Prelude.{◌≡◌, ◌≢◌, ◌⊎◌, ◌↔◌, ℕ, ◌≤◌, Bool, true, false, ◌&&◌, nat_eq, List, ◌∷◌, ◌++◌, Option, None, Some, is_some, if◌then◌else◌}
+use Rattle.std.specs.Prelude.{◌≡◌, ◌≢◌, ◌⊎◌, ◌↔◌, ℕ, ◌≤◌, length, Bool, true, false, not, ◌&&◌, nat_eq, List, [], ◌∷◌, ◌++◌, All, Option, None, Some, is_some, if◌then◌else◌}
 use Rattle.txn_core.specs.declared.stamp.Stamp.{Stamp}
 use Rattle.txn_core.specs.declared.reason.Reason.{Reason}
 use Rattle.txn_core.specs.declared.message.Message.{Message}
@@ -10,9 +10,10 @@ use Rattle.txn_core.specs.Protocol.{Protocol}
 use Rattle.txn_core.specs.Service.{Service, Asked, Reply, Event, History}
 use Rattle.txn_core.specs.Effects.{Effect, Commits}
 use Rattle.txn_core.specs.State.{Pending, State, holder, last, on_item, here, state_after}
-use Rattle.txn_core.specs.Serial.{Change, begun_actions, decisions, serial, standings, once_whole, catalog_of, tables, waiting, shown, point, IsStampOrder}
-use Rattle.txn_core.specs.History.{is_written, is_applied, is_changed, is_first, tells_commit, effect, effects, Had, commits, cancels, IsTimely, is_over}
-use Rattle.txn_core.specs.Tokens.{draws, first_done, LivesOn, Names}
+use Rattle.txn_core.specs.Serial.{Change, begun_stamp, begun_actions, decisions, serial, standings, once_whole, catalog_of, tables, waiting, shown, point, IsStampOrder}
+use Rattle.txn_core.specs.History.{is_written, is_applied, is_changed, is_first, tells_commit, effect, effects, Had, begins, commits, cancels, finishes, finds_no_table, IsTimely, is_over}
+use Rattle.std.specs.List.{list_any}
+use Rattle.txn_core.specs.Tokens.{draws, cancels_first, first_done, LivesOn, Names}
 use Rattle.txn_core.specs.Legal.{state, IsInTheWay, IsAnswer, Allowed, sent_to, Follows, IsLegal}
 use Rattle.txn_core.specs.Breaks.{KeepsAll, in_order}
 
@@ -96,6 +97,24 @@ module _ {K V A F C D Q B : Type 0} (S : Service K V A F C D Q B) where
       (e : Event S) (es : History S) (n : ℕ) → IsLegal S (e ∷ es) → effect e ≡ Commits n → (q : K) (a : A)
       → on_item S.core (begun_actions (effects es) n) q ≡ Some a → ActsAsAccepted S.core (effects es) n q a
 
+  -- a Prepare of the action was accepted, where the action made this of the item of the tables
+  abbrev pub AcceptedAs : History S → ℕ → Stamp → A → Option V → Type 0
+  AcceptedAs [] n stamp action image = ⊥
+  AcceptedAs (e ∷ es) n stamp action image =
+      ((e.message ≡ Message.Prepare n stamp action) × (e.answer ≡ Answer.Accepted)
+      × (S.core.act (catalog_by es) action (item_by es (S.core.key_of action)) ≡ New image))
+      ⊎ AcceptedAs es n stamp action image
+
+  pub record IsAccepted (es : History S) (q : K) (p : Pending V) : Type 0 where
+    pub action : A
+    pub its : S.core.key_of action ≡ q
+    pub was : AcceptedAs es p.number p.stamp action p.image
+
+  -- what holds an item is what an accepted Prepare of an action on it made
+  abbrev pub HeldIsAccepted : Type 0
+  HeldIsAccepted =
+      (es : History S) → IsLegal S es → (q : K) (p : Pending V) → ((state S es).spot q).pend ≡ Some p → IsAccepted es q p
+
   -- a Decide of a number that was decided before doesn't decide
   abbrev pub FirstDecisionStands : Type 0
   FirstDecisionStands =
@@ -148,6 +167,18 @@ module _ {K V A F C D Q B : Type 0} (S : Service K V A F C D Q B) where
       (es : History S) → IsLegal S es → (moment : ℕ) (key : K) (v : Option V)
       → IsAnswer S es moment (Message.Get key) (Answer.Row v) → v ≡ shown_by es key
 
+  -- the entry puts an item in place: an accepted Write of it, or its Apply
+  abbrev pub sets_item : K → Asked S → Reply S → Bool
+  sets_item q (Message.Write action) a = S.core.same (S.core.key_of action) q && is_written a
+  sets_item q (Message.Apply n key) a = S.core.same key q && is_applied a
+  sets_item q _ a = false
+
+  -- after such an entry the item is shown as it is at the end: who was answered sees the item so, or later
+  abbrev pub PointsPassOwn : Type 0
+  PointsPassOwn =
+      (e : Event S) (es : History S) → IsLegal S (e ∷ es) → (q : K) → sets_item q e.message e.answer ≡ true
+      → point_by (e ∷ es) q ≡ length (effects (e ∷ es))
+
   -- and the point at which an item is shown never falls
   abbrev pub PointsNeverFall : Type 0
   PointsNeverFall =
@@ -173,6 +204,50 @@ module _ {K V A F C D Q B : Type 0} (S : Service K V A F C D Q B) where
       → is_over (first_done since number) moment ≡ false
       → IsAnswer S (since ++ (start ∷ older)) moment (Message.Begin (Some token) actions) a → Names number a
 
+  -- a Begin draws a number that no Begin drew before, or finds a table gone
+  abbrev pub DrawsNew : History S → Reply S → Type 0
+  DrawsNew es a = (a ≡ Answer.Stale) ⊎ ((n : ℕ) × (stamp : Stamp) × (a ≡ Answer.Begun n stamp) × (Had (begins n) es → ⊥))
+
+  -- where its time is over at a moment, a Begin with the token then draws a new number
+  abbrev pub TimeEndsLife : Type 0
+  TimeEndsLife =
+      (since older : History S) (start : Event S) (token : List ℕ) (number : ℕ)
+      → Lives since older start token number → (moment : ℕ) (actions : List A) (a : Reply S)
+      → is_over (first_done since number) moment ≡ true
+      → IsAnswer S (since ++ (start ∷ older)) moment (Message.Begin (Some token) actions) a
+      → DrawsNew (since ++ (start ∷ older)) a
+
+  -- and so it does after the number's cancel
+  abbrev pub CancelEndsLife : Type 0
+  CancelEndsLife =
+      (cancel : Event S) (since older : History S) (start : Event S) (token : List ℕ) (number : ℕ)
+      → Lives since older start token number → IsLegal S (cancel ∷ (since ++ (start ∷ older)))
+      → cancels_first number cancel.message cancel.answer ≡ true → (moment : ℕ) (actions : List A) (a : Reply S)
+      → IsAnswer S (cancel ∷ (since ++ (start ∷ older))) moment (Message.Begin (Some token) actions) a
+      → DrawsNew (cancel ∷ (since ++ (start ∷ older))) a
+
+  -- the table of one of these actions is gone
+  abbrev pub lacks_table : History S → List A → Bool
+  lacks_table es actions = list_any (λ x. not (S.core.there (catalog_by es) (S.core.key_of x))) actions
+
+  -- a Begin is answered Stale only where the table of one of its actions is gone
+  abbrev pub StaleBeginsAreReal : Type 0
+  StaleBeginsAreReal =
+      (es : History S) (moment : ℕ) (token : Option (List ℕ)) (actions : List A)
+      → IsAnswer S es moment (Message.Begin token actions) Answer.Stale → lacks_table es actions ≡ true
+
+  -- a Repeat names a number that was begun with the same parameters, is committed, and Done
+  pub record IsRepeat (es : History S) (actions : List A) (n : ℕ) : Type 0 where
+    pub begun : Had (begins n) es
+    pub alike : S.same_actions (begun_actions (effects es) n) actions ≡ true
+    pub committed : Had (commits n) es
+    pub done : Had (finishes n) es
+
+  abbrev pub RepeatsAreDone : Type 0
+  RepeatsAreDone =
+      (es : History S) → IsLegal S es → (moment : ℕ) (token : Option (List ℕ)) (actions : List A) (n : ℕ)
+      → IsAnswer S es moment (Message.Begin token actions) (Answer.Repeat n) → IsRepeat es actions n
+
   -- a ReadVersion of the key at the end of this history is answered so
   abbrev pub Reads : History S → K → Option V → ℕ → Option ℕ → Type 0
   Reads es key item version holds = IsAnswer S es 0 (Message.ReadVersion key) (Answer.Version item version holds)
@@ -191,6 +266,12 @@ module _ {K V A F C D Q B : Type 0} (S : Service K V A F C D Q B) where
   HeldIsReal =
       (es : History S) (moment : ℕ) (m : Asked S) (n : ℕ) → IsAnswer S es moment m (Answer.Held n) → IsRealHolder es m n
 
+  -- the number that a ReadVersion names holds the item
+  abbrev pub ReadHoldersAreReal : Type 0
+  ReadHoldersAreReal =
+      (es : History S) (key : K) (item : Option V) (version n : ℕ) → Reads es key item version (Some n)
+      → holder_by es key ≡ Some n
+
   -- the stamp of a Late is the one at which the item was changed last, and isn't earlier than the transaction's
   abbrev pub LateIsReal : Type 0
   LateIsReal =
@@ -205,12 +286,58 @@ module _ {K V A F C D Q B : Type 0} (S : Service K V A F C D Q B) where
   changes_cell i (Message.Command d) a = is_changed a
   changes_cell i _ a = false
 
+  -- why an action isn't accepted after a history: another holds its item; the item was changed last at this stamp, which
+  -- isn't earlier; or of the item of the tables its condition is false, or it can't be evaluated on it
+  abbrev pub IsCause : History S → ℕ → Stamp → A → Reason V F → Type 0
+  IsCause es n stamp action Reason.None = Unit {0}
+  IsCause es n stamp action (Reason.Held m) = (holder_by es (S.core.key_of action) ≡ Some m) × (m ≢ n)
+  IsCause es n stamp action (Reason.Late t) = (t ≡ last_by es (S.core.key_of action)) × IsBy stamp t
+  IsCause es n stamp action (Reason.ConditionFalse old) =
+      (old ≡ item_by es (S.core.key_of action)) × (S.core.act (catalog_by es) action old ≡ Unmet)
+  IsCause es n stamp action (Reason.Invalid fault) =
+      S.core.act (catalog_by es) action (item_by es (S.core.key_of action)) ≡ Fails fault
+  -- a Prepare names no two versions
+  IsCause es n stamp action (Reason.Moved first second) = ⊥
+
+  -- it was so where a Prepare of the action was answered
+  abbrev pub HadThisCause : History S → ℕ → Stamp → A → Reason V F → Type 0
+  HadThisCause [] n stamp action reason = ⊥
+  HadThisCause (e ∷ es) n stamp action reason =
+      ((e.message ≡ Message.Prepare n stamp action) × IsCause es n stamp action reason)
+      ⊎ HadThisCause es n stamp action reason
+
+  abbrev pub HadCauses : History S → ℕ → Stamp → List A → List (Reason V F) → Type 0
+  HadCauses es n stamp [] [] = Unit {0}
+  HadCauses es n stamp (action ∷ actions) (reason ∷ reasons) =
+      HadThisCause es n stamp action reason × HadCauses es n stamp actions reasons
+  HadCauses es n stamp _ _ = ⊥
+
+  -- a Decide that cancels names for every action its real cause; or a table was gone, and it names none
+  abbrev pub CancelsAreReal : Type 0
+  CancelsAreReal =
+      (e : Event S) (es : History S) → IsLegal S (e ∷ es) → (n : ℕ) (reasons : List (Reason V F))
+      → e.message ≡ Message.Decide n false reasons
+      → HadCauses es n (begun_stamp (effects es) n) (begun_actions (effects es) n) reasons
+      ⊎ (Had (finds_no_table n) es × All (λ r. r ≡ Reason.None) reasons)
+
   -- two reads of an item found two versions: between them an item of its cell was changed, or the catalog
   abbrev pub MovedIsReal : Type 0
   MovedIsReal =
       (newer es : History S) (key : K) (first second : Option V) (v w : ℕ) (h k : Option ℕ)
       → Reads es key first v h → Reads (newer ++ es) key second w k → v ≢ w
       → Had (changes_cell (S.core.cell_of key)) newer
+
+  -- the entry puts this item in place, or changes the catalog
+  abbrev pub changes_item : K → Asked S → Reply S → Bool
+  changes_item q (Message.Command d) a = is_changed a
+  changes_item q m a = sets_item q m a
+
+  -- where both found the item there, this very item was changed between them, or the catalog
+  abbrev pub MovedItemIsReal : Type 0
+  MovedItemIsReal =
+      (newer es : History S) (key : K) (first second : V) (v w : ℕ) (h k : Option ℕ)
+      → Reads es key (Some first) v h → Reads (newer ++ es) key (Some second) w k → v ≢ w
+      → Had (changes_item key) newer
 
   -- who has seen a beginning of the history may go by it: what may be sent after that may be sent after the whole
   abbrev pub BeginningsAllow : Type 0

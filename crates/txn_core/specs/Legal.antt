@@ -5,7 +5,6 @@ use Rattle.txn_core.specs.declared.reason.Reason.{Reason}
 use Rattle.txn_core.specs.declared.message.Message.{Message}
 use Rattle.txn_core.specs.declared.answer.Answer.{Answer}
 use Rattle.txn_core.specs.declared.answer.HeldItem.{HeldItem}
-use Rattle.txn_core.specs.declared.entry.Entry.{Entry}
 use Rattle.txn_core.specs.declared.stamp.Stamp.{Stamp}
 use Rattle.txn_core.specs.declared.outcome.Outcome.{Outcome}
 use Rattle.txn_core.specs.declared.ruling.Ruling.{Ruling}
@@ -13,7 +12,11 @@ use Rattle.txn_core.specs.declared.ruling.Ruling.TheVariants.{Carries, Refuses}
 use Rattle.txn_core.specs.Service.{Service, Asked, Reply, Event, History}
 use Rattle.txn_core.specs.State.{State, holder, last, IsAmong, here, state_after}
 use Rattle.txn_core.specs.Serial.{begun_stamp, begun_actions}
-use Rattle.txn_core.specs.Answers.{get_answer, write_answer, prepare_answer, apply_answer, release_answer, version_answer, begin_answer, has_record, decide_answer, done_answer, forget_answer, fate_answer, recall_answer, unfinished}
+use Rattle.txn_core.specs.Answers.{get_answer, write_answer, prepare_answer, apply_answer, release_answer, version_answer, begin_answer, has_record, decide_answer, done_answer, forget_answer, fate_answer, recall_answer, unfinished, page_answer, out_answer, feed_answer, ack_answer}
+use Rattle.index_feed.specs.declared.change.Change.{Change}
+use Rattle.index_feed.specs.Feed.{Out, is_fed, out}
+use Rattle.txn_core.specs.Indexing.{indexed}
+use Rattle.txn_core.specs.Feeding.{change, has_sequence, feed_after, rows_for}
 use Rattle.txn_core.specs.History.{is_accepted, reason_of, effects, Had, begins, commits, cancels, finishes, forgets, finds_no_table, is_own_begin, reasons_of, IsTimely, found_kept}
 
 module _ {K V A F C D Q B : Type 0} (S : Service K V A F C D Q B) where
@@ -71,17 +74,19 @@ module _ {K V A F C D Q B : Type 0} (S : Service K V A F C D Q B) where
   IsPendingList w cell (Answer.PendingList pendings) = ArePendings w cell pendings
   IsPendingList w cell _ = ⊥
 
-  -- a page, by whether its table and index are there: its rows are left open
-  abbrev pub IsPage : Bool → Reply S → Type 0
-  IsPage true (Answer.Part told) = Unit {0}
-  IsPage true _ = ⊥
-  IsPage false a = a ≡ Answer.Stale
+  -- a page's answer, by the rows of its cell
+  abbrev pub page_after : History S → Q → Reply S
+  page_after es page =
+      let c = (state es).catalog in
+      page_answer (S.serves c page) (S.page c (rows_for S es (S.page_cell page) (S.page_index page)) page)
 
-  -- the first change of an outbox, for the cell of its row, or none
-  abbrev pub IsOut : Reply S → Type 0
-  IsOut (Answer.Out sequence index target row_key after) = target ≡ S.core.cell_of row_key
-  IsOut Answer.Empty = Unit {0}
-  IsOut _ = ⊥
+  -- the first change in a source's outbox
+  abbrev pub out_after : History S → ℕ → Option (Out K V)
+  out_after es source = out (indexed S.core S.index) (feed_after S es) source
+
+  -- a source's change is not applied yet, and its index is there
+  abbrev pub feeds_after : History S → ℕ → ℕ → Change K V → Bool
+  feeds_after es source sequence x = is_fed (indexed S.core S.index) (feed_after S es) source sequence x
 
   -- the answer that the cells give after the history
   abbrev pub IsAnswer : History S → ℕ → Asked S → Reply S → Type 0
@@ -116,12 +121,15 @@ module _ {K V A F C D Q B : Type 0} (S : Service K V A F C D Q B) where
       let l = (state es).ledger in a ≡ recall_answer (has_record l n) (l.fate n) (l.stamp n) (l.actions n) (reasons_of es n)
   IsAnswer es moment Message.Unfinished a = a ≡ Answer.Numbers (unfinished (state es).ledger)
   IsAnswer es moment (Message.Ask question) a = a ≡ Answer.Told (S.tell (state es).catalog question)
-  IsAnswer es moment (Message.QueryPage page) a = IsPage (S.serves (state es).catalog page) a
-  IsAnswer es moment (Message.ScanPage page) a = IsPage (S.serves (state es).catalog page) a
+  IsAnswer es moment (Message.QueryPage page) a = a ≡ page_after es page
+  IsAnswer es moment (Message.ScanPage page) a = a ≡ page_after es page
   IsAnswer es moment (Message.Pendings cell) a = (cell < S.control) × IsPendingList (state es) cell a
-  IsAnswer es moment (Message.PeekOut source) a = (source < S.control) × IsOut a
-  IsAnswer es moment (Message.ApplyIndex source sequence index row_key after) a = (a ≡ Answer.Fed) ⊎ (a ≡ Answer.Already)
-  IsAnswer es moment (Message.Ack source sequence) a = (source < S.control) × ((a ≡ Answer.Acked) ⊎ (a ≡ Answer.Nothing))
+  IsAnswer es moment (Message.PeekOut source) a =
+      (source < S.control) × (a ≡ out_answer S.core.cell_of (out_after es source))
+  IsAnswer es moment (Message.ApplyIndex source sequence index row_key after) a =
+      a ≡ feed_answer (feeds_after es source sequence (change index row_key after))
+  IsAnswer es moment (Message.Ack source sequence) a =
+      (source < S.control) × (a ≡ ack_answer (has_sequence (out_after es source) sequence))
   IsAnswer es moment (Message.Command d) a =
       let w = state es in IsRuled w d moment (S.refuses d w.catalog) a
 

@@ -1,5 +1,6 @@
 pub mod Stamps
 pub mod Protocol
+pub mod Indexing
 pub mod Service
 pub mod Effects
 pub mod State
@@ -7,6 +8,7 @@ pub mod Runs
 pub mod Serial
 pub mod Answers
 pub mod History
+pub mod Feeding
 pub mod Legal
 pub mod Breaks
 pub mod Replay
@@ -15,5 +17,6 @@ pub mod Course
 pub mod Driver
 pub mod Cells
 pub mod Laws
+pub mod Indexes
 pub mod Simple
 pub mod SimpleLaws

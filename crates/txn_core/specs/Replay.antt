@@ -1,5 +1,5 @@
 -- Words for the replay of a history.
-use Rattle.std.specs.Prelude.{◌≡◌, ◌⊎◌, ℕ, false, All, Any, Bool, true, not, ◌&&◌, nat_eq, List, [], ◌∷◌, Option, Some, if◌then◌else◌}
+use Rattle.std.specs.Prelude.{◌≡◌, ◌⊎◌, ℕ, false, All, Bool, true, not, ◌&&◌, nat_eq, List, [], ◌∷◌, Option, Some, if◌then◌else◌}
 use Rattle.std.specs.List.{list_any}
 use Rattle.txn_core.specs.declared.stamp.Stamp.{Stamp}
 use Rattle.txn_core.specs.declared.reason.Reason.{Reason}

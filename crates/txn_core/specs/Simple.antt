@@ -1,8 +1,12 @@
 -- One table of numbers under numbers, on which the definitions are tried: the item of a key is in the partition of its rest.
-use Rattle.std.specs.Prelude.{ℕ, ◌%◌, true, false, nat_eq, nat_le, Option, None, Some, is_some, if◌then◌else◌}
+-- Its one index has the items below 1000, each under the key that follows.
+use Rattle.std.specs.Prelude.{ℕ, pred, suc, ◌%◌, Bool, false, ◌&&◌, nat_eq, nat_lt, nat_le, length, [], ◌∷◌, Option, None, Some, is_some, if◌then◌else◌}
+use Rattle.std.specs.Ordering.{nat_cmp}
+use Rattle.std.specs.Cmp.Lexicographic.{pointwise}
 use Rattle.txn_core.specs.declared.outcome.Outcome.{Outcome}
 use Rattle.txn_core.specs.declared.outcome.Outcome.TheVariants.{New, Unmet}
 use Rattle.txn_core.specs.Protocol.{Protocol}
+use Rattle.txn_core.specs.Indexing.{Indexing}
 use Rattle.txn_core.specs.declared.ruling.Ruling.TheVariants.{Carries}
 use Rattle.txn_core.specs.Service.{Service}
 
@@ -26,15 +30,33 @@ protocol partitions =
       adds = λ d c k. None;
     }
 
+abbrev pub indexing : Indexing ℕ ℕ ℕ ℕ
+indexing =
+    record {
+      cmp = nat_cmp;
+      equal = nat_eq;
+      item_of = λ k. pred k;
+      indexes = λ c k. if nat_le 1 c then 1 ∷ [] else [];
+      row_of = λ c g k v. if nat_lt k 1000 then Some (record { key = suc k; content = v }) else None;
+      brings = λ d c. [];
+    }
+
+abbrev pub same_pair : (ℕ × ℕ) → (ℕ × ℕ) → Bool
+same_pair x y = nat_eq x.0 y.0 && nat_eq x.1 y.1
+
+-- a page tells how many rows there are
 abbrev pub service : ℕ → Service ℕ ℕ (ℕ × ℕ) ℕ ℕ ℕ ℕ ℕ
 service partitions =
     record {
       core = protocol partitions;
+      index = indexing;
       control = partitions;
-      same_actions = λ xs ys. true;
+      same_actions = pointwise same_pair;
       tell = λ c q. c;
       page_cell = λ q. q % partitions;
       serves = λ c q. nat_le 1 c;
+      page_index = λ q. if nat_le 100 q then Some 1 else None;
+      page = λ c rows q. length rows;
       refuses = λ d c. if nat_le 1 c then Some c else None;
       concerns = λ d c k. false;
       rules = λ d moment c. Carries 1;

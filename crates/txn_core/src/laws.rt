@@ -7,7 +7,7 @@
 //! entries change in `specs/History.antt` and `specs/State.antt`, and the one order, with the
 //! tables that it makes, in `specs/Serial.antt`, with no word of cells.
 ghost use Rattle.std.specs.Prelude.{ℕ};
-ghost use Rattle.txn_core.specs.Laws.{RowsAreShown, ImagesAreTables, NumbersAreDecidedOnce, CommittedStandOnce, ActionsKeepTheirOutcome, FirstDecisionStands, OthersLeaveTheOrder, WritesAreSerial, CatalogIsSerial, StampsRise, GetsAreShown, PointsNeverFall, TokensDrawOnce, LaterBeginsName, ReadsAreAtOnePoint, HeldIsReal, LateIsReal, MovedIsReal, BeginningsAllow, RulesAreAll};
+ghost use Rattle.txn_core.specs.Laws.{RowsAreShown, ImagesAreTables, NumbersAreDecidedOnce, CommittedStandOnce, ActionsKeepTheirOutcome, HeldIsAccepted, FirstDecisionStands, OthersLeaveTheOrder, WritesAreSerial, CatalogIsSerial, StampsRise, GetsAreShown, PointsNeverFall, PointsPassOwn, TokensDrawOnce, LaterBeginsName, TimeEndsLife, CancelEndsLife, StaleBeginsAreReal, RepeatsAreDone, ReadsAreAtOnePoint, HeldIsReal, LateIsReal, MovedIsReal, ReadHoldersAreReal, MovedItemIsReal, CancelsAreReal, BeginningsAllow, RulesAreAll};
 
 use crate::rules::Rules;
 
@@ -21,13 +21,14 @@ pub fn rows_are_shown<R: Rules>()
 
 /// [One fate]. Each number is decided at most once: a later Decide doesn't decide. A committed one
 /// stands in the one order once and whole, no other one stands there, and at its commit each of its
-/// actions does to the tables what its Prepare was accepted for. No message but an accepted Write,
-/// the Decide that commits and a command that is carried out changes the order or its tables, be it
-/// repeated or late.
+/// actions does to the tables what it was held for: that is what an accepted Prepare of it made. No
+/// message but an accepted Write, the Decide that commits and a command that is carried out changes
+/// the order or its tables, be it repeated or late.
 pub fn one_fate<R: Rules>()
     ensures once { (n : ℕ) → NumbersAreDecidedOnce (R.protocol n) }
     ensures whole { (n : ℕ) → CommittedStandOnce (R.protocol n) }
     ensures accepted { (n : ℕ) → ActionsKeepTheirOutcome (R.protocol n) }
+    ensures prepared { (n : ℕ) → HeldIsAccepted (R.protocol n) }
     ensures first { (n : ℕ) → FirstDecisionStands (R.protocol n) }
     ensures others { (n : ℕ) → OthersLeaveTheOrder (R.protocol n) }
 {}
@@ -48,19 +49,27 @@ pub fn timestamp_order<R: Rules>()
 
 /// [Reads go forward]. A Get is what a reader is shown before its entry, and the point of the
 /// history at which an item is shown is never before the one at which an earlier reader was shown
-/// it.
+/// it. After an accepted Write of an item, or its Apply, that point is past the entry: who was
+/// answered so sees what it wrote.
 pub fn reads_go_forward<R: Rules>()
     ensures shown { (n : ℕ) → GetsAreShown (R.protocol n) }
     ensures forward { (n : ℕ) → PointsNeverFall (R.protocol n) }
+    ensures own { (n : ℕ) → PointsPassOwn (R.protocol n) }
 {}
 
 /// [Token once]. A token lives from the Begin that drew a number for it, while no entry since then
 /// ended its life. In it no other number is drawn for the token, so of all its transactions this
 /// one alone can stand in the one order, where no number stands twice ([`one_fate`]); and every
-/// later Begin with the token that doesn't end its life names that number, or finds a table gone.
+/// later Begin with the token that doesn't end its life names that number, or finds a table gone. A
+/// Begin after its life draws a new number. A Stale is answered only where the table of an action is
+/// gone, and a Repeat names a number that was begun with the same parameters, is committed, and Done.
 pub fn token_once<R: Rules>()
     ensures once { (n : ℕ) → TokensDrawOnce (R.protocol n) }
     ensures later { (n : ℕ) → LaterBeginsName (R.protocol n) }
+    ensures timed { (n : ℕ) → TimeEndsLife (R.protocol n) }
+    ensures cancelled { (n : ℕ) → CancelEndsLife (R.protocol n) }
+    ensures stale { (n : ℕ) → StaleBeginsAreReal (R.protocol n) }
+    ensures repeated { (n : ℕ) → RepeatsAreDone (R.protocol n) }
 {}
 
 /// [One-point reads]. An item that two reads of its version found with one version, the second time
@@ -71,13 +80,18 @@ pub fn one_point_reads<R: Rules>()
 {}
 
 /// [Real causes]. The number of a Held holds the message's item, and of a Prepare it is another's;
-/// of a command it holds an item of its table. The stamp of a Late is the item's, or where it is
+/// of a command it holds an item of its table; the number that a ReadVersion names holds its item.
+/// The stamp of a Late is the item's, or where it is
 /// absent the floor of its cell, and isn't earlier than the transaction's. Where two reads of an
-/// item find two versions, an item of its cell was changed between them, or the catalog.
+/// item find two versions, an item of its cell was changed between them, or the catalog; where both
+/// found it there, this very item was. So a Decide that cancels names for every action its real cause.
 pub fn real_causes<R: Rules>()
     ensures held { (n : ℕ) → HeldIsReal (R.protocol n) }
     ensures late { (n : ℕ) → LateIsReal (R.protocol n) }
     ensures moved { (n : ℕ) → MovedIsReal (R.protocol n) }
+    ensures held_read { (n : ℕ) → ReadHoldersAreReal (R.protocol n) }
+    ensures moved_item { (n : ℕ) → MovedItemIsReal (R.protocol n) }
+    ensures cancelled { (n : ℕ) → CancelsAreReal (R.protocol n) }
 {}
 
 /// Who has seen only a beginning of the history may go by it: what may be sent after that beginning

@@ -19,16 +19,17 @@
 //! first rule that it breaks. It takes answers as they stand. [`laws::rules_one_by_one`] says that
 //! its rules and that of answers are together what makes a history legal.
 //!
-//! The definitions stand in `specs/` in reading order: `Protocol` and `Service` (what is asked of
-//! tables), `Effects`, `State` and `Runs` (what entries change, and when that may happen), `Serial`
-//! (the one order and its tables), `Answers`, `History` and `Legal` (legal histories), `Breaks`
-//! (their rules one by one), `Replay` (words of the checker), `Tokens`, `Course` and `Driver`,
-//! `Cells` (what the cells hold apart), and `Laws`. `Simple` is one table of numbers on which they
-//! are tried; `proofs/Rows.antt` has worked histories, legal and not.
+//! What the cells hold beside items is a fold of its own over the same entries: the outboxes of
+//! changes that wait for indexes, the marks of what was carried out, and the rows of indexes. Pages
+//! and the messages of the feed are answered by it. [`indexes`] has its laws.
 //!
-//! Pages of rows and the feed of indexes change nothing that the laws speak of, and index rows and
-//! outboxes are no part of the state here: of a page it is said when it is Stale, of a feed message
-//! what it may be answered and what must have come before it, and nothing of the rows themselves.
+//! The definitions stand in `specs/` in reading order: `Protocol`, `Indexing` and `Service` (what is
+//! asked of tables), `Effects`, `State` and `Runs` (what entries change, and when that may happen),
+//! `Serial` (the one order and its tables), `Answers`, `History`, `Feeding` (outboxes, marks and
+//! index rows) and `Legal` (legal histories), `Breaks` (their rules one by one), `Replay` (words of
+//! the checker), `Tokens`, `Course` and `Driver`, `Cells` (what the cells hold apart), `Laws` and
+//! `Indexes`. `Simple` is one table of numbers on which they are tried; `proofs/Rows.antt` has worked
+//! histories, legal and not.
 #![tactic(auto)]
 
 mod answer;
@@ -39,6 +40,7 @@ mod entry;
 mod fact;
 mod fate;
 mod grounds;
+pub mod indexes;
 mod kind;
 pub mod laws;
 mod message;

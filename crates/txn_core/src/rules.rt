@@ -4,7 +4,9 @@ ghost use Rattle.txn_core.specs.Service.{Service, IsServiceLawful};
 
 use crate::outcome::Outcome;
 use crate::ruling::Ruling;
+use index_feed::Row;
 use std::alloc::{AllocError as NoMemory, Global};
+use std::cmp::Ordering;
 
 /// What the protocol needs to know of tables: which item a key stands for, where it lives, what
 /// actions do, and what the catalog answers.
@@ -36,6 +38,10 @@ pub trait Rules {
     /// Whether both keys stand for one item.
     fn is_same(left: &Self::Key, right: &Self::Key) -> bool
         ensures { (partitions : ℕ) → result ≡ (protocol partitions).core.same left.now right.now };
+
+    /// The order of keys.
+    fn compare(left: &Self::Key, right: &Self::Key) -> Ordering
+        ensures { (partitions : ℕ) → result ≡ (protocol partitions).index.cmp left.now right.now };
 
     /// The partition in which an item lives, or a row of an index.
     fn cell_of(partitions: u32, key: &Self::Key) -> u32
@@ -92,6 +98,36 @@ pub trait Rules {
     ) -> Result<Option<Self::Value>, NoMemory>
         ensures { IfOk result (λ item. (partitions : ℕ) → item ≡ (protocol partitions).core.adds command.now catalog.now key.now) };
 
+    /// The keys of the items that a command brings with a new table.
+    fn brings(
+        alloc: Global,
+        command: &Self::Command,
+        catalog: &Self::Catalog,
+    ) -> Result<Vec<Self::Key>, NoMemory>
+        ensures { IfOk result (λ keys. (partitions : ℕ) → keys.items ≡ (protocol partitions).index.brings command.now catalog.now) };
+
+    /// The item that an index row is of.
+    fn item_of(alloc: Global, row_key: &Self::Key) -> Result<Self::Key, NoMemory>
+        ensures { IfOk result (λ key. (partitions : ℕ) → key ≡ (protocol partitions).index.item_of row_key.now) };
+
+    /// The numbers of the indexes of an item's table, ascending.
+    fn indexes(
+        alloc: Global,
+        catalog: &Self::Catalog,
+        key: &Self::Key,
+    ) -> Result<Vec<u64>, NoMemory>
+        ensures { IfOk result (λ numbers. (partitions : ℕ) → numbers.items ≡ (protocol partitions).index.indexes catalog.now key.now) };
+
+    /// An item's row in an index, where it has one.
+    fn row_of(
+        alloc: Global,
+        catalog: &Self::Catalog,
+        index: u64,
+        key: &Self::Key,
+        item: &Self::Value,
+    ) -> Result<Option<Row<Self::Key, Self::Value>>, NoMemory>
+        ensures { IfOk result (λ row. (partitions : ℕ) → row ≡ (protocol partitions).index.row_of catalog.now index key.now item.now) };
+
     /// Whether two transactions with these actions have the same parameters.
     fn are_same_actions(left: &[Self::Action], right: &[Self::Action]) -> bool
         ensures { (partitions : ℕ) → result ≡ (protocol partitions).same_actions left.now right.now };
@@ -107,6 +143,20 @@ pub trait Rules {
     /// Whether the catalog has the page's table and index.
     fn serves(catalog: &Self::Catalog, page: &Self::Question) -> bool
         ensures { (partitions : ℕ) → result ≡ (protocol partitions).serves catalog.now page.now };
+
+    /// The number of the index that a page is of; none, where it is of the table's items.
+    fn page_index(page: &Self::Question) -> Option<u64>
+        ensures { (partitions : ℕ) → result ≡ (protocol partitions).page_index page.now };
+
+    /// What a page tells of the rows of its cell: the cell's items, or its rows of the page's index,
+    /// in the order of their keys.
+    fn page(
+        alloc: Global,
+        catalog: &Self::Catalog,
+        rows: &[(Self::Key, Self::Value)],
+        page: &Self::Question,
+    ) -> Result<Self::Told, NoMemory>
+        ensures { IfOk result (λ told. (partitions : ℕ) → told ≡ (protocol partitions).page catalog.now rows.now page.now) };
 
     /// The refusal of a command's name or number, which comes before all else.
     fn refuses(
@@ -160,6 +210,9 @@ pub trait Rules {
     /// A copy of an action, equal to it.
     fn copy_of_action(alloc: Global, action: &Self::Action) -> Result<Self::Action, NoMemory>
         ensures { IfOk result (λ copy. copy ≡ action.now) };
+
+    /// The partitions are the cells below the control cell.
+    ghost numbered: { (partitions : ℕ) → (protocol partitions).control ≡ partitions };
 
     /// Keys that stand for one item can't be told apart, the number of a table never comes again,
     /// and a command spares the tables that it doesn't concern.

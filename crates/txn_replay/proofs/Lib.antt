@@ -10,3 +10,4 @@ pub mod Holding
 pub mod Obstacles
 pub mod Numbering
 pub mod Ending
+pub mod FedSteps

@@ -1,5 +1,5 @@
 -- What stands in the way of a command, read off the slots.
-use Rattle.std.specs.Prelude.{◌≡◌, ℕ, ◌<◌, Bool, true, false, ◌&&◌, ◌||◌, nat_eq, nat_lt, Option, None, Some, if◌then◌else◌}
+use Rattle.std.specs.Prelude.{◌≡◌, ℕ, ◌<◌, Bool, false, ◌&&◌, ◌||◌, nat_eq, nat_lt, Option, None, Some, if◌then◌else◌}
 use Rattle.txn_core.specs.Service.{Service}
 use Rattle.txn_core.specs.State.{holder}
 use Rattle.txn_replay.specs.declared.tracked.Tracked.{Tracked}

@@ -53,7 +53,7 @@ fn count_change<V>(cell: Counters, item: &ItemState<V>, row: &Option<V>, own: St
 }
 
 /// An item after an action on it.
-fn row_after<R: Rules>(
+pub fn row_after<R: Rules>(
     alloc: Global,
     catalog: &R::Catalog,
     action: &R::Action,
@@ -144,7 +144,7 @@ pub fn prepare<R: Rules>(
 }
 
 /// The row and the stamp of an item once its hold is carried out.
-fn settle<R: Rules>(
+pub fn settle<R: Rules>(
     alloc: Global,
     item: &ItemState<R::Value>,
 ) -> Result<(Option<R::Value>, Stamp), NoMemory>

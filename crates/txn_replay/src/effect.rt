@@ -11,7 +11,8 @@ use crate::tracked::Tracked;
 use std::alloc::{AllocError as NoMemory, Global};
 use txn_core::{Answer, Event, Message, Rules};
 
-fn is_written<R: Rules>(answer: &Reply<R>) -> bool
+/// Whether a write was carried out.
+pub fn is_written<R: Rules>(answer: &Reply<R>) -> bool
     ensures { result ≡ is_written answer.now }
 {
     matches!(answer, Answer::Written { .. })
@@ -23,7 +24,8 @@ fn is_accepted<R: Rules>(answer: &Reply<R>) -> bool
     matches!(answer, Answer::Accepted)
 }
 
-fn is_applied<R: Rules>(answer: &Reply<R>) -> bool
+/// Whether an Apply was carried out.
+pub fn is_applied<R: Rules>(answer: &Reply<R>) -> bool
     ensures { result ≡ is_applied answer.now }
 {
     matches!(answer, Answer::Applied)

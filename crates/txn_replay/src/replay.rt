@@ -6,6 +6,7 @@ ghost use Rattle.txn_core.specs.Legal.{IsAnswer};
 ghost use Rattle.txn_core.specs.Breaks.{IsRight, AllKeep, IsFirstBreak};
 ghost use Rattle.txn_core.specs.declared.kind.BreakKind.TheVariants.{WrongAnswer};
 ghost use Rattle.txn_replay.specs.Replica.{key_in, IsReplica};
+ghost use Rattle.txn_replay.specs.Fed.{IsFed};
 ghost use Rattle.txn_replay.specs.Ends.{ends_at, EndsRight};
 
 use crate::itemless::other_is_right;
@@ -36,7 +37,7 @@ fn answer_is_right<R: Rules>(
 ) -> Result<bool, NoMemory>
     requires some { 1 ≤ partitions }
     requires within { place < length replica.now.slots.items }
-    ensures { IfOk result (λ right. (keys : List (Option R.Key)) → IsReplica (R.protocol partitions) keys (state_after (R.protocol partitions).core (effects (reverse past.now))) replica.now.catalog replica.now.slots.items → slice_index_or keys place None ≡ key_in (R.protocol partitions) entry.now.message → (IsTrue right ↔ IsAnswer (R.protocol partitions) (reverse past.now) entry.now.moment entry.now.message entry.now.answer)) }
+    ensures { IfOk result (λ right. (keys : List (Option R.Key)) → IsReplica (R.protocol partitions) keys (state_after (R.protocol partitions).core (effects (reverse past.now))) replica.now.catalog replica.now.slots.items → IsFed (R.protocol partitions) (reverse past.now) replica.now.feed → slice_index_or keys place None ≡ key_in (R.protocol partitions) entry.now.message → (IsTrue right ↔ IsAnswer (R.protocol partitions) (reverse past.now) entry.now.moment entry.now.message entry.now.answer)) }
 {
     match &replica.slots[place] {
         Some(tracked) => item_is_right::<R>(alloc, &replica.catalog, tracked, entry),
@@ -55,7 +56,7 @@ fn is_right<R: Rules>(
 ) -> Result<bool, NoMemory>
     requires some { 1 ≤ partitions }
     requires within { place < length replica.now.slots.items }
-    ensures { IfOk result (λ right. (keys : List (Option R.Key)) → IsReplica (R.protocol partitions) keys (state_after (R.protocol partitions).core (effects (reverse past.now))) replica.now.catalog replica.now.slots.items → slice_index_or keys place None ≡ key_in (R.protocol partitions) entry.now.message → (IsTrue right ↔ IsRight (R.protocol partitions) (reverse past.now) entry.now)) }
+    ensures { IfOk result (λ right. (keys : List (Option R.Key)) → IsReplica (R.protocol partitions) keys (state_after (R.protocol partitions).core (effects (reverse past.now))) replica.now.catalog replica.now.slots.items → IsFed (R.protocol partitions) (reverse past.now) replica.now.feed → slice_index_or keys place None ≡ key_in (R.protocol partitions) entry.now.message → (IsTrue right ↔ IsRight (R.protocol partitions) (reverse past.now) entry.now)) }
 {
     if !is_timely::<R>(past, entry.pass, entry.moment) {
         return Ok(false);
@@ -102,9 +103,10 @@ fn up_to(sent: Option<Break>, many: usize) -> usize
 /// breaks. The rule of answers is asked first, then those of what may be sent.
 ///
 /// A checker for tests and tools. It keeps an item for each entry, and takes at most the square of
-/// the size of the list in steps, the items that its answers list counted, where the actions of a
-/// transaction, 100 at most, count as one step; but each Unfinished takes a step for each number
-/// that was begun and each entry before. `NoMemory` comes where the allocator refuses.
+/// the size of the list in steps, counting the items that its answers list, those that its commands
+/// bring and the changes that its writes queue for indexes, where the actions of a transaction, 100
+/// at most, count as one step; but each Unfinished takes a step for each number that was begun and
+/// each entry before. `NoMemory` comes where the allocator refuses.
 pub fn replay_check<R: Rules>(
     alloc: Global,
     partitions: u32,

@@ -1,15 +1,19 @@
 //! The state that a replay keeps, and one more entry.
-ghost use Rattle.std.specs.Prelude.{◌≡◌, ◌≤◌, ◌<◌, ◌+◌, ◌^◌, ℕ, IfOk, List, Option, length};
+ghost use Rattle.std.specs.Prelude.{◌≡◌, ◌≤◌, ◌<◌, ◌+◌, ◌^◌, ℕ, [], IfOk, List, Option, length, reverse, take};
 ghost use Rattle.txn_core.specs.State.{State, step, state_after};
 ghost use Rattle.txn_core.specs.Effects.{Effect, Changed};
 ghost use Rattle.txn_core.specs.History.{where_so, effect, effects, is_changed};
 ghost use Rattle.txn_core.specs.declared.entry.Entry.{Entry};
 ghost use Rattle.txn_replay.specs.Replica.{key_in, IsReplica, IsBefore, Advances, HaveRoom};
+ghost use Rattle.txn_replay.specs.Fed.{IsFed};
 
 use crate::effect::{change_of, is_changed};
+use crate::feed_steps::feed_entry;
+use crate::feeding::Feeding;
 use crate::item_answers::Reply;
 use crate::slots::{move_rows, put, slots_of};
 use crate::tracked::Tracked;
+use feed_replay::{FeedState, no_feed};
 use std::alloc::{AllocError as NoMemory, Global};
 use txn_core::{Event, Message, Rules};
 
@@ -20,6 +24,8 @@ pub struct Replica<K, V, C> {
     pub catalog: C,
     /// Of each entry of the whole list, the item that it names.
     pub slots: Vec<Option<Tracked<K, V>>>,
+    /// The outboxes, the marks and the index rows.
+    pub feed: FeedState<K, V>,
 }
 
 /// A replica under these rules.
@@ -34,10 +40,16 @@ pub fn begin<R: Rules>(
     requires { 1 ≤ partitions }
     ensures len { IfOk result (λ replica. length replica.slots.items ≡ length entries.now) }
     ensures state { IfOk result (λ replica. IsBefore (R.protocol partitions) entries.now 0 replica.catalog replica.slots.items) }
+    ensures fed { IfOk result (λ replica. IsFed (R.protocol partitions) [] replica.feed) }
 {
     let catalog = R::no_table(alloc)?;
     let slots = slots_of::<R>(alloc, partitions, entries)?;
-    Ok(Replica { catalog, slots })
+    let feed = no_feed::<Feeding<R>>(alloc);
+    Ok(Replica {
+        catalog,
+        slots,
+        feed,
+    })
 }
 
 /// Takes a command that was carried out, at this moment; another answer changes nothing.
@@ -50,6 +62,7 @@ fn change_catalog<R: Rules>(
 ) -> Result<(), NoMemory>
     requires { HaveRoom replica.old.slots.items }
     ensures len { IfOk result (λ _. length replica.new.slots.items ≡ length replica.old.slots.items) }
+    ensures feed { IfOk result (λ _. replica.new.feed ≡ replica.old.feed) }
     ensures state { IfOk result (λ _. (n : ℕ) (keys : List (Option R.Key)) (w : State R.Key R.Value R.Action R.Catalog) → IsReplica (R.protocol n) keys w replica.old.catalog replica.old.slots.items → IsReplica (R.protocol n) keys (step (R.protocol n).core w (where_so (is_changed answer.now) (Changed command.now moment))) replica.new.catalog replica.new.slots.items) }
 {
     if !is_changed::<R>(answer) {
@@ -78,6 +91,7 @@ fn change_item<R: Rules>(
     requires within { place < length replica.old.slots.items }
     requires room { HaveRoom replica.old.slots.items }
     ensures len { IfOk result (λ _. length replica.new.slots.items ≡ length replica.old.slots.items) }
+    ensures feed { IfOk result (λ _. replica.new.feed ≡ replica.old.feed) }
     ensures state { IfOk result (λ _. (n : ℕ) (keys : List (Option R.Key)) (es : List (Effect R.Key R.Action R.Command)) → Advances (R.protocol n) keys es place entry.now replica.old.catalog replica.old.slots.items replica.new.catalog replica.new.slots.items) }
 {
     let Some(tracked) = &replica.slots[place] else {
@@ -104,10 +118,21 @@ pub fn step<R: Rules>(
     requires len { length replica.old.slots.items ≡ length entries.now }
     requires room { length entries.now < 2 ^ 64 }
     requires state { IsBefore (R.protocol partitions) entries.now place replica.old.catalog replica.old.slots.items }
+    requires fed { IsFed (R.protocol partitions) (reverse (take place entries.now)) replica.old.feed }
     ensures len { IfOk result (λ _. length replica.new.slots.items ≡ length entries.now) }
     ensures state { IfOk result (λ _. IsBefore (R.protocol partitions) entries.now (place + 1) replica.new.catalog replica.new.slots.items) }
+    ensures fed { IfOk result (λ _. IsFed (R.protocol partitions) (reverse (take (place + 1) entries.now)) replica.new.feed) }
 {
     let entry = &entries[place];
+    let slot = &replica.slots[place];
+    feed_entry::<R>(
+        alloc,
+        partitions,
+        &replica.catalog,
+        slot,
+        entry,
+        &mut replica.feed,
+    )?;
     match &entry.message {
         Message::Command { command } => {
             change_catalog::<R>(alloc, replica, command, entry.moment, &entry.answer)

@@ -1,6 +1,6 @@
-//! The answers that the catalog alone decides, and those of the feed.
-ghost use Rattle.std.specs.Prelude.{◌≡◌, ◌↔◌, ◌⊎◌, ◌≤◌, ◌<◌, ℕ, IfOk, IsTrue};
-ghost use Rattle.txn_core.specs.Legal.{IsPage, IsOut, sent_to};
+//! Where messages go, and the answers that the catalog alone decides.
+ghost use Rattle.std.specs.Prelude.{◌≡◌, ◌↔◌, ◌≤◌, ◌<◌, ℕ, IfOk, IsTrue};
+ghost use Rattle.txn_core.specs.Legal.{sent_to};
 ghost use Rattle.txn_core.specs.Breaks.{IsAt};
 ghost use Rattle.txn_core.specs.declared.answer.Answer.{Answer};
 
@@ -31,77 +31,12 @@ pub fn is_ask<R: Rules>(
     Ok(is_told::<R>(&told, answer))
 }
 
-/// Whether a page is answered so.
-pub fn is_page<R: Rules>(serves: bool, answer: &Reply<R>) -> bool
-    ensures { (n : ℕ) → (IsTrue result ↔ IsPage (R.protocol n) serves answer.now) }
-{
-    match (serves, answer) {
-        (true, Answer::Part { .. }) => true,
-        (false, Answer::Stale) => true,
-        _ => false,
-    }
-}
-
-/// Whether the answer is a change for the cell of its row, or none.
-fn is_out<R: Rules>(partitions: u32, answer: &Reply<R>) -> bool
-    requires { 1 ≤ partitions }
-    ensures { IsTrue result ↔ IsOut (R.protocol partitions) answer.now }
-{
-    match answer {
-        Answer::Out {
-            target,
-            row_key,
-            ..
-        } => *target == R::cell_of(partitions, row_key),
-        Answer::Empty => true,
-        _ => false,
-    }
-}
-
-/// Whether an ApplyIndex is answered so.
-pub fn is_fed<R: Rules>(answer: &Reply<R>) -> bool
-    ensures { IsTrue result ↔ ((answer.now ≡ Answer.Fed) ⊎ (answer.now ≡ Answer.Already)) }
-{
-    match answer {
-        Answer::Fed => true,
-        Answer::Already => true,
-        _ => false,
-    }
-}
-
-/// Whether the answer is that the change has left its outbox, or isn't the first there.
-fn is_acked<R: Rules>(answer: &Reply<R>) -> bool
-    ensures { IsTrue result ↔ ((answer.now ≡ Answer.Acked) ⊎ (answer.now ≡ Answer.Nothing)) }
-{
-    match answer {
-        Answer::Acked => true,
-        Answer::Nothing => true,
-        _ => false,
-    }
-}
-
 /// Whether a number is that of a partition.
 pub fn is_partition<R: Rules>(partitions: u32, cell: u32) -> bool
     requires { 1 ≤ partitions }
     ensures { IsTrue result ↔ (cell < (R.protocol partitions).control) }
 {
     cell < R::control(partitions)
-}
-
-/// Whether a PeekOut is answered so.
-pub fn is_peek<R: Rules>(partitions: u32, source: u32, answer: &Reply<R>) -> bool
-    requires { 1 ≤ partitions }
-    ensures { IsTrue result ↔ ((source < (R.protocol partitions).control) × IsOut (R.protocol partitions) answer.now) }
-{
-    is_partition::<R>(partitions, source) && is_out::<R>(partitions, answer)
-}
-
-/// Whether an Ack is answered so.
-pub fn is_ack<R: Rules>(partitions: u32, source: u32, answer: &Reply<R>) -> bool
-    requires { 1 ≤ partitions }
-    ensures { IsTrue result ↔ ((source < (R.protocol partitions).control) × ((answer.now ≡ Answer.Acked) ⊎ (answer.now ≡ Answer.Nothing))) }
-{
-    is_partition::<R>(partitions, source) && is_acked::<R>(answer)
 }
 
 /// The cell that a message goes to, or none for all cells.

@@ -1,6 +1,7 @@
 use Rattle.std.proofs.Common.{◌≡◌, length, reverse, take}
 use Rattle.txn_core.specs.Breaks.{AllKeep}
 use Rattle.txn_replay.specs.Replica.{IsBefore}
+use Rattle.txn_replay.specs.Fed.{IsFed}
 use Rattle.txn_replay.proofs.Ending.{of_answers}
 use Rattle.txn_replay.proofs.replay.first_wrong.Given as goal
 
@@ -10,4 +11,5 @@ invariant-loop-place g l =
       right : AllKeep (g.R.Rules.protocol l.partitions) of_answers (reverse (take l.place l.entries));
       len : length l.replica.slots.items ≡ length l.entries;
       state : IsBefore (g.R.Rules.protocol l.partitions) l.entries l.place l.replica.catalog l.replica.slots.items;
+      fed : IsFed (g.R.Rules.protocol l.partitions) (reverse (take l.place l.entries)) l.replica.feed;
     }

@@ -1,10 +1,12 @@
-use Rattle.std.proofs.Common.{reverse, take, arith}
+use Rattle.std.proofs.Common.{◌∙◌, reverse, take, None, sym, arith}
+use Rattle.std.proofs.lemmas.List.{get_or_default}
 use Rattle.std.proofs.lemmas.Result.{IfOk-weaker, IfOk-equal}
 use Rattle.txn_core.specs.State.{state_after}
 use Rattle.txn_core.specs.History.{effects}
 use Rattle.txn_replay.specs.Replica.{keys_of}
 use Rattle.txn_replay.proofs.Sequences.{key_at}
 use Rattle.txn_replay.proofs.Advancing.{have_room, before_more, command_more, no_command}
+use Rattle.txn_replay.proofs.FedSteps.{slot_fits, fed_more}
 use Rattle.txn_replay.proofs.replica.step.Goals as goal
 
 pub change_item-requires : goal.change_item-requires
@@ -32,4 +34,15 @@ returns-in_default g c =
           (λ u h. before_more (g.R.Rules.protocol c.args.partitions) c.args.entries.now c.args.place c.index-entries-place.result c.requires.within c.index-entries-place.is c.change_item.new.replica.catalog c.change_item.new.replica.slots.items
           (h c.args.partitions (keys_of (g.R.Rules.protocol c.args.partitions) c.args.entries.now) (effects (reverse (take c.args.place c.args.entries.now))) (no_command (g.R.Rules.protocol c.args.partitions) c.index-entries-place.result.message c.in_default.not-Command) (key_at (g.R.Rules.protocol c.args.partitions) c.args.entries.now c.args.place c.index-entries-place.result c.requires.within c.index-entries-place.is) c.requires.state))
           c.change_item.ensures.state;
+      fed = IfOk-weaker c.change_item.result _ _
+          (λ u h. fed_more (g.R.Rules.protocol c.args.partitions) c.args.entries.now c.args.place c.index-entries-place.result c.requires.within c.index-entries-place.is c.args.replica.now.feed c.feed_entry.new.feed c.change_item.new.replica.feed
+          (c.in_ok-feed_entry.ensures (reverse (take c.args.place c.args.entries.now)) c.requires.state.catalog (slot_fits (g.R.Rules.protocol c.args.partitions) c.args.entries.now c.args.place c.index-entries-place.result c.requires.within c.index-entries-place.is c.args.replica.now.catalog c.args.replica.now.slots.items c.requires.state c.index-slot.result.now (get_or_default c.args.replica.now.slots.items c.args.place None c.index-slot.result.now (omega arith) ∙ sym c.index-slot.ensures))) h c.requires.fed)
+          c.change_item.ensures.feed;
     }
+
+pub returns-in-Command-clause-fed : goal.returns-in-Command-clause-fed
+returns-in-Command-clause-fed g c =
+    IfOk-weaker c.change_catalog.result _ _
+    (λ u h. fed_more (g.R.Rules.protocol c.args.partitions) c.args.entries.now c.args.place c.index-entries-place.result c.requires.within c.index-entries-place.is c.args.replica.now.feed c.feed_entry.new.feed c.change_catalog.new.replica.feed
+    (c.in_ok-feed_entry.ensures (reverse (take c.args.place c.args.entries.now)) c.requires.state.catalog (slot_fits (g.R.Rules.protocol c.args.partitions) c.args.entries.now c.args.place c.index-entries-place.result c.requires.within c.index-entries-place.is c.args.replica.now.catalog c.args.replica.now.slots.items c.requires.state c.index-slot.result.now (get_or_default c.args.replica.now.slots.items c.args.place None c.index-slot.result.now (omega arith) ∙ sym c.index-slot.ensures))) h c.requires.fed)
+    c.change_catalog.ensures.feed
