@@ -14,10 +14,10 @@ use crate::message::kind_of;
 use crate::to_json::{
     ToJson, write_list_member, write_named, write_object_member, write_optional, write_whole,
 };
-use attr_value::Item;
 use base_types::Seq;
 use json::Writer;
 use request_parts::Refusal as EdgeRefusal;
+use shared_item::SharedItem;
 use std::alloc::{AllocError as NoMemory, Global};
 use table_model::{Page, Reply, TableItems, TableNames};
 use table_request::{TableKeys, TableWrites};
@@ -112,7 +112,7 @@ fn write_shown(
     alloc: Global,
     writer: &mut Writer,
     name: &str,
-    item: &Option<Item>,
+    item: &Option<SharedItem>,
 ) -> Result<(), NoMemory>
     ensures tokens { OnOk result (writer.new.tokens ≡ writer.old.tokens ++ tokens_of (shown name.now item.now)) }
     ensures before { writer.new.before ≡ writer.old.before }
@@ -122,7 +122,7 @@ fn write_shown(
     writer.end_object()
 }
 
-impl ToJson for Option<Item> {
+impl ToJson for Option<SharedItem> {
     ghost as_data = { shown (codes "Item") };
 
     fn write(&self, alloc: Global, writer: &mut Writer) -> Result<(), NoMemory> {
@@ -134,7 +134,7 @@ impl ToJson for Option<Item> {
 fn write_responses(
     alloc: Global,
     writer: &mut Writer,
-    found: &Seq<Option<Item>>,
+    found: &Seq<Option<SharedItem>>,
 ) -> Result<(), NoMemory>
     ensures tokens { OnOk result (writer.new.tokens ≡ writer.old.tokens ++ tokens_of (transact_read found.now)) }
     ensures before { writer.new.before ≡ writer.old.before }
@@ -207,7 +207,7 @@ impl ToJson for Page {
 fn write_items(
     alloc: Global,
     writer: &mut Writer,
-    items: &Option<Seq<Item>>,
+    items: &Option<Seq<SharedItem>>,
 ) -> Result<(), NoMemory>
     ensures adds { OnOk result (Adds (optional (codes "Items") (option_map (list_of item) items.now)) writer.old writer.new) }
     ensures before { writer.new.before ≡ writer.old.before }

@@ -10,6 +10,7 @@ use attr_json::write_item;
 use attr_value::Item;
 use base_types::{Seq, Text};
 use json::Writer;
+use shared_item::SharedItem;
 use std::alloc::{AllocError as NoMemory, Global};
 
 /// A type whose values are written as JSON.
@@ -167,6 +168,14 @@ impl ToJson for Item {
 
     fn write(&self, alloc: Global, writer: &mut Writer) -> Result<(), NoMemory> {
         write_item(alloc, writer, self)
+    }
+}
+
+impl ToJson for SharedItem {
+    ghost as_data = { λ item. object (members_of item) };
+
+    fn write(&self, alloc: Global, writer: &mut Writer) -> Result<(), NoMemory> {
+        write_item(alloc, writer, self.item())
     }
 }
 

@@ -15,11 +15,21 @@ use table_model::NumberedAction;
 ///
 /// Contracts see the database of the definitions. Between requests nothing is prepared in any table, and each row stands at
 /// its item's key.
-#[derive(Drop)]
 pub struct SlowDb {
     pub(crate) tables: BTreeMap<Text, NumberedTable>,
     pub(crate) tokens: Tokens<Seq<NumberedAction>>,
     pub(crate) made: u64,
+}
+
+// By hand, so that a crate above calls this one function where it would else prove again how all of it is let go.
+impl Drop for SlowDb {
+    fn drop(self) {
+        let SlowDb {
+            tables: _,
+            tokens: _,
+            made: _,
+        } = self;
+    }
 }
 
 impl Model for SlowDb {

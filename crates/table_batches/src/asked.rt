@@ -10,11 +10,11 @@ ghost use Rattle.table_batches.specs.Keys.{IsAsked, keys_refusal};
 
 use crate::keys::{has_twice, row_keys};
 use crate::missing::missing;
-use attr_value::Item;
 use base_types::Text;
 use item_keys::KeyFault;
 use numbered_tables::NumberedTable;
 use row_keys::RowKey;
+use shared_item::SharedItem;
 use std::alloc::{AllocError as NoMemory, Global};
 use std::collections::BTreeMap;
 use table_model::{Invalid, Refusal};
@@ -25,7 +25,7 @@ use table_rows::TableRows;
 fn look_up<'t>(
     rows: &'t TableRows,
     keys: &[RowKey],
-    items: &mut Vec<Option<&'t Item>>,
+    items: &mut Vec<Option<&'t SharedItem>>,
 ) -> Result<(), NoMemory>
     ensures { OnOk result (map option_copied items.new.items ≡ map option_copied items.old.items ++ map (item_at rows.now.rows) keys.now) }
 {
@@ -41,7 +41,7 @@ fn items_of<'t>(
     tables: &'t BTreeMap<Text, NumberedTable>,
     alloc: Global,
     asked: &TableKeys,
-    items: &mut Vec<Option<&'t Item>>,
+    items: &mut Vec<Option<&'t SharedItem>>,
 ) -> Result<Result<bool, KeyFault>, NoMemory>
     ensures { IfOk result (λ found. IsAsked (asked_keys (tables_alone tables.now.entries) asked.now) found
         (map option_copied items.new.items ≡ map option_copied items.old.items ++ asked_items (tables_alone tables.now.entries) asked.now)) }
@@ -62,7 +62,7 @@ fn items_of_all<'t>(
     tables: &'t BTreeMap<Text, NumberedTable>,
     alloc: Global,
     requests: &[TableKeys],
-) -> Result<Result<Vec<Option<&'t Item>>, Invalid>, NoMemory>
+) -> Result<Result<Vec<Option<&'t SharedItem>>, Invalid>, NoMemory>
     ensures { IfOk result (λ asked. MatchResult asked
         (λ items. (keys_refusal (asked_keys (tables_alone tables.now.entries)) requests.now ≡ None)
         × (map option_copied items.items ≡ flat_map (asked_items (tables_alone tables.now.entries)) requests.now))
@@ -87,7 +87,7 @@ pub(crate) fn asked_items<'t>(
     tables: &'t BTreeMap<Text, NumberedTable>,
     alloc: Global,
     requests: &[TableKeys],
-) -> Result<Result<Vec<Option<&'t Item>>, Refusal>, NoMemory>
+) -> Result<Result<Vec<Option<&'t SharedItem>>, Refusal>, NoMemory>
     ensures { IfOk result (λ asked. MatchResult asked
         (λ items. (batch_get_refusal (tables_alone tables.now.entries) requests.now ≡ None)
         × (map option_copied items.items ≡ flat_map (asked_items (tables_alone tables.now.entries)) requests.now))

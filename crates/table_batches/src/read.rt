@@ -9,10 +9,10 @@ ghost use Rattle.table_batches.specs.Reads.{bytes_of, shown, found_among, read_o
 
 use crate::asked::asked_items;
 use crate::unread::unread;
-use attr_value::Item;
 use base_types::{Seq, Text};
 use expr_words::Paths;
 use numbered_tables::NumberedTable;
+use shared_item::SharedItem;
 use std::alloc::{AllocError as NoMemory, Global};
 use std::collections::BTreeMap;
 use table_items::view;
@@ -23,17 +23,17 @@ use table_request::{BatchGet, TableKeys};
 const MOST_BYTES: u64 = 16_777_216;
 
 /// The bytes of an item, none where it is not there.
-fn bytes_of(item: Option<&Item>) -> u64
+fn bytes_of(item: Option<&SharedItem>) -> u64
     ensures { result ≡ bytes_of (option_copied item.entry) }
 {
     match item {
-        Some(item) => item.size(),
+        Some(item) => item.item().size(),
         None => 0,
     }
 }
 
 /// How many keys are read: those before the first item with which the items would have more than 16,777,216 bytes.
-fn read_count(items: &[Option<&Item>]) -> usize
+fn read_count(items: &[Option<&SharedItem>]) -> usize
     ensures count { result ≡ read_count most_batch_bytes (map option_copied items.now) }
     ensures within { result ≤ length items.now }
 {
@@ -48,18 +48,18 @@ fn read_count(items: &[Option<&Item>]) -> usize
     items.len()
 }
 
-/// What is shown of the items that are there, copied.
+/// What is shown of the items that are there.
 fn shown(
     alloc: Global,
     projection: Option<&Paths>,
-    items: &[Option<&Item>],
-) -> Result<Seq<Item>, NoMemory>
+    items: &[Option<&SharedItem>],
+) -> Result<Seq<SharedItem>, NoMemory>
     ensures { IfOk result (λ views. views ≡ shown (option_copied projection.entry) (map option_copied items.now)) }
 {
     let mut views = Seq::new(alloc);
     for found in items {
         if let Some(item) = *found {
-            views.push(view(projection, item)?)?;
+            views.push(view(alloc, projection, item)?)?;
         }
     }
     Ok(views)
@@ -69,7 +69,7 @@ fn shown(
 fn shown_of(
     alloc: Global,
     asked: &TableKeys,
-    items: &[Option<&Item>],
+    items: &[Option<&SharedItem>],
 ) -> Result<TableItems, NoMemory>
     ensures { IfOk result (λ found. found ≡ record { table = asked.now.table; items = shown asked.now.projection (map option_copied items.now) }) }
 {
@@ -82,7 +82,7 @@ fn shown_of(
 fn found(
     alloc: Global,
     requests: &[TableKeys],
-    items: &[Option<&Item>],
+    items: &[Option<&SharedItem>],
 ) -> Result<Seq<TableItems>, NoMemory>
     ensures { IfOk result (λ found. found ≡ found_among requests.now (map option_copied items.now)) }
 {
@@ -97,7 +97,11 @@ fn found(
 }
 
 /// The answer to a request for these items.
-fn read(alloc: Global, requests: Seq<TableKeys>, items: &[Option<&Item>]) -> Result<Reply, NoMemory>
+fn read(
+    alloc: Global,
+    requests: Seq<TableKeys>,
+    items: &[Option<&SharedItem>],
+) -> Result<Reply, NoMemory>
     ensures { IfOk result (λ reply. reply ≡ read_of requests (map option_copied items.now)) }
 {
     let count = read_count(items);

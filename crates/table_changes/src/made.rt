@@ -12,6 +12,7 @@ ghost use Rattle.table_changes.specs.Prepared.{prepared, prepared_one, is_pendin
 use crate::change::TableChange;
 use base_types::{Seq, Text};
 use numbered_tables::NumberedTable;
+use shared_item::kept;
 use std::alloc::{AllocError as NoMemory, Global};
 use std::collections::BTreeMap;
 
@@ -26,6 +27,7 @@ fn prepare(
     ensures err { OnErr result (tables.new.entries ≡ tables.old.entries) }
 {
     let TableChange { table, key, new } = change;
+    let new = kept(alloc, new)?;
     let Some(table) = tables.get_mut(&table) else {
         return Ok(());
     };

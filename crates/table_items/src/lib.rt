@@ -10,8 +10,8 @@
 //! - [`put_outcome`], [`update_outcome`] and [`delete_outcome`] tell what becomes of one item and change nothing, for
 //!   those who make many changes together. [`touched_key`] is the key attribute that an update would write.
 //!
-//! A request's item and key move into the table. Of what is there an item is copied where the answer shows it, and where
-//! an update without actions keeps it.
+//! A request's item and key move into the table. Of what is there an item is shared where the answer shows it whole; what
+//! the answer picks of it is copied, and so is an item that an update without actions keeps.
 #![tactic(auto)]
 
 mod key;

@@ -13,6 +13,7 @@ use condition_eval::holds;
 use expr_parse::Update;
 use expr_words::Condition;
 use row_keys::is_refused;
+use shared_item::{SharedItem, lent};
 use std::alloc::{AllocError as NoMemory, Global};
 use table_schema::Schema;
 use update_eval::{EvalEnd, EvalFault, MAX_SIZE, apply};
@@ -68,12 +69,12 @@ pub fn put_outcome(
     condition: Option<&Condition>,
     values: &Seq<Value>,
     item: Item,
-    old: Option<&Item>,
+    old: Option<&SharedItem>,
 ) -> Outcome
     ensures { outcome_of result ≡ where_met (is_met (option_copied condition.entry) values.now (option_copied old.entry))
         (model.put_outcome schema.now item) }
 {
-    if is_met(condition, values, old) {
+    if is_met(condition, values, lent(old)) {
         fit(schema, item)
     } else {
         Outcome::False
@@ -91,16 +92,16 @@ pub fn update_outcome(
     update: Option<&Update>,
     values: &Seq<Value>,
     key: Item,
-    old: Option<&Item>,
+    old: Option<&SharedItem>,
 ) -> Result<Outcome, NoMemory>
     ensures { IfOk result (λ outcome. outcome_of outcome
         ≡ where_met (is_met (option_copied condition.entry) values.now (option_copied old.entry))
         (model.update_outcome schema.now (option_copied update.entry) values.now key (option_copied old.entry))) }
 {
-    if !is_met(condition, values, old) {
+    if !is_met(condition, values, lent(old)) {
         return Ok(Outcome::False);
     }
-    match updated_by(alloc, update, values, key, old) {
+    match updated_by(alloc, update, values, key, lent(old)) {
         Ok(item) => Ok(fit(schema, item)),
         Err(EvalEnd::Fault(fault)) => Ok(Outcome::Faulty(fault)),
         Err(EvalEnd::NoMemory) => Err(NoMemory),
@@ -133,12 +134,12 @@ fn updated_by(
 pub fn delete_outcome(
     condition: Option<&Condition>,
     values: &Seq<Value>,
-    old: Option<&Item>,
+    old: Option<&SharedItem>,
 ) -> Outcome
     ensures { outcome_of result ≡ where_met (is_met (option_copied condition.entry) values.now (option_copied old.entry))
         model.delete_outcome }
 {
-    if !is_met(condition, values, old) {
+    if !is_met(condition, values, lent(old)) {
         return Outcome::False;
     }
     Outcome::Becomes(None)

@@ -6,30 +6,38 @@ ghost use Rattle.table_model.specs.Reads.{get_item, view};
 ghost use Rattle.table_items.specs.Effects.{IsTold};
 
 use crate::key::key_of_key;
-use attr_value::Item;
 use expr_words::Paths;
 use projection::pick;
+use shared_item::SharedItem;
 use std::alloc::{AllocError as NoMemory, Global};
 use table_model::{Invalid, Refusal, Reply};
 use table_request::GetItem;
 use table_rows::TableRows;
 
-/// What is shown of an item: what the projection picks, or all of it, copied.
-pub fn view(projection: Option<&Paths>, item: &Item) -> Result<Item, NoMemory>
+/// What is shown of an item: what the projection picks, or the item itself.
+pub fn view(
+    alloc: Global,
+    projection: Option<&Paths>,
+    item: &SharedItem,
+) -> Result<SharedItem, NoMemory>
     ensures { IfOk result (λ shown. shown ≡ view (option_copied projection.entry) item.now) }
 {
     match projection {
-        Some(paths) => pick(paths, item),
-        None => item.try_clone(),
+        Some(paths) => SharedItem::new(alloc, pick(paths, item.item())?),
+        None => item.share(),
     }
 }
 
 /// The same of an item that may be there.
-fn view_if(projection: Option<&Paths>, item: Option<&Item>) -> Result<Option<Item>, NoMemory>
+fn view_if(
+    alloc: Global,
+    projection: Option<&Paths>,
+    item: Option<&SharedItem>,
+) -> Result<Option<SharedItem>, NoMemory>
     ensures { IfOk result (λ shown. shown ≡ option_map (view (option_copied projection.entry)) (option_copied item.entry)) }
 {
     match item {
-        Some(item) => Ok(Some(view(projection, item)?)),
+        Some(item) => Ok(Some(view(alloc, projection, item)?)),
         None => Ok(None),
     }
 }
@@ -39,7 +47,7 @@ pub fn get_item(table: &TableRows, alloc: Global, request: &GetItem) -> Result<R
     ensures { IfOk result (IsTold request.now.table (λ db. get_item db request.now) table.now) }
 {
     match key_of_key(alloc, table.schema(), &request.key)? {
-        Ok(key) => Ok(Reply::Read(view_if(request.projection.as_ref(), table.get(&key))?)),
+        Ok(key) => Ok(Reply::Read(view_if(alloc, request.projection.as_ref(), table.get(&key))?)),
         Err(fault) => Ok(Reply::Refused(Refusal::Invalid(Invalid::Key(fault)))),
     }
 }

@@ -8,13 +8,14 @@ use crate::touched::only_touched;
 use attr_value::Item;
 use base_types::Text;
 use expr_parse::Update;
+use shared_item::{SharedItem, kept, lent};
 use std::alloc::{AllocError as NoMemory, Global};
 use table_request::ReturnValues;
 use table_schema::KeyNames;
 use update_eval::touches;
 
-/// What a write that is made shows of the item as it was and as it is (API Reference: UpdateItem, ReturnValues). It is
-/// copied, and nothing is copied beside it.
+/// What a write that is made shows of the item as it was and as it is (API Reference: UpdateItem, ReturnValues). A whole
+/// item is not copied.
 ///
 /// `UpdatedOld` and `UpdatedNew` show whole attributes, those at or below which the update writes, and nothing where the
 /// item has none of them.
@@ -22,26 +23,26 @@ pub fn shown(
     alloc: Global,
     return_values: ReturnValues,
     update: Option<&Update>,
-    old: Option<&Item>,
-    new: Option<&Item>,
-) -> Result<Option<Item>, NoMemory>
+    old: Option<&SharedItem>,
+    new: Option<&SharedItem>,
+) -> Result<Option<SharedItem>, NoMemory>
     ensures { IfOk result (λ item. item
         ≡ shown return_values (option_copied update.entry) (option_copied old.entry) (option_copied new.entry)) }
 {
     match return_values {
         ReturnValues::None => Ok(None),
-        ReturnValues::AllOld => copied(old),
-        ReturnValues::AllNew => copied(new),
-        ReturnValues::UpdatedOld => touched_in(alloc, update, old),
-        ReturnValues::UpdatedNew => touched_in(alloc, update, new),
+        ReturnValues::AllOld => shared(old),
+        ReturnValues::AllNew => shared(new),
+        ReturnValues::UpdatedOld => kept(alloc, touched_in(alloc, update, lent(old))?),
+        ReturnValues::UpdatedNew => kept(alloc, touched_in(alloc, update, lent(new))?),
     }
 }
 
-fn copied(item: Option<&Item>) -> Result<Option<Item>, NoMemory>
-    ensures { IfOk result (λ copy. copy ≡ option_copied item.entry) }
+fn shared(item: Option<&SharedItem>) -> Result<Option<SharedItem>, NoMemory>
+    ensures { IfOk result (λ shared. shared ≡ option_copied item.entry) }
 {
     match item {
-        Some(item) => Ok(Some(item.try_clone()?)),
+        Some(item) => Ok(Some(item.share()?)),
         None => Ok(None),
     }
 }

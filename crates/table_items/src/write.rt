@@ -14,6 +14,7 @@ use base_types::Seq;
 use expr_parse::Update;
 use expr_words::Condition;
 use row_keys::RowKey;
+use shared_item::{SharedItem, kept};
 use std::alloc::{AllocError as NoMemory, Global};
 use table_model::{Invalid, Refusal, Reply};
 use table_request::{DeleteItem, PutItem, ReturnValues, UpdateItem};
@@ -25,8 +26,8 @@ fn make(
     table: &mut TableRows,
     alloc: Global,
     key: RowKey,
-    new: Option<Item>,
-    shown: Option<Item>,
+    new: Option<SharedItem>,
+    shown: Option<SharedItem>,
 ) -> Result<Reply, NoMemory>
     requires { table.old.pending ≡ [] }
     ensures made { IfOk result (IsMade table.old key new shown table.new) }
@@ -71,6 +72,7 @@ fn put_at(
     let old = table.get(&key);
     match put_outcome(table.schema(), condition, values, item, old) {
         Outcome::Becomes(new) => {
+            let new = kept(alloc, new)?;
             let shown = shown(alloc, return_values, None, old, new.as_ref())?;
             make(table, alloc, key, new, shown)
         }
@@ -149,6 +151,7 @@ fn update_row(
     let outcome = update_outcome(alloc, table.schema(), condition, update, values, key, old)?;
     match outcome {
         Outcome::Becomes(new) => {
+            let new = kept(alloc, new)?;
             let shown = shown(alloc, return_values, update, old, new.as_ref())?;
             make(table, alloc, row, new, shown)
         }
@@ -271,6 +274,7 @@ fn delete_at(
     let old = table.get(&key);
     match delete_outcome(request.condition.as_ref(), &request.values, old) {
         Outcome::Becomes(new) => {
+            let new = kept(alloc, new)?;
             let shown = shown(alloc, request.return_values, None, old, new.as_ref())?;
             make(table, alloc, key, new, shown)
         }

@@ -1,9 +1,9 @@
 //! What a request is refused for.
 
-use attr_value::Item;
 use base_types::{Seq, Text};
 use item_keys::KeyFault;
 use key_condition::RangeFault;
+use shared_item::SharedItem;
 use table_schema::SchemaFault;
 use txn_core::Stamp;
 use update_eval::EvalFault;
@@ -69,7 +69,7 @@ pub enum Reason {
     /// The part was accepted.
     None,
     /// Its condition is false. The item is shown where that was asked.
-    ConditionFalse { old: Option<Item> },
+    ConditionFalse { old: Option<SharedItem> },
     /// The transaction of this number holds the item.
     Held { number: u64 },
     /// A change of the item with this later stamp is there.

@@ -3,6 +3,7 @@
 use crate::refusal::Refusal;
 use attr_value::Item;
 use base_types::{Seq, Text};
+use shared_item::SharedItem;
 use table_request::{TableKeys, TableWrites};
 use table_schema::Schema;
 
@@ -15,9 +16,9 @@ pub enum Reply {
     Table(Schema),
     Tables(TableNames),
     /// A single write was made. The attributes are those that it was asked to show, where there are some.
-    Written(Option<Item>),
+    Written(Option<SharedItem>),
     /// What is shown of an item, where it is there (GetItem).
-    Read(Option<Item>),
+    Read(Option<SharedItem>),
     /// What is shown of the items that were found, each table's in the order of its keys, and the keys that were not
     /// read.
     BatchRead {
@@ -32,7 +33,7 @@ pub enum Reply {
     /// The transaction was made.
     TransactWritten,
     /// What is shown of each item, where it is there, in the order of the request.
-    TransactRead(Seq<Option<Item>>),
+    TransactRead(Seq<Option<SharedItem>>),
     Refused(Refusal),
 }
 
@@ -49,7 +50,7 @@ pub struct TableNames {
 #[derive(Drop)]
 pub struct TableItems {
     pub table: Text,
-    pub items: Seq<Item>,
+    pub items: Seq<SharedItem>,
 }
 
 /// A page of rows (API Reference: Query, Scan).
@@ -60,7 +61,7 @@ pub struct Page {
     /// How many rows were looked at.
     pub scanned: u64,
     /// What is shown of the rows that pass the filter, unless they are counted alone.
-    pub items: Option<Seq<Item>>,
+    pub items: Option<Seq<SharedItem>>,
     /// The key of the last row, where the page ended before the rows did.
     pub last: Option<Item>,
 }

@@ -10,9 +10,9 @@ ghost use Rattle.table_model.specs.Pages.{Source as AnySource};
 ghost use Rattle.table_pages.specs.Filled.{IsAdded, FillsPage};
 
 use crate::row::Sight;
-use attr_value::Item;
 use base_types::Seq;
 use paging::{PageState, Steps, Walk};
+use shared_item::SharedItem;
 use std::alloc::{AllocError as NoMemory, Global};
 use std::sync::ledger::Ledger;
 use table_items::is_met;
@@ -40,7 +40,7 @@ pub(crate) fn empty_page(alloc: Global, request: &PageRequest) -> Page
 fn add_row(
     alloc: Global,
     sight: &Sight<'_>,
-    item: &Item,
+    item: &SharedItem,
     state: &mut PageState,
     page: &mut Page,
 ) -> Result<bool, NoMemory>
@@ -69,7 +69,7 @@ fn add_row(
 ///
 /// Each row that it looks at is a step, and so is finding the end of the rows: it looks at no row behind the one that makes
 /// the page full.
-pub(crate) fn fill<W: Walk<Row = Item>, L: Ledger>(
+pub(crate) fn fill<W: Walk<Row = SharedItem>, L: Ledger>(
     alloc: Global,
     sight: &Sight<'_>,
     rows: &W,

@@ -6,9 +6,9 @@
 //! condition and a filter that names the key; a projection of what is not kept; and a start key that is none.
 //!
 //! A page costs the rows that it looks at and the logarithm of the table: a Query walks the range of its partition key
-//! and sort condition alone, a Scan of a segment its places alone, and a start key is where the walk begins. Items are
-//! copied as they are shown. A row of a global index that keeps some attributes alone is copied before it is judged,
-//! since filter and size are of what the index keeps.
+//! and sort condition alone, a Scan of a segment its places alone, and a start key is where the walk begins. Whole items
+//! are shared as they are shown, and what is picked of them is copied. A row of a global index that keeps some attributes
+//! alone is copied before it is judged, since filter and size are of what the index keeps.
 #![tactic(auto)]
 
 mod fill;

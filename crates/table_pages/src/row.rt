@@ -12,8 +12,9 @@ use crate::refused::asks_all;
 use crate::source::Source;
 use attr_value::Item;
 use base_types::Seq;
+use projection::pick;
+use shared_item::SharedItem;
 use std::alloc::{AllocError as NoMemory, Global};
-use table_items::view;
 use table_request::PageRequest;
 use table_schema::{GlobalIndex, Projection, Schema};
 
@@ -28,7 +29,7 @@ pub(crate) struct Sight<'a> {
 /// A row as a page sees it: the item itself, or what an index keeps of it.
 #[derive(Drop)]
 pub(crate) enum Seen<'a> {
-    Whole(&'a Item),
+    Whole(&'a SharedItem),
     Kept(Item),
 }
 
@@ -38,18 +39,18 @@ impl Seen<'_> {
         ensures { result.now ≡ item_of self.now }
     {
         match self {
-            Seen::Whole(item) => item,
+            Seen::Whole(item) => item.item(),
             Seen::Kept(item) => item,
         }
     }
 
-    /// The same as an item of its own.
-    fn into_item(self) -> Result<Item, NoMemory>
+    /// The same for one more owner.
+    fn into_shared(self, alloc: Global) -> Result<SharedItem, NoMemory>
         ensures { IfOk result (λ item. item ≡ item_of self.entry) }
     {
         match self {
-            Seen::Whole(item) => item.try_clone(),
-            Seen::Kept(item) => Ok(item),
+            Seen::Whole(item) => item.share(),
+            Seen::Kept(item) => SharedItem::new(alloc, item),
         }
     }
 }
@@ -59,7 +60,7 @@ fn seen_in<'a>(
     alloc: Global,
     schema: &Schema,
     index: &GlobalIndex,
-    item: &'a Item,
+    item: &'a SharedItem,
 ) -> Result<Seen<'a>, NoMemory>
     ensures { IfOk result (λ row. item_of row ≡ seen schema.now (model.global_index index.now) item.now) }
 {
@@ -67,14 +68,14 @@ fn seen_in<'a>(
         Projection::All => Ok(Seen::Whole(item)),
         Projection::KeysOnly | Projection::Include(_) => {
             let names = Names::Row(&schema.keys, &index.keys, &index.projection);
-            Ok(Seen::Kept(names.only(alloc, item)?))
+            Ok(Seen::Kept(names.only(alloc, item.item())?))
         }
     }
 }
 
 impl Sight<'_> {
     /// What the page sees of an item.
-    pub(crate) fn see<'a>(&self, alloc: Global, item: &'a Item) -> Result<Seen<'a>, NoMemory>
+    pub(crate) fn see<'a>(&self, alloc: Global, item: &'a SharedItem) -> Result<Seen<'a>, NoMemory>
         ensures { IfOk result (λ row. item_of row ≡ seen self.now.schema.now (source_in self.now.source) item.now) }
     {
         match self.source {
@@ -84,26 +85,26 @@ impl Sight<'_> {
     }
 
     /// What is shown of a row where no projection is stated.
-    fn show_by_default(&self, alloc: Global, row: Seen<'_>) -> Result<Item, NoMemory>
+    fn show_by_default(&self, alloc: Global, row: Seen<'_>) -> Result<SharedItem, NoMemory>
         ensures { IfOk result (λ item.
             item ≡ model.default_view self.now.schema.now (source_in self.now.source) self.now.page.now.select (item_of row.entry)) }
     {
         match self.source {
             Source::Local(_, index) if !asks_all(self.page.select) => {
                 let names = Names::Row(&self.schema.keys, &index.keys, &index.projection);
-                names.only(alloc, row.item())
+                SharedItem::new(alloc, names.only(alloc, row.item())?)
             }
-            _ => row.into_item(),
+            _ => row.into_shared(alloc),
         }
     }
 
     /// What is shown of a row (API Reference: Query, Select).
-    fn show(&self, alloc: Global, row: Seen<'_>) -> Result<Item, NoMemory>
+    fn show(&self, alloc: Global, row: Seen<'_>) -> Result<SharedItem, NoMemory>
         ensures { IfOk result (λ item.
             item ≡ model.row_view self.now.schema.now (source_in self.now.source) self.now.page.now (item_of row.entry)) }
     {
         match &self.page.projection {
-            Some(paths) => view(Some(paths), row.item()),
+            Some(paths) => SharedItem::new(alloc, pick(paths, row.item())?),
             None => self.show_by_default(alloc, row),
         }
     }
@@ -113,7 +114,7 @@ impl Sight<'_> {
         &self,
         alloc: Global,
         row: Seen<'_>,
-        items: &mut Option<Seq<Item>>,
+        items: &mut Option<Seq<SharedItem>>,
     ) -> Result<(), NoMemory>
         ensures { OnOk result (items.new ≡ option_map (λ shown.
             shown ++ model.row_view self.now.schema.now (source_in self.now.source) self.now.page.now (item_of row.entry) ∷ []) items.old) }

@@ -3,14 +3,14 @@
 ghost use Rattle.std.specs.Prelude.{◌≡◌};
 ghost use Rattle.table_rows.specs.View.{is_pending};
 
-use attr_value::Item;
 use row_keys::RowKey;
+use shared_item::SharedItem;
 
 /// What the item at a key is to be: this one, or none.
 #[derive(Drop)]
 pub struct Change {
     pub key: RowKey,
-    pub new: Option<Item>,
+    pub new: Option<SharedItem>,
 }
 
 /// Whether one of the changes is of the item at this key.

@@ -18,6 +18,7 @@ use crate::slots::Slots;
 use attr_value::Item;
 use paging::MapRange;
 use row_keys::{Position, RowKey, position_of};
+use shared_item::lent;
 use std::alloc::{AllocError as NoMemory, Global};
 use std::collections::BTreeMap;
 use std::marker::Model;
@@ -110,7 +111,7 @@ impl Index {
         ensures ordered { IsStrictlySortedBy position_order (keys_of self.new.places) }
     {
         for (key, slot) in slots.iter() {
-            let come = spot_of(alloc, schema, &self.keys, key, slot.as_ref())?;
+            let come = spot_of(alloc, schema, &self.keys, key, lent(slot.as_ref()))?;
             self.enter(come)?;
         }
         // What `len` tells of a map: that its keys ascend.
@@ -178,7 +179,13 @@ impl Index {
         ensures err { OnErr result (self.new ≡ self.old) }
     {
         let gone = spot_of(alloc, schema, &self.keys, &change.key, old)?;
-        let come = spot_of(alloc, schema, &self.keys, &change.key, change.new.as_ref())?;
+        let come = spot_of(
+            alloc,
+            schema,
+            &self.keys,
+            &change.key,
+            lent(change.new.as_ref()),
+        )?;
         self.hold(Move::between(gone, come))
     }
 

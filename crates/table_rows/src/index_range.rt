@@ -5,9 +5,9 @@ ghost use Rattle.table_rows.specs.Slots.{rows_of};
 ghost use Rattle.table_rows.specs.Looked.{looked, AllThere};
 
 use crate::slots::Slots;
-use attr_value::Item;
 use paging::{MapRange, Steps, Walk};
 use row_keys::Position;
+use shared_item::SharedItem;
 use std::marker::Model;
 use std::sync::ledger::Ledger;
 
@@ -50,7 +50,7 @@ impl<'a> IndexRange<'a> {
 impl<'a> Walk for IndexRange<'a> {
     type Place = Position;
 
-    type Row = Item;
+    type Row = SharedItem;
 
     ghost listed = { λ rows. rows };
 
@@ -59,7 +59,7 @@ impl<'a> Walk for IndexRange<'a> {
         after: Option<&'b Position>,
         forward: bool,
         steps: &mut Steps<L>,
-    ) -> Option<(&'b Position, &'b Item)> {
+    ) -> Option<(&'b Position, &'b SharedItem)> {
         let Some((place, _)) = self.places.next(after, forward, steps) else {
             return None;
         };

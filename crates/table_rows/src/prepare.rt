@@ -14,6 +14,7 @@ use crate::change::Change;
 use crate::index::Index;
 use crate::slots::Slots;
 use base_types::Seq;
+use shared_item::lent;
 use std::alloc::{AllocError as NoMemory, Global};
 use table_schema::Schema;
 
@@ -63,7 +64,7 @@ pub(crate) fn prepare_in(
     let Some((first, rest)) = indexes.split_first_mut() else {
         return hold(slots, pending, change);
     };
-    first.prepare(alloc, schema, &change, slots.get(&change.key))?;
+    first.prepare(alloc, schema, &change, lent(slots.get(&change.key)))?;
     match prepare_in(alloc, schema, rest, slots, pending, change) {
         Ok(()) => Ok(()),
         Err(refused) => {

@@ -3,9 +3,9 @@
 ghost use Rattle.std.specs.Prelude.{◌≡◌};
 ghost use Rattle.table_rows.specs.Slots.{rows_of, AllFilled};
 
-use attr_value::Item;
 use paging::{MapRange, Steps, Walk};
 use row_keys::RowKey;
+use shared_item::SharedItem;
 use std::marker::Model;
 use std::sync::ledger::Ledger;
 
@@ -15,7 +15,7 @@ use std::sync::ledger::Ledger;
 /// table's size, and takes no memory.
 #[derive(Drop)]
 pub struct RowRange<'a> {
-    slots: MapRange<'a, RowKey, Option<Item>>,
+    slots: MapRange<'a, RowKey, Option<SharedItem>>,
 }
 
 impl<'a> Model for RowRange<'a> {
@@ -34,7 +34,7 @@ impl<'a> Model for RowRange<'a> {
 
 impl<'a> RowRange<'a> {
     /// The rows in these slots, in each of which there is an item.
-    pub(crate) fn new(slots: MapRange<'a, RowKey, Option<Item>>) -> RowRange<'a>
+    pub(crate) fn new(slots: MapRange<'a, RowKey, Option<SharedItem>>) -> RowRange<'a>
         requires { AllFilled slots }
         ensures { result ≡ rows_of slots.entry }
     {
@@ -45,7 +45,7 @@ impl<'a> RowRange<'a> {
 impl<'a> Walk for RowRange<'a> {
     type Place = RowKey;
 
-    type Row = Item;
+    type Row = SharedItem;
 
     ghost listed = { λ rows. rows };
 
@@ -54,7 +54,7 @@ impl<'a> Walk for RowRange<'a> {
         after: Option<&'b RowKey>,
         forward: bool,
         steps: &mut Steps<L>,
-    ) -> Option<(&'b RowKey, &'b Item)> {
+    ) -> Option<(&'b RowKey, &'b SharedItem)> {
         let Some((key, slot)) = self.slots.next(after, forward, steps) else {
             return None;
         };

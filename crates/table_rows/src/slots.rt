@@ -10,9 +10,9 @@ ghost use Rattle.row_keys.specs.Keys.{row_order};
 ghost use Rattle.row_keys.specs.Rows.{item_at, with_item};
 ghost use Rattle.table_rows.specs.Slots.{rows_of, has_slot, KeepsOtherSlots};
 
-use attr_value::Item;
 use paging::MapRange;
 use row_keys::RowKey;
+use shared_item::SharedItem;
 use std::alloc::{AllocError as NoMemory, Global};
 use std::collections::BTreeMap;
 use std::collections::btree_map::Iter;
@@ -23,7 +23,7 @@ use std::ops::Bound;
 /// memory.
 #[derive(Drop)]
 pub(crate) struct Slots {
-    slots: BTreeMap<RowKey, Option<Item>>,
+    slots: BTreeMap<RowKey, Option<SharedItem>>,
 }
 
 impl Model for Slots {
@@ -53,7 +53,7 @@ impl Slots {
     }
 
     /// The item at a key.
-    pub fn get(&self, key: &RowKey) -> Option<&Item>
+    pub fn get(&self, key: &RowKey) -> Option<&SharedItem>
         ensures { option_copied result ≡ item_at (rows_of self.now) key.now }
     {
         match self.slots.get(key) {
@@ -67,7 +67,7 @@ impl Slots {
         &'a self,
         low: Bound<&'a RowKey>,
         high: Bound<&'a RowKey>,
-    ) -> MapRange<'a, RowKey, Option<Item>>
+    ) -> MapRange<'a, RowKey, Option<SharedItem>>
         ensures slots { result ≡ entries_between row_order (bound_map (λ end. end.now) low.entry) (bound_map (λ end. end.now) high.entry) self.now }
         ensures ordered { IsStrictlySortedBy row_order (keys_of self.now) }
     {
@@ -75,7 +75,7 @@ impl Slots {
     }
 
     /// The slots in the order of their keys.
-    pub fn iter(&self) -> Iter<'_, RowKey, Option<Item>>
+    pub fn iter(&self) -> Iter<'_, RowKey, Option<SharedItem>>
         ensures { result ≡ self.now }
     {
         self.slots.iter()
@@ -102,7 +102,7 @@ impl Slots {
     }
 
     /// Writes the item at a key that has a slot. It takes no memory.
-    pub fn write(&mut self, key: RowKey, item: Item)
+    pub fn write(&mut self, key: RowKey, item: SharedItem)
         requires { has_slot self.old key ≡ true }
         ensures rows { rows_of self.new ≡ with_item (rows_of self.old) key (Some item) }
         ensures slot { has_slot self.new key ≡ true }

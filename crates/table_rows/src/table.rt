@@ -18,9 +18,9 @@ use crate::index_range::IndexRange;
 use crate::prepare::{make_all, prepare_in, release_all, settle_all, undo_all};
 use crate::row_range::RowRange;
 use crate::slots::Slots;
-use attr_value::Item;
 use base_types::Seq;
 use row_keys::{Position, RowKey};
+use shared_item::SharedItem;
 use std::alloc::{AllocError as NoMemory, Global};
 use std::marker::Model;
 use std::mem::replace;
@@ -89,13 +89,24 @@ fn have_same_indexes(old: &Schema, new: &Schema) -> bool
 /// A table: its schema, its rows in the order of a Scan, and the changes that are prepared.
 ///
 /// Contracts see these alone: the places of the indexes follow from them.
-#[derive(Drop)]
 pub struct TableRows {
     schema: Schema,
     slots: Slots,
     pending: Seq<Change>,
     /// Those that are local first, each in the order of the schema.
     indexes: Seq<Index>,
+}
+
+// By hand, so that a crate above calls this one function where it would else prove again how all of it is let go.
+impl Drop for TableRows {
+    fn drop(self) {
+        let TableRows {
+            schema: _,
+            slots: _,
+            pending: _,
+            indexes: _,
+        } = self;
+    }
 }
 
 impl Model for TableRows {
@@ -136,7 +147,7 @@ impl TableRows {
     }
 
     /// The item at a key, whatever is prepared. It costs the logarithm of the rows, and takes no memory.
-    pub fn get(&self, key: &RowKey) -> Option<&Item>
+    pub fn get(&self, key: &RowKey) -> Option<&SharedItem>
         ensures { option_copied result ≡ item_at self.now.rows key.now }
     {
         self.slots.get(key)
@@ -209,7 +220,12 @@ impl TableRows {
     /// until [`TableRows::commit`]. No other change of the key is prepared.
     ///
     /// Where memory is refused nothing changes.
-    pub fn prepare(&mut self, alloc: Global, key: RowKey, new: Option<Item>) -> Result<(), NoMemory>
+    pub fn prepare(
+        &mut self,
+        alloc: Global,
+        key: RowKey,
+        new: Option<SharedItem>,
+    ) -> Result<(), NoMemory>
         requires { is_pending self.old.pending key ≡ false }
         ensures ok { OnOk result (self.new ≡ record self.old { pending = self.old.pending ++ record { key = key; new = new } ∷ [] }) }
         ensures err { OnErr result (self.new ≡ self.old) }

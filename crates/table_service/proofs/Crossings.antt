@@ -14,6 +14,7 @@ use Rattle.table_schema.proofs.schema.Schema.TheSendSync as schema
 use Rattle.table_schema.proofs.keys.KeyNames.TheSendSync as key_names
 use Rattle.attr_value.specs.contracts.value.Item as Item
 use Rattle.attr_value.specs.contracts.value.Value as Value
+use Rattle.shared_item.specs.contracts.SharedItem as SharedItem
 use Rattle.expr_words.specs.contracts.tree.Condition as Condition
 use Rattle.expr_parse.specs.contracts.tree.Update as Update
 use Rattle.table_request.specs.contracts.transactions.Change as Change
@@ -29,6 +30,12 @@ item_send = search (text.the_send, bytes.the_send, number.the_send, maps.crosses
 
 pub item_sync : IsSync Item.the_row
 item_sync = search (text.the_sync, bytes.the_sync, number.the_sync, maps.crosses, owners.crosses, values.crosses, sendable) depth 60 fits 20000
+
+pub shared_item_send : IsSend SharedItem.the_row
+shared_item_send = search (item_send, item_sync, owners.crosses, sendable) depth 60 fits 20000
+
+pub shared_item_sync : IsSync SharedItem.the_row
+shared_item_sync = search (item_send, item_sync, owners.crosses, sendable) depth 60 fits 20000
 
 pub value_send : IsSend (Value.the_field).row
 value_send = search (item_send, text.the_send, bytes.the_send, number.the_send, maps.crosses, owners.crosses, values.crosses, sendable) depth 60 fits 20000
@@ -67,10 +74,10 @@ pub numbered_action_sync : IsSync (NumberedAction.the_field).row
 numbered_action_sync = search (action_sync, owners.crosses, sendable) depth 60 fits 20000
 
 pub rows_send : IsSend TableRows.the_row
-rows_send = search (item_send, row_key.the_field_send, position.the_field_send, schema.the_field_send, key_names.the_field_send, maps.crosses, owners.crosses, sendable) depth 60 fits 20000
+rows_send = search (shared_item_send, row_key.the_field_send, position.the_field_send, schema.the_field_send, key_names.the_field_send, maps.crosses, owners.crosses, sendable) depth 60 fits 20000
 
 pub rows_sync : IsSync TableRows.the_row
-rows_sync = search (item_sync, row_key.the_field_sync, position.the_field_sync, schema.the_field_sync, key_names.the_field_sync, maps.crosses, owners.crosses, sendable) depth 60 fits 20000
+rows_sync = search (shared_item_sync, row_key.the_field_sync, position.the_field_sync, schema.the_field_sync, key_names.the_field_sync, maps.crosses, owners.crosses, sendable) depth 60 fits 20000
 
 pub table_send : IsSend (NumberedTable.the_field).row
 table_send = search (rows_send, owners.crosses, sendable) depth 60 fits 20000

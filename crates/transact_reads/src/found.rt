@@ -7,10 +7,10 @@ ghost use Rattle.table_model.specs.Batches.{missing};
 ghost use Rattle.transact_reads.specs.Found.{target_of, shown_of, IsFound, AreFound, database_of};
 
 use crate::targets::Targeted;
-use attr_value::Item;
 use base_types::{Seq, Text};
 use numbered_tables::NumberedTable;
 use row_keys::RowKey;
+use shared_item::SharedItem;
 use std::alloc::{AllocError as NoMemory, Global};
 use std::collections::BTreeMap;
 use table_items::{key_of_key, view};
@@ -39,11 +39,11 @@ impl<'a> Targeted for FoundRead<'a> {
 
 impl<'a> FoundRead<'a> {
     /// What is shown of the item, where it is there.
-    fn view(&self) -> Result<Option<Item>, NoMemory>
+    fn view(&self, alloc: Global) -> Result<Option<SharedItem>, NoMemory>
         ensures { IfOk result (λ shown. shown ≡ shown_of self.now) }
     {
         match self.table.rows.get(&self.key) {
-            Some(item) => Ok(Some(view(self.read.projection.as_ref(), item)?)),
+            Some(item) => Ok(Some(view(alloc, self.read.projection.as_ref(), item)?)),
             None => Ok(None),
         }
     }
@@ -100,12 +100,15 @@ pub(crate) fn find_all<'a>(
 }
 
 /// What is shown of each item, where it is there.
-pub(crate) fn views(alloc: Global, found: &[FoundRead<'_>]) -> Result<Seq<Option<Item>>, NoMemory>
+pub(crate) fn views(
+    alloc: Global,
+    found: &[FoundRead<'_>],
+) -> Result<Seq<Option<SharedItem>>, NoMemory>
     ensures { IfOk result (λ shown. shown ≡ map shown_of found.now) }
 {
     let mut shown = Seq::with_capacity(alloc, found.len())?;
     for read in found {
-        shown.push(read.view()?)?;
+        shown.push(read.view(alloc)?)?;
     }
     Ok(shown)
 }

@@ -17,6 +17,7 @@ use expr_parse::Update;
 use expr_words::Condition;
 use numbered_tables::NumberedTable;
 use row_keys::RowKey;
+use shared_item::{SharedItem, lent};
 use std::alloc::{AllocError as NoMemory, Global};
 use std::collections::BTreeMap;
 use table_changes::TableChange;
@@ -35,7 +36,7 @@ struct Aim {
 
 impl Aim {
     /// The verdict of an outcome that was taken of this item.
-    fn verdict(self, outcome: Outcome, old: Option<&Item>) -> Result<Verdict, NoMemory>
+    fn verdict(self, outcome: Outcome, old: Option<&SharedItem>) -> Result<Verdict, NoMemory>
         ensures { IfOk result (λ verdict. verdict ≡ verdict_of self (option_copied old.entry) (outcome_of outcome)) }
     {
         let Aim {
@@ -53,15 +54,15 @@ impl Aim {
     }
 }
 
-/// The item, copied, where it is to be shown.
-fn shown_old(show_old: bool, old: Option<&Item>) -> Result<Option<Item>, NoMemory>
+/// The item, where it is to be shown.
+fn shown_old(show_old: bool, old: Option<&SharedItem>) -> Result<Option<SharedItem>, NoMemory>
     ensures { IfOk result (λ shown. shown ≡ shown_if show_old (option_copied old.entry)) }
 {
     if !show_old {
         return Ok(None);
     }
     match old {
-        Some(item) => Ok(Some(item.try_clone()?)),
+        Some(item) => Ok(Some(item.share()?)),
         None => Ok(None),
     }
 }
@@ -126,7 +127,7 @@ fn judge_check(
         ≡ judged_in rows.now aim.key (action_of aim (option_copied condition.entry) values.now (kind.Check key))) }
 {
     let old = rows.get(&aim.key);
-    if is_met(condition, values, old) {
+    if is_met(condition, values, lent(old)) {
         return Ok(Ok(None));
     }
     aim.verdict(Outcome::False, old)

@@ -1,12 +1,18 @@
 use Rattle.std.specs.Map.{lookup, set_value}
-use Rattle.std.proofs.Common.{rules, ◌≡◌, None, Some, ap, ◌∙◌}
+use Rattle.std.proofs.Common.{rules, ◌≡◌, [], ◌∷◌, ◌++◌, Option, None, Some, ap, ◌∙◌}
 use Rattle.std.proofs.lemmas.Result.{on_ok_weaker, on_err_weaker}
 use Rattle.std.proofs.lemmas.Map.Steps.{set_value_same}
+use Rattle.attr_value.specs.Tree.{Attributes}
+use Rattle.row_keys.specs.declared.row_key.RowKey.{RowKey}
 use Rattle.numbered_tables.specs.declared.table.NumberedTable.{NumberedTable}
 use Rattle.table_rows.specs.View.{TableView}
 use Rattle.table_changes.specs.Prepared.{names}
 use Rattle.table_changes.proofs.Prepared.{prepared_there, prepared_nowhere}
 use Rattle.table_changes.proofs.made.prepare.Goals as goal
+
+-- the table with one more change prepared
+abbrev with_new : TableView → RowKey → Option Attributes → TableView
+with_new t key new = record t { pending = t.pending ++ record { key = key; new = new } ∷ [] }
 
 pub returns-in_default-clause-ok : goal.returns-in_default-clause-ok
 returns-in_default-clause-ok c =
@@ -24,9 +30,10 @@ returns-clause-ok c =
     let found : lookup (names change) es ≡ Some x = search rules in
     let numbered : TableView → NumberedTable = λ rows. record { number = x.number; rows = rows } in
     let w = numbered c.prepare.new.self in
+    let kept : with_new x.rows change.key c.in_ok-new.new ≡ with_new x.rows change.key change.new = ap (with_new x.rows change.key) c.in_ok-new.ensures in
     on_ok_weaker c.prepare.result
     (λ done.
-    prepared_there change es (c.get_mut.follows.lender w).entries x w c.get_mut.ensures.ordered found (c.get_mut.follows.holds w).0 (ap numbered done))
+    prepared_there change es (c.get_mut.follows.lender w).entries x w c.get_mut.ensures.ordered found (c.get_mut.follows.holds w).0 (ap numbered (done ∙ kept)))
     c.prepare.ensures.ok
 
 pub returns-clause-err : goal.returns-clause-err

@@ -34,10 +34,10 @@ returns-in_ok-shown-in-Becomes-clause-done c =
     let item = item_at old.rows c.args.key in
     let lent : option_copied c.as_ref.result ≡ c.args.request.now.condition = search rules in
     let same = ap outcome_of (sym c.in-Becomes.is) ∙ c.delete_outcome.ensures ∙ (λ i. where_met (is_met (lent i) c.args.request.now.values (c.get-old.ensures i)) delete_outcome) in
-    let new : option_copied c.as_ref-in-Becomes.result ≡ c.in-Becomes.new = search rules in
+    let new : option_copied c.as_ref-in-Becomes.result ≡ c.in_ok-new-in-Becomes.new = search rules in
     let told = c.in_ok-shown-in-Becomes.ensures ∙ (λ i. shown c.args.request.now.return_values None (c.get-old.ensures i) (new i)) in
     IfOk-weaker c.make.result _ _
     (λ reply made.
-    along_outcome old c.make.new.table c.args.key invalid.Evaluation (shown c.args.request.now.return_values None item) reply (becomes c.in-Becomes.new) _ same
+    along_outcome old c.make.new.table c.args.key invalid.Evaluation (shown c.args.request.now.return_values None item) reply (becomes c.in_ok-new-in-Becomes.new) _ (ap becomes c.in_ok-new-in-Becomes.ensures ∙ same)
     (made.0, made.1 ∙ ap Written told))
     c.make.ensures.made

@@ -31,10 +31,10 @@ returns-in_ok-shown-in-Becomes-clause-done c =
     let old = c.args.table.now in
     let item = item_at old.rows c.args.row in
     let same = ap outcome_of (sym c.in-Becomes.is) ∙ c.in_ok-outcome.ensures ∙ (λ i. where_met (is_met (option_copied c.args.condition) c.args.values.now (c.get-old.ensures i)) (update_outcome (c.schema.ensures i) (option_copied c.args.update) c.args.values.now c.args.key (c.get-old.ensures i))) in
-    let new : option_copied c.as_ref.result ≡ c.in-Becomes.new = search rules in
+    let new : option_copied c.as_ref.result ≡ c.in_ok-new-in-Becomes.new = search rules in
     let told = c.in_ok-shown-in-Becomes.ensures ∙ (λ i. shown c.args.return_values (option_copied c.args.update) (c.get-old.ensures i) (new i)) in
     IfOk-weaker c.make.result _ _
     (λ reply made.
-    along_outcome old c.make.new.table c.args.row invalid.Evaluation (shown c.args.return_values (option_copied c.args.update) item) reply (becomes c.in-Becomes.new) _ same
+    along_outcome old c.make.new.table c.args.row invalid.Evaluation (shown c.args.return_values (option_copied c.args.update) item) reply (becomes c.in_ok-new-in-Becomes.new) _ (ap becomes c.in_ok-new-in-Becomes.ensures ∙ same)
     (made.0, made.1 ∙ ap Written told))
     c.make.ensures.made

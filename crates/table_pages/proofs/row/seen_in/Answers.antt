@@ -8,4 +8,4 @@ returns-in-All c = whole_kept c.args.schema.now c.args.index.now c.in-All.is c.a
 
 pub returns-in_ok-only-in-KeysOnly : goal.returns-in_ok-only-in-KeysOnly
 returns-in_ok-only-in-KeysOnly c =
-    c.in_ok-only-in-KeysOnly.ensures ∙ (λ i. only (λ name. row_names c.args.schema.now c.args.index.now name i) c.args.item.now)
+    c.in_ok-only-in-KeysOnly.ensures ∙ (λ i. only (λ name. row_names c.args.schema.now c.args.index.now name i) (c.item.ensures i))

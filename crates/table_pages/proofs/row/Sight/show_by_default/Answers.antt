@@ -8,16 +8,17 @@ use Rattle.table_pages.specs.Sources.{source_in}
 use Rattle.table_pages.proofs.Chosen.{row_names, kept_by_default}
 use Rattle.table_pages.proofs.row.Sight.show_by_default.Goals as goal
 
-pub returns-in-Local : goal.returns-in-Local
-returns-in-Local c =
+pub returns-in_ok-only-in-Local : goal.returns-in_ok-only-in-Local
+returns-in_ok-only-in-Local c =
     let sight = c.args.self.now in
     let schema = sight.schema.now in
     let index = c.in-Local.index.now in
     let seen : Attributes = item_of c.args.row in
-    IfOk-weaker c.only.result _ _
+    IfOk-weaker c.new.result _ _
     (λ item is.
     is
+    ∙ c.in_ok-only-in-Local.ensures
     ∙ (λ i. only (λ name. row_names schema (as_global index) name i) (c.item.ensures i))
     ∙ kept_by_default schema index sight.page.now.select seen (sym c.if-not-asks_all.ensures)
     ∙ sym (λ i. default_view schema (source_in (c.in-Local.is i)) sight.page.now.select seen))
-    c.only.ensures
+    c.new.ensures
