@@ -1,5 +1,5 @@
 -- At the end of a path of names stands what is written there, or what stood there where no written path meets it.
-use Rattle.std.proofs.Common.{◌≡◌, ℕ, zero, suc, List, [], ◌∷◌, slice_get, Option, Some, None, option_and_then, Bool, true, false, cond, ◌&&◌, bytes_eq, refl, sym, ap, ◌∙◌, subst}
+use Rattle.std.proofs.Common.{◌≡◌, ℕ, zero, suc, List, [], ◌∷◌, slice_get, Option, Some, None, option_and_then, Bool, true, false, cond, ◌&&◌, bytes_eq, refl, ap, ◌∙◌, subst}
 use Rattle.std.proofs.lemmas.Slice.Eq.{bytes_eq-Decides}
 use Rattle.std.specs.List.{AllByRecursion}
 use Rattle.base_types.specs.declared.path.Step.{Step}
@@ -7,7 +7,7 @@ use Rattle.base_types.specs.declared.path.Step.TheVariants.{Name, Index}
 use Rattle.attr_value.specs.Paths.{found, found_in, value_at}
 use Rattle.attr_value.specs.Tree.{Tree, text, number, binary, boolean, null, list, map, text_set, number_set, binary_set}
 use Rattle.attr_value.specs.Tree.{Attributes, no_attributes, attribute}
-use Rattle.path_entries.specs.Entries.{below, behind, is_name, or_rest}
+use Rattle.path_entries.specs.Entries.{below, is_name}
 use Rattle.item_writes.specs.Apart.{overlap, AreApart, paths_of}
 use Rattle.item_writes.specs.NewTree.{Written}
 use Rattle.item_writes.specs.Edits.{inside, item_with_all, kept}

@@ -1,5 +1,5 @@
 -- Of what an update writes no path begins another.
-use Rattle.std.proofs.Common.{◌≡◌, ℕ, suc, ◌<◌, List, [], ◌∷◌, ◌++◌, map, slice_get, Bool, true, false, cond, ◌&&◌, Option, Some, None, is_some, Result, Ok, Err, refl, sym, ap, ◌∙◌, subst, arith, append-nil, append_assoc}
+use Rattle.std.proofs.Common.{◌≡◌, ℕ, suc, List, [], ◌∷◌, ◌++◌, map, slice_get, Bool, true, false, cond, ◌&&◌, Option, Some, None, is_some, Ok, Err, refl, sym, ap, ◌∙◌, subst, arith, append-nil, append_assoc}
 use Rattle.std.proofs.Math.Logic.{◌⊎◌, inl, inr}
 use Rattle.std.specs.List.{AllByRecursion}
 use Rattle.base_types.specs.declared.path.DocPath.{DocPath}
@@ -22,7 +22,6 @@ use Rattle.update_eval.specs.Places.{has_place}
 use Rattle.update_eval.specs.Actions.{placed_at, set_writes, remove_writes, add_writes, rest_writes, delete_writes, with_writes}
 use Rattle.update_eval.specs.Updated.{writes_of}
 use Rattle.update_eval.proofs.Touched.{grouped}
-use Rattle.update_eval.specs.declared.fault.EvalFault.{EvalFault}
 use Rattle.update_eval.specs.declared.fault.EvalFault.TheVariants.{BadPath}
 
 -- ---- from the update's own word

@@ -1,5 +1,5 @@
 -- The written paths, kind by kind.
-use Rattle.std.proofs.Common.{◌≡◌, ℕ, List, ◌++◌, map, Bool, ◌||◌, ap, ◌∙◌, append_assoc}
+use Rattle.std.proofs.Common.{◌≡◌, ℕ, List, ◌++◌, map, ◌||◌, ap, ◌∙◌, append_assoc}
 use Rattle.std.proofs.lemmas.List.Folds.{list_any-append}
 use Rattle.std.specs.List.{list_any}
 use Rattle.expr_parse.specs.UpdateTree.{UpdateTree}

@@ -1,4 +1,4 @@
-use Rattle.std.proofs.Common.{◌≡◌, drop, map}
+use Rattle.std.proofs.Common.{◌≡◌, drop}
 use Rattle.std.specs.List.{list_any}
 use Rattle.update_eval.specs.Places.{begins_with}
 use Rattle.update_eval.proofs.path.paths_begin.Given as goal

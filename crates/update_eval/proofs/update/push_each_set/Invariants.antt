@@ -1,6 +1,6 @@
-use Rattle.std.proofs.Common.{◌≡◌, drop, map, Ok}
+use Rattle.std.proofs.Common.{◌≡◌, drop, map}
 use Rattle.expr_words.specs.Trees.{set_tree}
-use Rattle.update_eval.specs.Actions.{add_writes, delete_writes, remove_writes, set_writes, with_writes}
+use Rattle.update_eval.specs.Actions.{set_writes, with_writes}
 use Rattle.update_eval.specs.Views.{seen_writes}
 use Rattle.update_eval.proofs.update.push_each_set.Given as goal
 
