@@ -1,0 +1,4 @@
+pub mod Outboxes
+pub mod Changes
+pub mod Rows
+pub mod Marks

@@ -1,0 +1,5 @@
+pub mod Slots
+pub mod Maps
+pub mod Counts
+pub mod Tables
+pub mod Changes

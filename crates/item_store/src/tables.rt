@@ -1,0 +1,162 @@
+//! Changes of one item of a cell's tables.
+
+ghost use Rattle.std.specs.Prelude.{◌≡◌, ◌+◌, ◌<◌, ◌^◌, None, Some, IsSome, IsTrue, IfOk, OnOk, OnErr, false, not, ◌&&◌, ◌||◌, if◌then◌else◌};
+ghost use Rattle.std.specs.Option.{option_copied};
+ghost use Rattle.std.specs.Ordering.{nat_cmp};
+ghost use Rattle.std.specs.BTreeMap.{get, is_at};
+ghost use Rattle.item_store.specs.Slots.{committed_of, pending_of, slot_of, unheld};
+ghost use Rattle.item_store.specs.Tables.{PlacesUnder, Same, has_table, held_of, held_under, slot_under};
+
+use crate::slot::{Committed, Pending, Slot};
+use crate::table::TableItems;
+use std::alloc::{AllocError as NoMemory, Global};
+use std::collections::BTreeMap;
+
+/// What is kept of an item.
+pub(crate) fn slot_under<'t, K: Ord, V>(
+    tables: &'t BTreeMap<u64, TableItems<K, V>>,
+    table: u64,
+    key: &K,
+) -> Option<&'t Slot<V>>
+    ensures { option_copied result ≡ slot_under tables.now table key.now }
+{
+    match tables.get(&table) {
+        None => None,
+        Some(items) => items.get(key),
+    }
+}
+
+/// Puts what is committed in the place of a slot that no transaction holds, and hands that one out.
+pub(crate) fn put_under<K: Ord + Drop, V: Drop>(
+    tables: &mut BTreeMap<u64, TableItems<K, V>>,
+    table: u64,
+    key: K,
+    committed: Committed<V>,
+) -> Result<Option<Slot<V>>, NoMemory>
+    requires there { IsTrue (has_table tables.old table) }
+    requires free { pending_of (slot_under tables.old table key) ≡ None }
+    ensures old { IfOk result (λ old. old ≡ slot_under tables.old table key) }
+    ensures new { OnOk result (PlacesUnder tables.old tables.new table key (slot_of (Some committed) None)) }
+    ensures held { held_under tables.new ≡ held_under tables.old }
+    ensures err { OnErr result (Same tables.old tables.new) }
+{
+    match tables.get_mut(&table) {
+        Some(items) => items.put(key, committed),
+        None => unreachable!(),
+    }
+}
+
+/// Takes out a slot that no transaction holds. It takes no memory.
+pub(crate) fn remove_under<K: Ord + Drop, V>(
+    tables: &mut BTreeMap<u64, TableItems<K, V>>,
+    table: u64,
+    key: &K,
+) -> Option<Slot<V>>
+    requires there { IsTrue (has_table tables.old table) }
+    requires free { pending_of (slot_under tables.old table key.now) ≡ None }
+    ensures old { result ≡ slot_under tables.old table key.now }
+    ensures new { PlacesUnder tables.old tables.new table key.now None }
+    ensures held { held_under tables.new ≡ held_under tables.old }
+{
+    match tables.get_mut(&table) {
+        Some(items) => items.remove(key),
+        None => unreachable!(),
+    }
+}
+
+/// Puts what is committed in the place of a slot that is there and that no transaction holds, or takes the slot out, and
+/// hands it out. It takes no memory.
+pub(crate) fn replace_under<K: Ord + Drop, V>(
+    tables: &mut BTreeMap<u64, TableItems<K, V>>,
+    table: u64,
+    key: &K,
+    committed: Option<Committed<V>>,
+) -> Option<Slot<V>>
+    requires there { IsSome (slot_under tables.old table key.now) }
+    requires free { pending_of (slot_under tables.old table key.now) ≡ None }
+    ensures old { result ≡ slot_under tables.old table key.now }
+    ensures new { PlacesUnder tables.old tables.new table key.now (slot_of committed None) }
+    ensures held { held_under tables.new ≡ held_under tables.old }
+{
+    match tables.get_mut(&table) {
+        Some(items) => items.replace(key, committed),
+        None => unreachable!(),
+    }
+}
+
+/// Holds an item that no transaction holds.
+pub(crate) fn hold_under<K: Ord + Drop, V: Drop>(
+    tables: &mut BTreeMap<u64, TableItems<K, V>>,
+    table: u64,
+    key: K,
+    pending: Pending<V>,
+) -> Result<(), NoMemory>
+    requires there { IsTrue (has_table tables.old table) }
+    requires free { pending_of (slot_under tables.old table key) ≡ None }
+    requires room { held_under tables.old + 1 < 2 ^ 64 }
+    ensures new { OnOk result (PlacesUnder tables.old tables.new table key
+        (slot_of (committed_of (slot_under tables.old table key)) (Some pending))) }
+    ensures held { OnOk result (held_under tables.new ≡ held_under tables.old + 1) }
+    ensures err { OnErr result (Same tables.old tables.new) }
+    ensures err_held { OnErr result (held_under tables.new ≡ held_under tables.old) }
+{
+    match tables.get_mut(&table) {
+        Some(items) => {
+            items.hold(key, pending)?;
+            Ok(())
+        }
+        None => unreachable!(),
+    }
+}
+
+/// Takes the pending out of a held slot, which stays. It takes no memory.
+pub(crate) fn take_pending_under<K: Ord, V>(
+    tables: &mut BTreeMap<u64, TableItems<K, V>>,
+    table: u64,
+    key: &K,
+) -> Option<Pending<V>>
+    requires held { IsSome (pending_of (slot_under tables.old table key.now)) }
+    ensures pending { result ≡ pending_of (slot_under tables.old table key.now) }
+    ensures new { PlacesUnder tables.old tables.new table key.now
+        (Some (unheld (committed_of (slot_under tables.old table key.now)))) }
+    ensures held { held_under tables.new + 1 ≡ held_under tables.old }
+{
+    match tables.get_mut(&table) {
+        Some(items) => items.take_pending(key),
+        None => unreachable!(),
+    }
+}
+
+/// Adds a table without items.
+pub(crate) fn open_table<K: Ord + Drop, V: Drop>(
+    alloc: Global,
+    tables: &mut BTreeMap<u64, TableItems<K, V>>,
+    table: u64,
+) -> Result<(), NoMemory>
+    requires new { has_table tables.old table ≡ false }
+    ensures slots { (v : _) (q : K) → slot_under tables.new v q ≡ slot_under tables.old v q }
+    ensures tables { OnOk result ((v : _) → has_table tables.new v ≡ (is_at (nat_cmp table) v || has_table tables.old v)) }
+    ensures held { held_under tables.new ≡ held_under tables.old }
+    ensures err { OnErr result (tables.new.entries ≡ tables.old.entries) }
+{
+    match tables.insert(table, TableItems::new(alloc)) {
+        Ok(_) => Ok(()),
+        Err(refused) => {
+            drop(refused);
+            Err(NoMemory)
+        }
+    }
+}
+
+/// Takes out a table of which no item is held, with its items. It takes no memory.
+pub(crate) fn close_table<K: Ord + Drop, V: Drop>(
+    tables: &mut BTreeMap<u64, TableItems<K, V>>,
+    table: u64,
+)
+    requires free { held_of (get nat_cmp tables.old table) ≡ 0 }
+    ensures slots { (v : _) (q : K) → slot_under tables.new v q ≡ (if is_at (nat_cmp table) v then None else slot_under tables.old v q) }
+    ensures tables { (v : _) → has_table tables.new v ≡ (not (is_at (nat_cmp table) v) && has_table tables.old v) }
+    ensures held { held_under tables.new ≡ held_under tables.old }
+{
+    drop(tables.remove(&table));
+}
