@@ -128,3 +128,10 @@ module _ {Y A S : Type 0} where
       put m (with_value_at m place w) key w (updates-with_value_at m place w string_eq_equiv unique key kept is)
       ∙ sym (ap (λ o. option_map_or (λ k. insert (token_map m.entries) (string_bytes key) (record k { completed = Some moment })) o (token_map m.entries)) (get-token_at m place key kept unique is))
       ∙ ap (λ o. completed_at (token_map m.entries) (option_map_or (λ k. string_bytes k.0) o []) moment) (sym is)
+
+  -- what is kept is written into the entry at a place
+  pub renewed : (m : HashMap (String Y) (Kept A) S) (place : ℕ) (key : String Y) (kept new : Kept A) → hash.IsUnique string_eq m → slice_get m.entries place ≡ Some (key, kept)
+      → token_map (set_value_at m.entries place new) ≡ insert (token_map m.entries) (token_at m.entries place) new
+  renewed m place key kept new unique is =
+      put m (with_value_at m place new) key new (updates-with_value_at m place new string_eq_equiv unique key kept is)
+      ∙ ap (λ o. insert (token_map m.entries) (option_map_or (λ k. string_bytes k.0) o []) new) (sym is)

@@ -132,6 +132,19 @@ pub(crate) fn complete_at<A>(map: &mut Entries<A>, at: usize, moment: u64)
     settle(map, at);
 }
 
+/// Keeps something else with the token of the entry at `at`.
+pub(crate) fn renew_at<A: Drop>(map: &mut Entries<A>, at: usize, renewed: Kept<A>)
+    requires within { at < index_map_len map.old }
+    requires ordered { IsHeap (dues map.old.entries) }
+    ensures ordered { IsHeap (dues map.new.entries) }
+    ensures renewed { let token = token_at map.old.entries at in
+        token_map map.new.entries ≡ insert (token_map map.old.entries) token renewed }
+{
+    let (_, kept) = map.pair_mut(at);
+    *kept = renewed;
+    settle(map, at);
+}
+
 /// Takes out the entry at `at`.
 pub(crate) fn remove_at<A: Drop>(map: &mut Entries<A>, at: usize)
     requires within { at < index_map_len map.old }

@@ -17,7 +17,7 @@ pub struct Kept<A> {
 
 impl<A> Kept<A> {
     /// Whether the token's life is over at `moment`: never before its completed moment, nor where there is none.
-    pub(crate) fn has_expired(&self, moment: u64) -> bool
+    pub fn has_expired(&self, moment: u64) -> bool
         ensures { result ≡ has_expired self.now moment }
     {
         match self.completed {

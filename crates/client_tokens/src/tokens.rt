@@ -85,6 +85,15 @@ impl<A: Drop> Tokens<A> {
         heap::complete_at(&mut self.by_token, at, moment);
     }
 
+    /// Keeps a token that is kept with something else, as where its life is over. Takes no memory.
+    pub fn renew(&mut self, token: &str, kept: Kept<A>)
+        requires { IsSome (get self.old token.now) }
+        ensures { self.new ≡ insert self.old token.now kept }
+    {
+        let at = heap::place_of(&self.by_token, token);
+        heap::renew_at(&mut self.by_token, at, kept);
+    }
+
     /// Forgets a kept token. Takes no memory.
     pub fn free(&mut self, token: &str)
         requires { IsSome (get self.old token.now) }

@@ -54,9 +54,19 @@ fn a_token_is_kept_completed_and_freed(rt: HostRuntime) -> Result<(), Fail> {
         tokens.find("t-2").map(|kept| kept.completed),
         Some(Some(5))
     );
+    let again = Kept {
+        number: 9,
+        actions: 18,
+        completed: None,
+    };
+    tokens.renew("t-2", again);
+    assert_eq!(rt;
+        tokens.find("t-2").map(|kept| (kept.number, kept.completed)),
+        Some((9, None))
+    );
     free(&rt, &mut tokens, "t-1");
     assert!(rt; tokens.find("t-1").is_none());
-    assert_eq!(rt; tokens.find("t-2").map(|kept| kept.number), Some(8));
+    assert_eq!(rt; tokens.find("t-2").map(|kept| kept.number), Some(9));
     Ok(())
 }
 
