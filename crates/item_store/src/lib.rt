@@ -3,8 +3,8 @@
 //! A [`ItemStore`] keeps for each item the committed row, with the stamp of its last change and its version, and the
 //! transaction that holds it, with the row as it will be. Both lie in one slot of one ordered map, so that a transaction's
 //! end takes no memory: [`ItemStore::hold`] takes all that [`ItemStore::settle`] and [`ItemStore::let_go`] need, a version
-//! among it. What a change does to a cell's floor and to its numbers is in `specs/Slots.antt`; it is the same that
-//! `txn_core` says of a cell.
+//! among it. What a change does to a cell's floor and to its numbers is in `specs/Slots.antt`, in the terms that `txn_core`
+//! has for a cell; that both say the same is left to the layer above.
 #![tactic(auto)]
 
 mod counts;

@@ -1,0 +1,5 @@
+pub mod Tokens
+pub mod Records
+pub mod Changes
+pub mod Ledgers
+pub mod Unchanged
