@@ -28,6 +28,13 @@ written_back n xs items same all =
     ∙ ap (λ l. take n l) (append-nil xs)
     ∙ take_all n xs (omega arith)
 
+-- so is a list of which each element is written over
+pub mapped_back :
+    {X : Type 0} (f : X → X) (n : ℕ) (was xs items : List X) (i : ℕ) → length xs ≡ length was → was ≡ items → n ≡ length items
+    → length was ≤ i → xs ≡ map f (take i was) ++ drop i was → take n (xs ++ drop (length xs) items) ≡ map f items
+mapped_back f n was xs items i many value all ge so =
+    written_back n xs items (many ∙ ap length value) all ∙ mapped_all f was xs i ge so ∙ ap (map f) value
+
 -- each element adds to a list
 module _ {X Y : Type 0} (f : X → List Y) (xs : List X) (i : ℕ) (whole ys : List Y) where
   pub added_more : (x : X) (more : List Y) → i < length xs → x ≡ get_or xs i x → ys ++ flat_map f (drop i xs) ≡ whole → more ≡ ys ++ f x → more ++ flat_map f (drop (i + 1) xs) ≡ whole

@@ -113,13 +113,20 @@ module _ {K V C : Type 0} (I : Indexed K V C) where
   abbrev pub served_only : C → Keyed K (List (Content V)) → Keyed K (List (Content V))
   served_only c x = record x { value = filter (λ one. served I c one.index (I.item_of x.key)) x.value }
 
-  -- what a change of an item queues, by the cell of its outbox
-  abbrev pub queued : ℕ → C → K → Option V → Option V → List (Waiting K V)
-  queued s c k old new = flat_map (λ g. from s (change_of I g (row_in I c g k old) (row_in I c g k new))) (I.indexes c k)
+  -- what a change of an item queues for one index, by the cell of its outbox, and for all
+  abbrev pub queued_in : ℕ → C → K → Option V → Option V → ℕ → List (Waiting K V)
+  queued_in s c k old new g = from s (change_of I g (row_in I c g k old) (row_in I c g k new))
 
-  -- what an item queues for an index that is not among the older ones, and for all that are new
+  abbrev pub queued : ℕ → C → K → Option V → Option V → List (Waiting K V)
+  queued s c k old new = flat_map (queued_in s c k old new) (I.indexes c k)
+
+  -- what an item queues for an index that is not among the older ones, for all of these, and for all that are new
   abbrev pub founded : List ℕ → C → Keyed K (Option V) → ℕ → List (Waiting K V)
-  founded older c x g = if list_any (λ h. nat_eq h g) older then [] else from x.home (change_of I g None (row_in I c g x.key x.value))
+  founded older c x g =
+      if list_any (λ h. nat_eq h g) older then [] else from x.home (change_of I g None (row_in I c g x.key x.value))
+
+  abbrev pub founded_beside : List ℕ → C → Keyed K (Option V) → List (Waiting K V)
+  founded_beside older c x = flat_map (founded older c x) (I.indexes c x.key)
 
   abbrev pub foundings : C → C → Keyed K (Option V) → List (Waiting K V)
-  foundings before c x = flat_map (founded (I.indexes before x.key) c x) (I.indexes c x.key)
+  foundings before c x = founded_beside (I.indexes before x.key) c x

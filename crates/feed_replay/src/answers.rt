@@ -1,9 +1,8 @@
 //! What a cell answers to the messages of the feed.
-ghost use Rattle.std.specs.Prelude.{◌≡◌, ◌≤◌, ◌&&◌, ℕ, suc, nat_eq, nat_lt, Option, IfOk};
+ghost use Rattle.std.specs.Prelude.{◌≡◌, ◌≤◌, ◌&&◌, ℕ, suc, nat_eq, nat_lt, IfOk};
 ghost use Rattle.std.specs.Option.{option_copied};
-ghost use Rattle.index_feed.specs.Feed.{Feed, is_fed};
 ghost use Rattle.feed_replay.specs.Lists.{first_of};
-ghost use Rattle.feed_replay.specs.State.{IsKept, change_with, has_first};
+ghost use Rattle.feed_replay.specs.State.{has_first, Tells, TellsFed};
 
 use crate::changes::is_served;
 use crate::mark::last_sequence;
@@ -28,14 +27,14 @@ pub fn first_change<R: FeedRules>(
     state: &FeedOf<R>,
     source: u32,
 ) -> Option<&Change<R::Key, R::Value>>
-    ensures { (n : ℕ) (f : Feed R.Key R.Value R.Catalog) → IsKept (R.indexed n) f state.now → option_copied result ≡ first_of (f.outbox source) }
+    ensures { (n : ℕ) → Tells (R.indexed n) state.now (λ f. first_of (f.outbox source)) (option_copied result) }
 {
     outbox::first_of(state.waiting.as_slice(), source)
 }
 
 /// Whether a source's outbox has a first change, and this is its sequence.
 pub fn has_first<R: FeedRules>(state: &FeedOf<R>, source: u32, sequence: u64) -> bool
-    ensures { (n : ℕ) (f : Feed R.Key R.Value R.Catalog) → IsKept (R.indexed n) f state.now → result ≡ has_first (f.sent source) (f.outbox source) sequence }
+    ensures { (n : ℕ) → Tells (R.indexed n) state.now (λ f. has_first (f.sent source) (f.outbox source) sequence) result }
 {
     match outbox::first_of(state.waiting.as_slice(), source) {
         Some(_first) => {
@@ -66,7 +65,7 @@ pub fn is_fed<R: FeedRules>(
     row_key: &R::Key,
 ) -> Result<bool, NoMemory>
     requires { 1 ≤ partitions }
-    ensures { IfOk result (λ is. (f : Feed R.Key R.Value R.Catalog) (after : Option R.Value) → IsKept (R.indexed partitions) f state.now → catalog.now ≡ f.catalog → is ≡ is_fed (R.indexed partitions) f source sequence (change_with index row_key.now after)) }
+    ensures { IfOk result (λ is. TellsFed (R.indexed partitions) catalog.now state.now source sequence index row_key.now is) }
 {
     let target = R::cell_of(partitions, row_key);
     let item = R::item_of(alloc, row_key)?;

@@ -2,7 +2,7 @@
 ghost use Rattle.std.specs.Prelude.{◌≡◌, ◌++◌, ℕ, IfOk, None, Some};
 ghost use Rattle.std.specs.List.{flat_map};
 ghost use Rattle.index_feed.specs.Feed.{served, row_in, change_of};
-ghost use Rattle.feed_replay.specs.Lists.{from, queued, founded, foundings};
+ghost use Rattle.feed_replay.specs.Lists.{from, queued, queued_in, founded, founded_beside, foundings};
 
 use crate::content::is_one_of;
 use crate::keyed::Keyed;
@@ -147,7 +147,7 @@ fn queue_in<R: FeedRules>(
     new: &Option<R::Value>,
     waiting: &mut Queue<R>,
 ) -> Result<(), NoMemory>
-    ensures { IfOk result (λ _. (n : ℕ) → waiting.new.items ≡ waiting.old.items ++ from source (change_of (R.indexed n) index (row_in (R.indexed n) catalog.now index key.now old.now) (row_in (R.indexed n) catalog.now index key.now new.now))) }
+    ensures { IfOk result (λ _. (n : ℕ) → waiting.new.items ≡ waiting.old.items ++ queued_in (R.indexed n) source catalog.now key.now old.now new.now index) }
 {
     let before = row_in::<R>(alloc, catalog, index, key, old)?;
     let after = row_in::<R>(alloc, catalog, index, key, new)?;
@@ -199,7 +199,7 @@ fn found_all<R: FeedRules>(
     one: &Keyed<R::Key, Option<R::Value>>,
     waiting: &mut Queue<R>,
 ) -> Result<(), NoMemory>
-    ensures { IfOk result (λ _. (n : ℕ) → waiting.new.items ≡ waiting.old.items ++ flat_map (founded (R.indexed n) older.now catalog.now one.now) ((R.indexed n).indexes catalog.now one.now.key)) }
+    ensures { IfOk result (λ _. (n : ℕ) → waiting.new.items ≡ waiting.old.items ++ founded_beside (R.indexed n) older.now catalog.now one.now) }
 {
     let numbers = R::indexes(alloc, catalog, &one.key)?;
     for index in numbers.as_slice() {

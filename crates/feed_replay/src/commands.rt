@@ -1,7 +1,7 @@
 //! What a command of the catalog makes of the state.
 ghost use Rattle.std.specs.Prelude.{◌≡◌, ◌≤◌, ℕ, IfOk, map};
 ghost use Rattle.feed_replay.specs.Lists.{brought_to, carried, served_only};
-ghost use Rattle.feed_replay.specs.State.{Takes, IsUnder, commanded};
+ghost use Rattle.feed_replay.specs.State.{TakesCommand};
 
 use crate::changes::queue_foundings;
 use crate::content::keep_contents;
@@ -43,7 +43,7 @@ fn carry_one<R: FeedRules>(
     next: &R::Catalog,
     one: &mut ItemOf<R>,
 ) -> Result<(), NoMemory>
-    ensures { IfOk result (λ _. (n : ℕ) → one.new ≡ carried (R.carried n command.now catalog.now next.now) one.old) }
+    ensures { IfOk result (λ _. (n : ℕ) → one.new ≡ carried ((R.commands n).carried command.now catalog.now next.now) one.old) }
 {
     one.value = R::carry(alloc, command, catalog, next, &one.key, &one.value)?;
     Ok(())
@@ -57,7 +57,7 @@ fn carry_each<R: FeedRules>(
     next: &R::Catalog,
     items: &mut Vec<ItemOf<R>>,
 ) -> Result<(), NoMemory>
-    ensures { IfOk result (λ _. (n : ℕ) → items.new.items ≡ map (carried (R.carried n command.now catalog.now next.now)) items.old.items) }
+    ensures { IfOk result (λ _. (n : ℕ) → items.new.items ≡ map (carried ((R.commands n).carried command.now catalog.now next.now)) items.old.items) }
 {
     for one in items.iter_mut() {
         carry_one::<R>(alloc, command, catalog, next, one)?;
@@ -106,7 +106,7 @@ pub fn carry_out<R: FeedRules>(
     state: &mut FeedOf<R>,
 ) -> Result<(), NoMemory>
     requires { 1 ≤ partitions }
-    ensures { IfOk result (λ _. Takes (R.indexed partitions) (IsUnder catalog.now) (commanded next.now (R.brought partitions command.now catalog.now) (R.carried partitions command.now catalog.now next.now)) state.old state.new) }
+    ensures { IfOk result (λ _. TakesCommand (R.indexed partitions) (R.commands partitions) command.now catalog.now next.now state.old state.new) }
 {
     let brought = R::brings(alloc, command, catalog)?;
     bring::<R>(partitions, brought, &mut state.items)?;

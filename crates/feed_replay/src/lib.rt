@@ -25,11 +25,11 @@ mod steps;
 
 pub use answers::{first_change, has_first, is_fed};
 pub use commands::carry_out;
-pub use content::Content;
+pub use content::{Content, is_one_of};
 pub use keyed::Keyed;
 pub use mark::Mark;
 pub use outbox::Waiting;
 pub use pages::{items_in, rows_in};
 pub use rules::FeedRules;
 pub use state::{FeedState, no_feed};
-pub use steps::{acknowledge, apply_change, set_item};
+pub use steps::{acknowledge, apply_change, copy_of_row, set_item};

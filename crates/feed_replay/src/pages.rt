@@ -1,9 +1,9 @@
 //! The rows of a cell, in the order of their keys.
 ghost use Rattle.std.specs.Prelude.{◌≡◌, ◌++◌, ◌∷◌, ℕ, List, IfOk};
 ghost use Rattle.std.specs.Option.{option_copied};
-ghost use Rattle.index_feed.specs.Feed.{Feed, items_in, rows_in};
+ghost use Rattle.index_feed.specs.Feed.{items_in, rows_in};
 ghost use Rattle.feed_replay.specs.Lists.{items_at, rows_at, pair_of};
-ghost use Rattle.feed_replay.specs.State.{IsKept};
+ghost use Rattle.feed_replay.specs.State.{Tells};
 
 use crate::content::content_at;
 use crate::rules::FeedRules;
@@ -74,7 +74,7 @@ pub fn items_in<R: FeedRules>(
     state: &FeedOf<R>,
     cell: u32,
 ) -> Result<Pairs<R>, NoMemory>
-    ensures { IfOk result (λ pairs. (n : ℕ) (f : Feed R.Key R.Value R.Catalog) → IsKept (R.indexed n) f state.now → pairs.items ≡ items_in (R.indexed n) f cell) }
+    ensures { IfOk result (λ pairs. (n : ℕ) → Tells (R.indexed n) state.now (λ f. items_in (R.indexed n) f cell) pairs.items) }
 {
     item_pairs::<R>(alloc, cell, state.items.as_slice())
 }
@@ -86,7 +86,7 @@ pub fn rows_in<R: FeedRules>(
     index: u64,
     cell: u32,
 ) -> Result<Pairs<R>, NoMemory>
-    ensures { IfOk result (λ pairs. (n : ℕ) (f : Feed R.Key R.Value R.Catalog) → IsKept (R.indexed n) f state.now → pairs.items ≡ rows_in (R.indexed n) f index cell) }
+    ensures { IfOk result (λ pairs. (n : ℕ) → Tells (R.indexed n) state.now (λ f. rows_in (R.indexed n) f index cell) pairs.items) }
 {
     row_pairs::<R>(alloc, index, cell, state.rows.as_slice())
 }

@@ -1,6 +1,6 @@
-ghost use Rattle.std.specs.Prelude.{◌≡◌, ◌≤◌, ℕ, Bool, true, List, Option, None, IfOk, is_some};
-ghost use Rattle.std.specs.List.{list_any};
+ghost use Rattle.std.specs.Prelude.{◌≡◌, ◌≤◌, ℕ, IfOk};
 ghost use Rattle.index_feed.specs.Feed.{Indexed, IsLawful};
+ghost use Rattle.feed_replay.specs.State.{Commanding, BringsAll};
 
 use index_feed::Row;
 use std::alloc::{AllocError as NoMemory, Global};
@@ -21,11 +21,8 @@ pub trait FeedRules {
     /// Keys, cells and index rows, for a number of partitions.
     ghost indexed: { ℕ → Indexed Self.Key Self.Value Self.Catalog };
 
-    /// The keys of the items that a command brings, by the catalog before it.
-    ghost brought: { ℕ → Self.Command → Self.Catalog → List Self.Key };
-
-    /// What a command makes of an item, by the catalogs before and after it.
-    ghost carried: { ℕ → Self.Command → Self.Catalog → Self.Catalog → Self.Key → Option Self.Value → Option Self.Value };
+    /// What commands bring, and what they make of items.
+    ghost commands: { ℕ → Commanding Self.Key Self.Value Self.Catalog Self.Command };
 
     /// Whether both keys are one.
     fn is_same(left: &Self::Key, right: &Self::Key) -> bool
@@ -72,7 +69,7 @@ pub trait FeedRules {
         command: &Self::Command,
         catalog: &Self::Catalog,
     ) -> Result<Vec<Self::Key>, NoMemory>
-        ensures { IfOk result (λ keys. (partitions : ℕ) → keys.items ≡ brought partitions command.now catalog.now) };
+        ensures { IfOk result (λ keys. (partitions : ℕ) → keys.items ≡ (commands partitions).brought command.now catalog.now) };
 
     /// What a command makes of an item.
     fn carry(
@@ -83,7 +80,7 @@ pub trait FeedRules {
         key: &Self::Key,
         item: &Option<Self::Value>,
     ) -> Result<Option<Self::Value>, NoMemory>
-        ensures { IfOk result (λ after. (partitions : ℕ) → after ≡ carried partitions command.now catalog.now next.now key.now item.now) };
+        ensures { IfOk result (λ after. (partitions : ℕ) → after ≡ (commands partitions).carried command.now catalog.now next.now key.now item.now) };
 
     /// A copy of a key, equal to it.
     fn copy_of_key(alloc: Global, key: &Self::Key) -> Result<Self::Key, NoMemory>
@@ -97,5 +94,5 @@ pub trait FeedRules {
     ghost lawful: { (partitions : ℕ) → IsLawful (indexed partitions) };
 
     /// An item that a command makes of nothing is one that it brings.
-    ghost listed: { (partitions : ℕ) (d : Self.Command) (c next : Self.Catalog) (k : Self.Key) → is_some (carried partitions d c next k None) ≡ true → list_any (λ x. (indexed partitions).same x k) (brought partitions d c) ≡ true };
+    ghost listed: { (partitions : ℕ) → BringsAll (indexed partitions) (commands partitions) };
 }

@@ -1,8 +1,8 @@
 //! What the events of items, an ApplyIndex and an Ack make of the state.
 ghost use Rattle.std.specs.Prelude.{◌≡◌, ◌≤◌, ℕ, IfOk, map};
-ghost use Rattle.index_feed.specs.Feed.{Feed, Sets, Feeds, Acks, fed};
+ghost use Rattle.index_feed.specs.Feed.{Feed, Sets, Acks};
 ghost use Rattle.feed_replay.specs.Lists.{row_set, shown_set};
-ghost use Rattle.feed_replay.specs.State.{IsKept, Keeps, Takes, IsUnder, HasRow, change_with};
+ghost use Rattle.feed_replay.specs.State.{Keeps, Takes, TakesChange, HasRow, FedAt, change_with};
 
 use crate::answers::{has_first, is_fed};
 use crate::changes::queue_changes;
@@ -137,7 +137,7 @@ fn write_change<R: FeedRules>(
     after: &Option<R::Value>,
     state: &mut FeedOf<R>,
 ) -> Result<(), NoMemory>
-    ensures { IfOk result (λ _. (n : ℕ) (f : Feed R.Key R.Value R.Catalog) → IsKept (R.indexed n) f state.old → target ≡ (R.indexed n).cell_of row_key.now → IsKept (R.indexed n) (fed (R.indexed n) f source sequence (change_with index row_key.now after.now)) state.new) }
+    ensures { IfOk result (λ _. (n : ℕ) → FedAt (R.indexed n) target source sequence (change_with index row_key.now after.now) state.old state.new) }
 {
     state.applied.push(Mark {
         target,
@@ -168,7 +168,7 @@ pub fn apply_change<R: FeedRules>(
     state: &mut FeedOf<R>,
 ) -> Result<(), NoMemory>
     requires { 1 ≤ partitions }
-    ensures { IfOk result (λ _. Takes (R.indexed partitions) (IsUnder catalog.now) (λ f. Feeds source sequence (change_with index row_key.now after.now)) state.old state.new) }
+    ensures { IfOk result (λ _. TakesChange (R.indexed partitions) catalog.now source sequence (change_with index row_key.now after.now) state.old state.new) }
 {
     if !is_fed::<R>(
         alloc, partitions, catalog, state, source, sequence, index, row_key,

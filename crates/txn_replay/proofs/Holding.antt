@@ -15,10 +15,11 @@ use Rattle.txn_core.specs.Legal.{ArePendings, IsPendingList}
 use Rattle.txn_core.specs.Replay.{are_apart}
 use Rattle.txn_core.proofs.Basics.{true_false, none_some, some_is, none_of, held}
 use Rattle.txn_core.proofs.Duties.{pairs_apart, apart_pairs}
-use Rattle.txn_replay.specs.declared.tracked.Tracked.{Tracked}
-use Rattle.txn_replay.specs.Items.{item_in}
-use Rattle.txn_replay.specs.Replica.{IsShown, Fits, IsReplica, held_as, untold, are_once}
-use Rattle.txn_replay.proofs.Alike.{alike}
+use Rattle.replay_state.specs.declared.tracked.Tracked.{Tracked}
+use Rattle.replay_state.specs.Items.{item_in}
+use Rattle.replay_state.specs.Replica.{IsShown, Fits, IsReplica}
+use Rattle.txn_replay.specs.Held.{held_as, untold, are_once}
+use Rattle.replay_state.proofs.Alike.{alike}
 
 module _ {K V A F C D Q B : Type 0} (S : Service K V A F C D Q B) (law : IsServiceLawful S) (keys : List (Option K)) (es : List (Effect K A D)) (now : C) (slots : List (Option (Tracked K V))) (state : IsReplica S keys (state_after S.core es) now slots) where
   -- a slot of the item shows who holds it

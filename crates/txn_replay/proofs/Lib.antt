@@ -1,13 +1,7 @@
-pub mod Alike
-pub mod Steps
-pub mod Leaving
 pub mod Rightly
-pub mod Folding
 pub mod Sequences
-pub mod Advancing
 pub mod Times
 pub mod Holding
 pub mod Obstacles
 pub mod Numbering
 pub mod Ending
-pub mod FedSteps

@@ -11,10 +11,10 @@ use Rattle.txn_core.specs.Effects.{Effect}
 use Rattle.txn_core.specs.State.{Pending, holder, state_after}
 use Rattle.txn_core.specs.Legal.{IsInTheWay, IsClear, IsRuled, ruling_answer}
 use Rattle.txn_core.proofs.Basics.{none_some, some_is, held}
-use Rattle.txn_replay.specs.declared.tracked.Tracked.{Tracked}
+use Rattle.replay_state.specs.declared.tracked.Tracked.{Tracked}
 use Rattle.txn_replay.specs.declared.commands.Obstacle.{Obstacle}
-use Rattle.txn_replay.specs.Items.{item_in}
-use Rattle.txn_replay.specs.Replica.{IsShown, Fits, IsReplica}
+use Rattle.replay_state.specs.Items.{item_in}
+use Rattle.replay_state.specs.Replica.{IsShown, Fits, IsReplica}
 use Rattle.txn_replay.specs.Ways.{is_before, first_of_two, obstacle_by, obstacle_in, IsFirstOf}
 use Rattle.txn_replay.proofs.Holding.{slot_of_held, shows_holder}
 

@@ -13,10 +13,11 @@ use Rattle.txn_core.specs.Answers.{KeptToken, begin_answer, get_answer, write_an
 use Rattle.txn_core.specs.History.{effects, found_kept}
 use Rattle.txn_core.specs.Legal.{IsAnswer}
 use Rattle.txn_core.specs.Cells.{Item, item}
-use Rattle.txn_replay.specs.declared.tracked.Tracked.{Tracked}
-use Rattle.txn_replay.specs.Items.{item_in, tally_in, last_in}
-use Rattle.txn_replay.specs.Replica.{IsShown, key_in}
-use Rattle.txn_replay.proofs.Leaving.{some_key}
+use Rattle.replay_state.specs.declared.tracked.Tracked.{Tracked}
+use Rattle.replay_state.specs.Items.{item_in, tally_in, last_in}
+use Rattle.replay_state.specs.Replica.{IsShown, key_in}
+use Rattle.txn_replay.specs.Judging.{is_of_ledger, is_of_feed}
+use Rattle.replay_state.proofs.Leaving.{some_key}
 
 module _ {K V A F C D Q B : Type 0} (S : Service K V A F C D Q B) (es : List (Entry K V A F D Q B)) (cat : C) (cat_is : cat ≡ (state_after S.core (effects es)).catalog) (t : Tracked K V) (shown : IsShown S (state_after S.core (effects es)) t) (m : Message K V A F D Q) (names : key_in S m ≡ Some t.key) (moment : ℕ) (a : Answer K V A F B) (b : Bool) where
   -- what holds of the catalog, the item and the cell that are kept holds of those of the state
@@ -82,21 +83,29 @@ module _ {K V A F C D Q B : Type 0} (S : Service K V A F C D Q B) (es : List (En
       (subst (λ k. IsTrue b ↔ (a ≡ begin_answer S.same_actions true k actions (record { moment = moment; number = (state_after S.core (effects es)).ledger.next }))) kept_is
       (subst (λ n. IsTrue b ↔ (a ≡ begin_answer S.same_actions true kept actions (record { moment = moment; number = n }))) number_is h))
 
--- every message that names no item is one of these
-pub other_named : {K V A F C D Q B : Type 0} (S : Service K V A F C D Q B) (m : Message K V A F D Q) → key_in S m ≡ None → ((token : Option (List ℕ)) (actions : List A) → m ≡ Message.Begin token actions → ⊥) → ((n : ℕ) (commit : Bool) (reasons : List (Reason V F)) → m ≡ Message.Decide n commit reasons → ⊥) → ((n : ℕ) → m ≡ Message.Done n → ⊥) → ((n : ℕ) → m ≡ Message.Forget n → ⊥) → ((n : ℕ) → m ≡ Message.FateOf n → ⊥) → ((n : ℕ) → m ≡ Message.Recall n → ⊥) → (m ≡ Message.Unfinished → ⊥) → ((q : Q) → m ≡ Message.Ask q → ⊥) → ((q : Q) → m ≡ Message.QueryPage q → ⊥) → ((q : Q) → m ≡ Message.ScanPage q → ⊥) → ((cell : ℕ) → m ≡ Message.Pendings cell → ⊥) → ((d : D) → m ≡ Message.Command d → ⊥) → ((source : ℕ) → m ≡ Message.PeekOut source → ⊥) → ((source sequence index : ℕ) (row_key : K) (after : Option V) → m ≡ Message.ApplyIndex source sequence index row_key after → ⊥) → ((source sequence : ℕ) → m ≡ Message.Ack source sequence → ⊥) → ⊥
-other_named S (Message.Begin token actions) none h0 h1 h2 h3 h4 h5 h6 h7 h8 h9 h10 h11 h12 h13 h14 = h0 token actions refl
-other_named S (Message.Decide n commit reasons) none h0 h1 h2 h3 h4 h5 h6 h7 h8 h9 h10 h11 h12 h13 h14 = h1 n commit reasons refl
-other_named S (Message.Done n) none h0 h1 h2 h3 h4 h5 h6 h7 h8 h9 h10 h11 h12 h13 h14 = h2 n refl
-other_named S (Message.Forget n) none h0 h1 h2 h3 h4 h5 h6 h7 h8 h9 h10 h11 h12 h13 h14 = h3 n refl
-other_named S (Message.FateOf n) none h0 h1 h2 h3 h4 h5 h6 h7 h8 h9 h10 h11 h12 h13 h14 = h4 n refl
-other_named S (Message.Recall n) none h0 h1 h2 h3 h4 h5 h6 h7 h8 h9 h10 h11 h12 h13 h14 = h5 n refl
-other_named S Message.Unfinished none h0 h1 h2 h3 h4 h5 h6 h7 h8 h9 h10 h11 h12 h13 h14 = h6 refl
-other_named S (Message.Ask q) none h0 h1 h2 h3 h4 h5 h6 h7 h8 h9 h10 h11 h12 h13 h14 = h7 q refl
-other_named S (Message.QueryPage q) none h0 h1 h2 h3 h4 h5 h6 h7 h8 h9 h10 h11 h12 h13 h14 = h8 q refl
-other_named S (Message.ScanPage q) none h0 h1 h2 h3 h4 h5 h6 h7 h8 h9 h10 h11 h12 h13 h14 = h9 q refl
-other_named S (Message.Pendings cell) none h0 h1 h2 h3 h4 h5 h6 h7 h8 h9 h10 h11 h12 h13 h14 = h10 cell refl
-other_named S (Message.Command d) none h0 h1 h2 h3 h4 h5 h6 h7 h8 h9 h10 h11 h12 h13 h14 = h11 d refl
-other_named S (Message.PeekOut source) none h0 h1 h2 h3 h4 h5 h6 h7 h8 h9 h10 h11 h12 h13 h14 = h12 source refl
-other_named S (Message.ApplyIndex source sequence index row_key after) none h0 h1 h2 h3 h4 h5 h6 h7 h8 h9 h10 h11 h12 h13 h14 = h13 source sequence index row_key after refl
-other_named S (Message.Ack source sequence) none h0 h1 h2 h3 h4 h5 h6 h7 h8 h9 h10 h11 h12 h13 h14 = h14 source sequence refl
-other_named S _ none h0 h1 h2 h3 h4 h5 h6 h7 h8 h9 h10 h11 h12 h13 h14 = absurd (cc)
+-- every message about transactions is one of these
+pub ledger_named : {K V A F D Q : Type 0} (m : Message K V A F D Q) → is_of_ledger m ≡ true → ((token : Option (List ℕ)) (actions : List A) → m ≡ Message.Begin token actions → ⊥) → ((n : ℕ) (commit : Bool) (reasons : List (Reason V F)) → m ≡ Message.Decide n commit reasons → ⊥) → ((n : ℕ) → m ≡ Message.Done n → ⊥) → ((n : ℕ) → m ≡ Message.Forget n → ⊥) → ((n : ℕ) → m ≡ Message.FateOf n → ⊥) → ((n : ℕ) → m ≡ Message.Recall n → ⊥) → (m ≡ Message.Unfinished → ⊥) → ⊥
+ledger_named (Message.Begin token actions) kind h0 h1 h2 h3 h4 h5 h6 = h0 token actions refl
+ledger_named (Message.Decide n commit reasons) kind h0 h1 h2 h3 h4 h5 h6 = h1 n commit reasons refl
+ledger_named (Message.Done n) kind h0 h1 h2 h3 h4 h5 h6 = h2 n refl
+ledger_named (Message.Forget n) kind h0 h1 h2 h3 h4 h5 h6 = h3 n refl
+ledger_named (Message.FateOf n) kind h0 h1 h2 h3 h4 h5 h6 = h4 n refl
+ledger_named (Message.Recall n) kind h0 h1 h2 h3 h4 h5 h6 = h5 n refl
+ledger_named Message.Unfinished kind h0 h1 h2 h3 h4 h5 h6 = h6 refl
+ledger_named _ kind h0 h1 h2 h3 h4 h5 h6 = absurd (cc)
+
+-- every message about pages, outboxes and index rows is one of these
+pub feed_named : {K V A F D Q : Type 0} (m : Message K V A F D Q) → is_of_feed m ≡ true → ((q : Q) → m ≡ Message.QueryPage q → ⊥) → ((q : Q) → m ≡ Message.ScanPage q → ⊥) → ((source : ℕ) → m ≡ Message.PeekOut source → ⊥) → ((source sequence index : ℕ) (row_key : K) (after : Option V) → m ≡ Message.ApplyIndex source sequence index row_key after → ⊥) → ((source sequence : ℕ) → m ≡ Message.Ack source sequence → ⊥) → ⊥
+feed_named (Message.QueryPage q) kind h0 h1 h2 h3 h4 = h0 q refl
+feed_named (Message.ScanPage q) kind h0 h1 h2 h3 h4 = h1 q refl
+feed_named (Message.PeekOut source) kind h0 h1 h2 h3 h4 = h2 source refl
+feed_named (Message.ApplyIndex source sequence index row_key after) kind h0 h1 h2 h3 h4 = h3 source sequence index row_key after refl
+feed_named (Message.Ack source sequence) kind h0 h1 h2 h3 h4 = h4 source sequence refl
+feed_named _ kind h0 h1 h2 h3 h4 = absurd (cc)
+
+-- every other message that names no item is one of these
+pub other_named : {K V A F C D Q B : Type 0} (S : Service K V A F C D Q B) (m : Message K V A F D Q) → key_in S m ≡ None → is_of_ledger m ≡ false → is_of_feed m ≡ false → ((q : Q) → m ≡ Message.Ask q → ⊥) → ((cell : ℕ) → m ≡ Message.Pendings cell → ⊥) → ((d : D) → m ≡ Message.Command d → ⊥) → ⊥
+other_named S (Message.Ask q) none other apart h0 h1 h2 = h0 q refl
+other_named S (Message.Pendings cell) none other apart h0 h1 h2 = h1 cell refl
+other_named S (Message.Command d) none other apart h0 h1 h2 = h2 d refl
+other_named S _ none other apart h0 h1 h2 = absurd (cc)

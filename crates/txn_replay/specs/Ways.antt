@@ -2,9 +2,9 @@
 use Rattle.std.specs.Prelude.{◌≡◌, ℕ, ◌<◌, Bool, false, ◌&&◌, ◌||◌, nat_eq, nat_lt, Option, None, Some, if◌then◌else◌}
 use Rattle.txn_core.specs.Service.{Service}
 use Rattle.txn_core.specs.State.{holder}
-use Rattle.txn_replay.specs.declared.tracked.Tracked.{Tracked}
+use Rattle.replay_state.specs.declared.tracked.Tracked.{Tracked}
 use Rattle.txn_replay.specs.declared.commands.Obstacle.{Obstacle}
-use Rattle.txn_replay.specs.Items.{item_in}
+use Rattle.replay_state.specs.Items.{item_in}
 
 -- the first cell comes first, and in it the least number
 abbrev pub is_before : Obstacle → Obstacle → Bool

@@ -1,14 +1,12 @@
 //! The answers to commands.
-ghost use Rattle.std.specs.Prelude.{◌≡◌, ◌↔◌, ℕ, IfOk, IsTrue, List, Option, None, Some, length, slice_index_or};
-ghost use Rattle.txn_core.specs.Effects.{Effect};
-ghost use Rattle.txn_core.specs.State.{state_after};
-ghost use Rattle.txn_core.specs.Legal.{ruling_answer, IsRuled};
+ghost use Rattle.std.specs.Prelude.{◌≡◌, ◌↔◌, ℕ, IfOk, IsTrue, None, length, slice_index_or};
+ghost use Rattle.txn_core.specs.Legal.{ruling_answer};
 ghost use Rattle.txn_core.specs.declared.answer.Answer.{Answer};
-ghost use Rattle.txn_replay.specs.Replica.{IsReplica};
 ghost use Rattle.txn_replay.specs.Ways.{is_before, first_of_two, obstacle_in, IsFirstOf};
+ghost use Rattle.txn_replay.specs.Judging.{ruled_answer, JudgesRuling, JudgesCommand};
 
-use crate::item_answers::{Reply, is_held};
-use crate::slots::Slot;
+use answer_check::{Reply, is_held};
+use replay_state::Slot;
 use std::alloc::{AllocError as NoMemory, Global};
 use txn_core::{Answer, Rules, Ruling};
 
@@ -119,7 +117,7 @@ fn is_ruled_so<R: Rules>(
     moment: u64,
     answer: &Reply<R>,
 ) -> Result<bool, NoMemory>
-    ensures { IfOk result (λ right. (n : ℕ) → (IsTrue right ↔ (answer.now ≡ ruling_answer (R.protocol n) ((R.protocol n).rules command.now moment catalog.now)))) }
+    ensures { IfOk result (λ right. (n : ℕ) → (IsTrue right ↔ (answer.now ≡ ruled_answer (R.protocol n) catalog.now command.now moment))) }
 {
     let ruling = R::rule(alloc, command, moment, catalog)?;
     Ok(is_ruled::<R>(&ruling, answer))
@@ -135,7 +133,7 @@ fn is_answer_to<R: Rules>(
     moment: u64,
     answer: &Reply<R>,
 ) -> Result<bool, NoMemory>
-    ensures { IfOk result (λ right. (n : ℕ) (keys : List (Option R.Key)) (es : List (Effect R.Key R.Action R.Command)) → IsReplica (R.protocol n) keys (state_after (R.protocol n).core es) catalog.now slots.now → (IsTrue right ↔ IsRuled (R.protocol n) (state_after (R.protocol n).core es) command.now moment None answer.now)) }
+    ensures { IfOk result (λ right. (n : ℕ) → JudgesRuling (R.protocol n) catalog.now slots.now command.now moment answer.now right) }
 {
     match first_obstacle::<R>(command, catalog, slots) {
         Some(obstacle) => Ok(is_held::<R>(obstacle.number, answer)),
@@ -153,7 +151,7 @@ pub fn is_command_answer<R: Rules>(
     moment: u64,
     answer: &Reply<R>,
 ) -> Result<bool, NoMemory>
-    ensures { IfOk result (λ right. (n : ℕ) (keys : List (Option R.Key)) (es : List (Effect R.Key R.Action R.Command)) → IsReplica (R.protocol n) keys (state_after (R.protocol n).core es) catalog.now slots.now → (IsTrue right ↔ IsRuled (R.protocol n) (state_after (R.protocol n).core es) command.now moment ((R.protocol n).refuses command.now (state_after (R.protocol n).core es).catalog) answer.now)) }
+    ensures { IfOk result (λ right. (n : ℕ) → JudgesCommand (R.protocol n) catalog.now slots.now command.now moment answer.now right) }
 {
     let refusal = R::refuses(alloc, command, catalog)?;
     match refusal {

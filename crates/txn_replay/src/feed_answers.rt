@@ -1,24 +1,16 @@
 //! The answers of pages and of the feed's messages.
-ghost use Rattle.std.specs.Prelude.{◌≡◌, ◌↔◌, ◌≤◌, ◌<◌, ℕ, IfOk, IsTrue, List, Option, Some, MatchOption};
-ghost use Rattle.index_feed.specs.Feed.{showing};
-ghost use Rattle.txn_core.specs.declared.entry.Entry.{Entry};
-ghost use Rattle.txn_core.specs.State.{state_after};
-ghost use Rattle.txn_core.specs.History.{effects};
-ghost use Rattle.txn_core.specs.Answers.{out_answer, feed_answer, ack_answer};
-ghost use Rattle.txn_core.specs.Feeding.{change, has_sequence, feed_after, rows_for};
-ghost use Rattle.txn_core.specs.Legal.{page_after, out_after, feeds_after};
+ghost use Rattle.std.specs.Prelude.{◌≡◌, ◌↔◌, ◌≤◌, ℕ, IfOk, IsTrue};
+ghost use Rattle.txn_core.specs.Answers.{feed_answer, ack_answer};
 ghost use Rattle.txn_core.specs.declared.answer.Answer.{Answer};
-ghost use Rattle.feed_replay.specs.Lists.{first_of};
-ghost use Rattle.txn_replay.specs.Fed.{IsFed};
+ghost use Rattle.txn_replay.specs.Judging.{OfFeed, page_rows, JudgesPage, ShownAs, JudgesFirst, IsOutAnswer, IsPeekAnswer, JudgesFeed, IsFirstAcked, IsAckAnswer, JudgesIndexes};
 
-use crate::feed_steps::Fed;
-use crate::feeding::Feeding;
-use crate::item_answers::{Reply, are_equal_rows, is_stale};
 use crate::routes::is_partition;
+use answer_check::{Reply, are_equal_rows, is_stale};
 use feed_replay::{first_change, has_first, is_fed, items_in, rows_in};
 use index_feed::Change;
+use replay_state::{Fed, Feeding};
 use std::alloc::{AllocError as NoMemory, Global};
-use txn_core::{Answer, Rules};
+use txn_core::{Answer, Event, Message, Rules};
 
 /// Whether the answer is a page that tells this.
 fn is_part<R: Rules>(told: &R::Told, answer: &Reply<R>) -> bool
@@ -38,7 +30,7 @@ fn rows_for<R: Rules>(
     feed: &Fed<R>,
 ) -> Result<Vec<(R::Key, R::Value)>, NoMemory>
     requires { 1 ≤ partitions }
-    ensures { IfOk result (λ rows. (es : List (Entry R.Key R.Value R.Action R.Fault R.Command R.Question R.Told)) → IsFed (R.protocol partitions) es feed.now → rows.items ≡ rows_for (R.protocol partitions) es ((R.protocol partitions).page_cell page.now) ((R.protocol partitions).page_index page.now)) }
+    ensures { IfOk result (λ rows. OfFeed (R.protocol partitions) feed.now (λ es. rows.items ≡ page_rows (R.protocol partitions) page.now es)) }
 {
     let cell = R::page_cell(partitions, page);
     match R::page_index(page) {
@@ -48,7 +40,7 @@ fn rows_for<R: Rules>(
 }
 
 /// Whether a page is answered so.
-pub fn page_is_right<R: Rules>(
+fn page_is_right<R: Rules>(
     alloc: Global,
     partitions: u32,
     catalog: &R::Catalog,
@@ -57,7 +49,7 @@ pub fn page_is_right<R: Rules>(
     answer: &Reply<R>,
 ) -> Result<bool, NoMemory>
     requires { 1 ≤ partitions }
-    ensures { IfOk result (λ right. (es : List (Entry R.Key R.Value R.Action R.Fault R.Command R.Question R.Told)) → catalog.now ≡ (state_after (R.protocol partitions).core (effects es)).catalog → IsFed (R.protocol partitions) es feed.now → (IsTrue right ↔ (answer.now ≡ page_after (R.protocol partitions) es page.now))) }
+    ensures { IfOk result (λ right. JudgesPage (R.protocol partitions) catalog.now page.now feed.now answer.now right) }
 {
     if !R::serves(catalog, page) {
         return Ok(is_stale::<R>(answer));
@@ -74,7 +66,7 @@ fn shown_as<R: Rules>(
     answer: &Reply<R>,
 ) -> Option<u64>
     requires { 1 ≤ partitions }
-    ensures { MatchOption result ((s : ℕ) → answer.now ≡ out_answer (R.protocol partitions).core.cell_of (Some (showing s first.now)) → ⊥) (λ s. answer.now ≡ out_answer (R.protocol partitions).core.cell_of (Some (showing s first.now))) }
+    ensures { ShownAs (R.protocol partitions) first.now answer.now result }
 {
     let Answer::Out {
         sequence,
@@ -110,7 +102,7 @@ fn is_shown<R: Rules>(
     answer: &Reply<R>,
 ) -> bool
     requires { 1 ≤ partitions }
-    ensures { (es : List (Entry R.Key R.Value R.Action R.Fault R.Command R.Question R.Told)) → IsFed (R.protocol partitions) es feed.now → first_of ((feed_after (R.protocol partitions) es).outbox source) ≡ Some first.now → (IsTrue result ↔ (answer.now ≡ out_answer (R.protocol partitions).core.cell_of (out_after (R.protocol partitions) es source))) }
+    ensures { JudgesFirst (R.protocol partitions) feed.now source first.now answer.now result }
 {
     match shown_as::<R>(partitions, first, answer) {
         Some(sequence) => has_first::<Feeding<R>>(feed, source, sequence),
@@ -128,7 +120,7 @@ fn is_empty<R: Rules>(answer: &Reply<R>) -> bool
 /// Whether the answer is that of a source's outbox.
 fn out_is_right<R: Rules>(partitions: u32, source: u32, feed: &Fed<R>, answer: &Reply<R>) -> bool
     requires { 1 ≤ partitions }
-    ensures { (es : List (Entry R.Key R.Value R.Action R.Fault R.Command R.Question R.Told)) → IsFed (R.protocol partitions) es feed.now → (IsTrue result ↔ (answer.now ≡ out_answer (R.protocol partitions).core.cell_of (out_after (R.protocol partitions) es source))) }
+    ensures { OfFeed (R.protocol partitions) feed.now (λ es. IsTrue result ↔ IsOutAnswer (R.protocol partitions) es source answer.now) }
 {
     match first_change::<Feeding<R>>(feed, source) {
         Some(first) => is_shown::<R>(partitions, source, feed, first, answer),
@@ -137,14 +129,9 @@ fn out_is_right<R: Rules>(partitions: u32, source: u32, feed: &Fed<R>, answer: &
 }
 
 /// Whether a PeekOut of a source is answered so.
-pub fn peek_is_right<R: Rules>(
-    partitions: u32,
-    source: u32,
-    feed: &Fed<R>,
-    answer: &Reply<R>,
-) -> bool
+fn peek_is_right<R: Rules>(partitions: u32, source: u32, feed: &Fed<R>, answer: &Reply<R>) -> bool
     requires { 1 ≤ partitions }
-    ensures { (es : List (Entry R.Key R.Value R.Action R.Fault R.Command R.Question R.Told)) → IsFed (R.protocol partitions) es feed.now → (IsTrue result ↔ ((source < (R.protocol partitions).control) × (answer.now ≡ out_answer (R.protocol partitions).core.cell_of (out_after (R.protocol partitions) es source)))) }
+    ensures { OfFeed (R.protocol partitions) feed.now (λ es. IsTrue result ↔ IsPeekAnswer (R.protocol partitions) es source answer.now) }
 {
     is_partition::<R>(partitions, source) && out_is_right::<R>(partitions, source, feed, answer)
 }
@@ -161,7 +148,7 @@ fn is_feed_answer<R: Rules>(fed: bool, answer: &Reply<R>) -> bool
 }
 
 /// Whether an ApplyIndex is answered so.
-pub fn feed_is_right<R: Rules>(
+fn feed_is_right<R: Rules>(
     alloc: Global,
     partitions: u32,
     catalog: &R::Catalog,
@@ -173,7 +160,7 @@ pub fn feed_is_right<R: Rules>(
     answer: &Reply<R>,
 ) -> Result<bool, NoMemory>
     requires { 1 ≤ partitions }
-    ensures { IfOk result (λ right. (es : List (Entry R.Key R.Value R.Action R.Fault R.Command R.Question R.Told)) (after : Option R.Value) → catalog.now ≡ (state_after (R.protocol partitions).core (effects es)).catalog → IsFed (R.protocol partitions) es feed.now → (IsTrue right ↔ (answer.now ≡ feed_answer (feeds_after (R.protocol partitions) es source sequence (change index row_key.now after))))) }
+    ensures { IfOk result (λ right. JudgesFeed (R.protocol partitions) catalog.now source sequence index row_key.now feed.now answer.now right) }
 {
     let fed = is_fed::<Feeding<R>>(
         alloc, partitions, catalog, feed, source, sequence, index, row_key,
@@ -194,13 +181,13 @@ fn is_ack_answer<R: Rules>(first: bool, answer: &Reply<R>) -> bool
 
 /// Whether the answer is that of a source's outbox to an Ack of a sequence.
 fn acked_is_right<R: Rules>(source: u32, sequence: u64, feed: &Fed<R>, answer: &Reply<R>) -> bool
-    ensures { (n : ℕ) (es : List (Entry R.Key R.Value R.Action R.Fault R.Command R.Question R.Told)) → IsFed (R.protocol n) es feed.now → (IsTrue result ↔ (answer.now ≡ ack_answer (has_sequence (out_after (R.protocol n) es source) sequence))) }
+    ensures { (n : ℕ) → OfFeed (R.protocol n) feed.now (λ es. IsTrue result ↔ IsFirstAcked (R.protocol n) es source sequence answer.now) }
 {
     is_ack_answer::<R>(has_first::<Feeding<R>>(feed, source, sequence), answer)
 }
 
 /// Whether an Ack of a source's sequence is answered so.
-pub fn ack_is_right<R: Rules>(
+fn ack_is_right<R: Rules>(
     partitions: u32,
     source: u32,
     sequence: u64,
@@ -208,7 +195,43 @@ pub fn ack_is_right<R: Rules>(
     answer: &Reply<R>,
 ) -> bool
     requires { 1 ≤ partitions }
-    ensures { (es : List (Entry R.Key R.Value R.Action R.Fault R.Command R.Question R.Told)) → IsFed (R.protocol partitions) es feed.now → (IsTrue result ↔ ((source < (R.protocol partitions).control) × (answer.now ≡ ack_answer (has_sequence (out_after (R.protocol partitions) es source) sequence)))) }
+    ensures { OfFeed (R.protocol partitions) feed.now (λ es. IsTrue result ↔ IsAckAnswer (R.protocol partitions) es source sequence answer.now) }
 {
     is_partition::<R>(partitions, source) && acked_is_right::<R>(source, sequence, feed, answer)
+}
+
+/// Whether a message about pages, outboxes and index rows has the answer of its cell.
+pub fn indexes_are_right<R: Rules>(
+    alloc: Global,
+    partitions: u32,
+    catalog: &R::Catalog,
+    feed: &Fed<R>,
+    entry: &Event<R>,
+) -> Result<bool, NoMemory>
+    requires { 1 ≤ partitions }
+    ensures { IfOk result (λ right. JudgesIndexes (R.protocol partitions) catalog.now feed.now entry.now right) }
+{
+    let answer = &entry.answer;
+    match &entry.message {
+        Message::QueryPage { page } => {
+            page_is_right::<R>(alloc, partitions, catalog, page, feed, answer)
+        }
+        Message::ScanPage { page } => {
+            page_is_right::<R>(alloc, partitions, catalog, page, feed, answer)
+        }
+        Message::PeekOut { source } => Ok(peek_is_right::<R>(partitions, *source, feed, answer)),
+        Message::ApplyIndex {
+            source,
+            sequence,
+            index,
+            row_key,
+            after: _after,
+        } => feed_is_right::<R>(
+            alloc, partitions, catalog, *source, *sequence, *index, row_key, feed, answer,
+        ),
+        Message::Ack { source, sequence } => {
+            Ok(ack_is_right::<R>(partitions, *source, *sequence, feed, answer))
+        }
+        _ => Ok(false),
+    }
 }

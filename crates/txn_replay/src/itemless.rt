@@ -1,22 +1,45 @@
 //! The answers to messages that name no item.
-ghost use Rattle.std.specs.Prelude.{◌≡◌, ◌↔◌, ◌≤◌, ℕ, IfOk, IsTrue, List, Option, None, reverse};
-ghost use Rattle.txn_core.specs.State.{state_after};
-ghost use Rattle.txn_core.specs.History.{effects};
-ghost use Rattle.txn_core.specs.Legal.{IsAnswer};
-ghost use Rattle.txn_replay.specs.Replica.{key_in, IsReplica};
-ghost use Rattle.txn_replay.specs.Fed.{IsFed};
+ghost use Rattle.std.specs.Prelude.{◌≡◌, ◌≤◌, IfOk};
+ghost use Rattle.txn_replay.specs.Judging.{is_of_ledger, is_of_feed, JudgesOther};
 
 use crate::commands::is_command_answer;
-use crate::feed_answers::{ack_is_right, feed_is_right, page_is_right, peek_is_right};
+use crate::feed_answers::indexes_are_right;
 use crate::pendings::are_pendings_right;
-use crate::records::{
-    begin_is_right, decide_is_right, done_is_right, fate_is_right, forget_is_right,
-    recall_is_right, unfinished_is_right,
-};
-use crate::replica::ReplicaOf;
+use crate::records::ledger_is_right;
 use crate::routes::is_ask;
+use replay_state::{Asked, ReplicaOf};
 use std::alloc::{AllocError as NoMemory, Global};
 use txn_core::{Event, Message, Rules};
+
+/// Whether a message is about transactions.
+fn is_of_ledger<R: Rules>(message: &Asked<R>) -> bool
+    ensures { result ≡ is_of_ledger message.now }
+{
+    matches!(
+        message,
+        Message::Begin { .. }
+            | Message::Decide { .. }
+            | Message::Done { .. }
+            | Message::Forget { .. }
+            | Message::FateOf { .. }
+            | Message::Recall { .. }
+            | Message::Unfinished
+    )
+}
+
+/// Whether a message is about pages, outboxes and index rows.
+fn is_of_feed<R: Rules>(message: &Asked<R>) -> bool
+    ensures { result ≡ is_of_feed message.now }
+{
+    matches!(
+        message,
+        Message::QueryPage { .. }
+            | Message::ScanPage { .. }
+            | Message::PeekOut { .. }
+            | Message::ApplyIndex { .. }
+            | Message::Ack { .. }
+    )
+}
 
 /// Whether a message that names no item has the answer of the cells.
 pub fn other_is_right<R: Rules>(
@@ -27,62 +50,24 @@ pub fn other_is_right<R: Rules>(
     entry: &Event<R>,
 ) -> Result<bool, NoMemory>
     requires { 1 ≤ partitions }
-    ensures { IfOk result (λ right. (keys : List (Option R.Key)) → IsReplica (R.protocol partitions) keys (state_after (R.protocol partitions).core (effects (reverse past.now))) replica.now.catalog replica.now.slots.items → IsFed (R.protocol partitions) (reverse past.now) replica.now.feed → key_in (R.protocol partitions) entry.now.message ≡ None → (IsTrue right ↔ IsAnswer (R.protocol partitions) (reverse past.now) entry.now.moment entry.now.message entry.now.answer)) }
+    ensures { IfOk result (λ right. JudgesOther (R.protocol partitions) past.now replica.now entry.now right) }
 {
     let catalog = &replica.catalog;
+    if is_of_ledger::<R>(&entry.message) {
+        return ledger_is_right::<R>(alloc, catalog, past, &replica.ledger, entry);
+    }
+    if is_of_feed::<R>(&entry.message) {
+        return indexes_are_right::<R>(alloc, partitions, catalog, &replica.feed, entry);
+    }
+    let slots = replica.slots.as_slice();
     let answer = &entry.answer;
-    let moment = entry.moment;
     match &entry.message {
-        Message::Begin { token, actions } => {
-            let actions = actions.as_slice();
-            Ok(begin_is_right::<R>(catalog, past, moment, token, actions, answer))
-        }
-        Message::Decide {
-            number,
-            commit,
-            reasons: _reasons,
-        } => { Ok(decide_is_right::<R>(past, moment, *number, *commit, answer)) }
-        Message::Done { number } => Ok(done_is_right::<R>(past, moment, *number, answer)),
-        Message::Forget { number } => Ok(forget_is_right::<R>(past, moment, *number, answer)),
-        Message::FateOf { number } => Ok(fate_is_right::<R>(past, moment, *number, answer)),
-        Message::Recall { number } => Ok(recall_is_right::<R>(past, moment, *number, answer)),
-        Message::Unfinished => unfinished_is_right::<R>(alloc, past, moment, answer),
         Message::Ask { question } => is_ask::<R>(alloc, catalog, question, answer),
-        Message::QueryPage { page } => {
-            page_is_right::<R>(alloc, partitions, catalog, page, &replica.feed, answer)
-        }
-        Message::ScanPage { page } => {
-            page_is_right::<R>(alloc, partitions, catalog, page, &replica.feed, answer)
-        }
         Message::Pendings { cell } => {
-            Ok(are_pendings_right::<R>(partitions, replica.slots.as_slice(), *cell, answer))
+            Ok(are_pendings_right::<R>(partitions, slots, *cell, answer))
         }
         Message::Command { command } => {
-            let slots = replica.slots.as_slice();
-            is_command_answer::<R>(alloc, catalog, slots, command, moment, answer)
-        }
-        Message::PeekOut { source } => {
-            Ok(peek_is_right::<R>(partitions, *source, &replica.feed, answer))
-        }
-        Message::ApplyIndex {
-            source,
-            sequence,
-            index,
-            row_key,
-            after: _after,
-        } => feed_is_right::<R>(
-            alloc,
-            partitions,
-            catalog,
-            *source,
-            *sequence,
-            *index,
-            row_key,
-            &replica.feed,
-            answer,
-        ),
-        Message::Ack { source, sequence } => {
-            Ok(ack_is_right::<R>(partitions, *source, *sequence, &replica.feed, answer))
+            is_command_answer::<R>(alloc, catalog, slots, command, entry.moment, answer)
         }
         _ => Ok(false),
     }

@@ -1,15 +1,11 @@
 //! The answers about one item.
-ghost use Rattle.std.specs.Prelude.{◌≡◌, ◌↔◌, ℕ, IfOk, IsTrue, List, Some};
-ghost use Rattle.txn_core.specs.State.{holder, state_after};
-ghost use Rattle.txn_core.specs.Answers.{get_answer, write_answer, prepare_answer, version_answer};
-ghost use Rattle.txn_core.specs.History.{effects};
-ghost use Rattle.txn_core.specs.Legal.{IsAnswer};
-ghost use Rattle.txn_core.specs.declared.entry.Entry.{Entry};
-ghost use Rattle.txn_replay.specs.Items.{item_in, tally_in, last_in};
-ghost use Rattle.txn_replay.specs.Replica.{key_in, IsShown};
+ghost use Rattle.std.specs.Prelude.{◌≡◌, ◌↔◌, ℕ, IfOk, IsTrue};
+ghost use Rattle.txn_core.specs.Answers.{get_answer};
+ghost use Rattle.replay_state.specs.Items.{item_in};
+ghost use Rattle.txn_replay.specs.Judging.{write_of, prepare_of, version_of, JudgesItem};
 
-use crate::item_answers::{Reply, is_apply, is_get, is_prepare, is_release, is_version, is_write};
-use crate::tracked::Tracked;
+use answer_check::{Reply, is_apply, is_get, is_prepare, is_release, is_version, is_write};
+use replay_state::Tracked;
 use std::alloc::{AllocError as NoMemory, Global};
 use txn_core::{Event, Message, Rules, Stamp};
 
@@ -31,7 +27,7 @@ fn write_is_right<R: Rules>(
     tracked: &Tracked<R::Key, R::Value>,
     answer: &Reply<R>,
 ) -> Result<bool, NoMemory>
-    ensures { IfOk result (λ right. (n : ℕ) → (IsTrue right ↔ (answer.now ≡ write_answer ((R.protocol n).core.there catalog.now ((R.protocol n).core.key_of action.now)) (holder (item_in tracked.now.item).pend) (item_in tracked.now.item).row ((R.protocol n).core.act catalog.now action.now (item_in tracked.now.item).row)))) }
+    ensures { IfOk result (λ right. (n : ℕ) → (IsTrue right ↔ (answer.now ≡ write_of (R.protocol n) catalog.now action.now tracked.now))) }
 {
     let item = &tracked.item;
     let outcome = R::act(alloc, catalog, action, item.row.as_ref())?;
@@ -48,7 +44,7 @@ fn prepare_is_right<R: Rules>(
     tracked: &Tracked<R::Key, R::Value>,
     answer: &Reply<R>,
 ) -> Result<bool, NoMemory>
-    ensures { IfOk result (λ right. (n : ℕ) → (IsTrue right ↔ (answer.now ≡ prepare_answer ((R.protocol n).core.there catalog.now ((R.protocol n).core.key_of action.now)) (holder (item_in tracked.now.item).pend) number (last_in (tally_in tracked.now.cell) (item_in tracked.now.item)) stamp (item_in tracked.now.item).row ((R.protocol n).core.act catalog.now action.now (item_in tracked.now.item).row)))) }
+    ensures { IfOk result (λ right. (n : ℕ) → (IsTrue right ↔ (answer.now ≡ prepare_of (R.protocol n) catalog.now number stamp action.now tracked.now))) }
 {
     let item = &tracked.item;
     let outcome = R::act(alloc, catalog, action, item.row.as_ref())?;
@@ -66,7 +62,7 @@ fn version_is_right<R: Rules>(
     tracked: &Tracked<R::Key, R::Value>,
     answer: &Reply<R>,
 ) -> bool
-    ensures { (n : ℕ) → (IsTrue result ↔ (answer.now ≡ version_answer ((R.protocol n).core.there catalog.now key.now) (item_in tracked.now.item).row (item_in tracked.now.item).version (tally_in tracked.now.cell).gone (holder (item_in tracked.now.item).pend))) }
+    ensures { (n : ℕ) → (IsTrue result ↔ (answer.now ≡ version_of (R.protocol n) catalog.now key.now tracked.now)) }
 {
     let item = &tracked.item;
     let there = R::is_there(catalog, key);
@@ -81,7 +77,7 @@ pub fn item_is_right<R: Rules>(
     tracked: &Tracked<R::Key, R::Value>,
     entry: &Event<R>,
 ) -> Result<bool, NoMemory>
-    ensures { IfOk result (λ right. (n : ℕ) (es : List (Entry R.Key R.Value R.Action R.Fault R.Command R.Question R.Told)) → catalog.now ≡ (state_after (R.protocol n).core (effects es)).catalog → IsShown (R.protocol n) (state_after (R.protocol n).core (effects es)) tracked.now → key_in (R.protocol n) entry.now.message ≡ Some tracked.now.key → (IsTrue right ↔ IsAnswer (R.protocol n) es entry.now.moment entry.now.message entry.now.answer)) }
+    ensures { IfOk result (λ right. (n : ℕ) → JudgesItem (R.protocol n) catalog.now tracked.now entry.now right) }
 {
     let answer = &entry.answer;
     match &entry.message {

@@ -1,14 +1,13 @@
 //! Who holds an item, and the lists of items that are held.
-ghost use Rattle.std.specs.Prelude.{◌≡◌, ◌↔◌, ◌≤◌, ◌<◌, ◌&&◌, ℕ, false, not, IsTrue, All, List, Option, None, Some, slice_index_or};
+ghost use Rattle.std.specs.Prelude.{◌≡◌, ◌↔◌, ◌≤◌, ◌&&◌, ℕ, false, not, IsTrue, All, None, Some, slice_index_or};
 ghost use Rattle.std.specs.List.{list_any};
-ghost use Rattle.txn_core.specs.Effects.{Effect};
-ghost use Rattle.txn_core.specs.State.{holder, state_after};
+ghost use Rattle.txn_core.specs.State.{holder};
 ghost use Rattle.txn_core.specs.Legal.{ArePendings, IsPendingList};
-ghost use Rattle.txn_replay.specs.Replica.{IsReplica, held_as, untold, are_once};
+ghost use Rattle.txn_replay.specs.Held.{held_as, untold, are_once, OfSlots, IsHeldIn, IsPendingAnswer};
 
-use crate::item_answers::Reply;
 use crate::routes::is_partition;
-use crate::slots::Slot;
+use answer_check::Reply;
+use replay_state::Slot;
 use txn_core::{Answer, HeldItem, Rules};
 
 /// The number of the transaction that holds the item, where this is the item's slot.
@@ -27,7 +26,7 @@ fn held_as<R: Rules>(slot: &Slot<R>, key: &R::Key) -> Option<u64>
 
 /// The number of the transaction that holds the item.
 fn holder_of<R: Rules>(slots: &[Slot<R>], key: &R::Key) -> Option<u64>
-    ensures { (n : ℕ) (keys : List (Option R.Key)) (es : List (Effect R.Key R.Action R.Command)) (now : R.Catalog) → IsReplica (R.protocol n) keys (state_after (R.protocol n).core es) now slots.now → result ≡ holder ((state_after (R.protocol n).core es).spot key.now).pend }
+    ensures { (n : ℕ) → OfSlots (R.protocol n) slots.now (λ w. result ≡ holder (w.spot key.now).pend) }
 {
     for slot in slots {
         let held = held_as::<R>(slot, key);
@@ -63,7 +62,7 @@ fn is_held_there<R: Rules>(
     held: &HeldItem<R::Key>,
 ) -> bool
     requires { 1 ≤ partitions }
-    ensures { (keys : List (Option R.Key)) (es : List (Effect R.Key R.Action R.Command)) (now : R.Catalog) → IsReplica (R.protocol partitions) keys (state_after (R.protocol partitions).core es) now slots.now → (IsTrue result ↔ (((R.protocol partitions).core.cell_of held.now.key ≡ cell) × (holder ((state_after (R.protocol partitions).core es).spot held.now.key).pend ≡ Some held.now.number))) }
+    ensures { OfSlots (R.protocol partitions) slots.now (λ w. IsTrue result ↔ IsHeldIn (R.protocol partitions) w cell held.now) }
 {
     if !is_of_cell::<R>(partitions, cell, &held.key) {
         return false;
@@ -79,7 +78,7 @@ fn are_held_there<R: Rules>(
     pendings: &[HeldItem<R::Key>],
 ) -> bool
     requires { 1 ≤ partitions }
-    ensures { (keys : List (Option R.Key)) (es : List (Effect R.Key R.Action R.Command)) (now : R.Catalog) → IsReplica (R.protocol partitions) keys (state_after (R.protocol partitions).core es) now slots.now → (IsTrue result ↔ All (λ p. ((R.protocol partitions).core.cell_of p.key ≡ cell) × (holder ((state_after (R.protocol partitions).core es).spot p.key).pend ≡ Some p.number)) pendings.now) }
+    ensures { OfSlots (R.protocol partitions) slots.now (λ w. IsTrue result ↔ All (IsHeldIn (R.protocol partitions) w cell) pendings.now) }
 {
     for held in pendings {
         if !is_held_there::<R>(partitions, slots, cell, held) {
@@ -164,7 +163,7 @@ fn is_pending_list<R: Rules>(
     answer: &Reply<R>,
 ) -> bool
     requires { 1 ≤ partitions }
-    ensures { (keys : List (Option R.Key)) (es : List (Effect R.Key R.Action R.Command)) (now : R.Catalog) → IsReplica (R.protocol partitions) keys (state_after (R.protocol partitions).core es) now slots.now → (IsTrue result ↔ IsPendingList (R.protocol partitions) (state_after (R.protocol partitions).core es) cell answer.now) }
+    ensures { OfSlots (R.protocol partitions) slots.now (λ w. IsTrue result ↔ IsPendingList (R.protocol partitions) w cell answer.now) }
 {
     match answer {
         Answer::PendingList { pendings } => {
@@ -182,7 +181,7 @@ fn are_pendings<R: Rules>(
     pendings: &[HeldItem<R::Key>],
 ) -> bool
     requires { 1 ≤ partitions }
-    ensures { (keys : List (Option R.Key)) (es : List (Effect R.Key R.Action R.Command)) (now : R.Catalog) → IsReplica (R.protocol partitions) keys (state_after (R.protocol partitions).core es) now slots.now → (IsTrue result ↔ ArePendings (R.protocol partitions) (state_after (R.protocol partitions).core es) cell pendings.now) }
+    ensures { OfSlots (R.protocol partitions) slots.now (λ w. IsTrue result ↔ ArePendings (R.protocol partitions) w cell pendings.now) }
 {
     if !are_apart::<R>(pendings) {
         return false;
@@ -201,7 +200,7 @@ pub fn are_pendings_right<R: Rules>(
     answer: &Reply<R>,
 ) -> bool
     requires { 1 ≤ partitions }
-    ensures { (keys : List (Option R.Key)) (es : List (Effect R.Key R.Action R.Command)) (now : R.Catalog) → IsReplica (R.protocol partitions) keys (state_after (R.protocol partitions).core es) now slots.now → (IsTrue result ↔ ((cell < (R.protocol partitions).control) × IsPendingList (R.protocol partitions) (state_after (R.protocol partitions).core es) cell answer.now)) }
+    ensures { OfSlots (R.protocol partitions) slots.now (λ w. IsTrue result ↔ IsPendingAnswer (R.protocol partitions) w cell answer.now) }
 {
     if !is_partition::<R>(partitions, cell) {
         return false;

@@ -1,22 +1,20 @@
 //! The answers of the control cell about transactions.
-ghost use Rattle.std.specs.Prelude.{◌≡◌, ◌↔◌, ◌++◌, ◌∷◌, [], ℕ, IfOk, IsTrue, List, reverse, if◌then◌else◌};
+ghost use Rattle.std.specs.Prelude.{◌≡◌, ◌↔◌, ◌++◌, ◌∷◌, [], ℕ, IfOk, IsTrue, if◌then◌else◌};
 ghost use Rattle.std.specs.List.{list_all};
-ghost use Rattle.txn_core.specs.State.{state_after};
-ghost use Rattle.txn_core.specs.History.{effect, effects, reasons_of};
 ghost use Rattle.txn_core.specs.Answers.{unfinished};
-ghost use Rattle.txn_core.specs.Legal.{IsAnswer};
 ghost use Rattle.txn_core.specs.declared.answer.Answer.{Answer};
-ghost use Rattle.txn_replay.specs.Folds.{done_by};
 ghost use Rattle.txn_core.specs.declared.message.Message.{Message};
-ghost use Rattle.txn_core.specs.declared.reason.Reason.{Reason};
+ghost use Rattle.replay_state.specs.Ledger.{TellsLedger};
+ghost use Rattle.txn_replay.specs.Judging.{Judges, JudgesDecide, JudgesRecall, JudgesBegin, JudgesLedger};
 
-use crate::item_answers::{Reply, is_stale};
-use crate::ledger::{actions_of, fate_of, has_record, next_of, stamp_of};
-use crate::ledger_answers::{is_begin, is_decide, is_done, is_fate, is_forget, is_recall};
-use crate::token::found;
+use answer_check::{Reply, is_begin, is_decide, is_done, is_fate, is_forget, is_recall, is_stale};
 use base_types::Text;
+use replay_state::{
+    LedgerOf, Transactions, actions_of, fate_of, found_kept, has_record, is_finished, next_of,
+    reasons_of, stamp_of,
+};
 use std::alloc::{AllocError as NoMemory, Global};
-use txn_core::{Answer, Event, Message, Reason, Rules, Stamp};
+use txn_core::{Answer, Event, Message, Rules, Stamp};
 
 /// Whether the catalog has the table of each action.
 fn are_there<R: Rules>(catalog: &R::Catalog, actions: &[R::Action]) -> bool
@@ -30,123 +28,93 @@ fn are_there<R: Rules>(catalog: &R::Catalog, actions: &[R::Action]) -> bool
     true
 }
 
-/// The reasons that the number's decision carried.
-fn reasons_of<R: Rules>(past: &[Event<R>], number: u64) -> &[Reason<R::Value, R::Fault>]
-    ensures { result.now ≡ reasons_of (reverse past.now) number }
-{
-    let mut found: &[Reason<R::Value, R::Fault>] = &[];
-    for entry in past {
-        found = entry.reasons_or(number, found);
-    }
-    found
-}
-
 /// Whether a Begin has the answer of the control cell.
-pub fn begin_is_right<R: Rules>(
+fn begin_is_right<R: Rules>(
     catalog: &R::Catalog,
     past: &[Event<R>],
+    ledger: &LedgerOf<R>,
     moment: u64,
     token: &Option<Text>,
     actions: &[R::Action],
     answer: &Reply<R>,
 ) -> bool
-    ensures { (n : ℕ) → catalog.now ≡ (state_after (R.protocol n).core (effects (reverse past.now))).catalog → (IsTrue result ↔ IsAnswer (R.protocol n) (reverse past.now) moment (Message.Begin token.now actions.now) answer.now) }
+    ensures { (n : ℕ) → JudgesBegin (R.protocol n) catalog.now past.now ledger.now moment token.now actions.now answer.now result }
 {
     if !are_there::<R>(catalog, actions) {
         return is_stale::<R>(answer);
     }
-    let number = next_of::<R>(past);
-    let kept = found::<R>(past, moment, token);
+    let number = next_of(ledger);
+    let kept = found_kept::<R>(past, moment, token);
     is_begin::<R>(&kept, actions, Stamp { moment, number }, answer)
 }
 
 /// Whether a Decide has the answer of the control cell.
-pub fn decide_is_right<R: Rules>(
-    past: &[Event<R>],
+fn decide_is_right<R: Rules>(
+    ledger: &LedgerOf<R>,
     moment: u64,
     number: u64,
     commit: bool,
     answer: &Reply<R>,
 ) -> bool
-    ensures { (n : ℕ) (reasons : List (Reason R.Value R.Fault)) → (IsTrue result ↔ IsAnswer (R.protocol n) (reverse past.now) moment (Message.Decide number commit reasons) answer.now) }
+    ensures { (n : ℕ) → JudgesDecide (R.protocol n) ledger.now number commit moment answer.now result }
 {
-    let recorded = has_record::<R>(past, number);
-    is_decide::<R>(recorded, fate_of::<R>(past, number), commit, answer)
+    let recorded = has_record(ledger, number);
+    is_decide::<R>(recorded, fate_of(ledger, number), commit, answer)
 }
 
 /// Whether a Recall has the answer of the control cell.
-pub fn recall_is_right<R: Rules>(
+fn recall_is_right<R: Rules>(
     past: &[Event<R>],
+    ledger: &LedgerOf<R>,
     moment: u64,
     number: u64,
     answer: &Reply<R>,
 ) -> bool
-    ensures { (n : ℕ) → (IsTrue result ↔ IsAnswer (R.protocol n) (reverse past.now) moment (Message.Recall number) answer.now) }
+    ensures { (n : ℕ) → JudgesRecall (R.protocol n) past.now ledger.now moment number answer.now result }
 {
-    let recorded = has_record::<R>(past, number);
-    let fate = fate_of::<R>(past, number);
-    let stamp = stamp_of::<R>(past, number);
-    let actions = actions_of::<R>(past, number);
+    let recorded = has_record(ledger, number);
+    let fate = fate_of(ledger, number);
+    let stamp = stamp_of(ledger, number);
+    let actions = actions_of(ledger, number);
     let reasons = reasons_of::<R>(past, number);
     is_recall::<R>(recorded, fate, stamp, actions, reasons, answer)
 }
 
 /// Whether a Done has the answer of the control cell.
-pub fn done_is_right<R: Rules>(
-    past: &[Event<R>],
+fn done_is_right<R: Rules>(
+    ledger: &LedgerOf<R>,
     moment: u64,
     number: u64,
     answer: &Reply<R>,
 ) -> bool
-    ensures { (n : ℕ) → (IsTrue result ↔ IsAnswer (R.protocol n) (reverse past.now) moment (Message.Done number) answer.now) }
+    ensures { (n : ℕ) → Judges (R.protocol n) ledger.now (Message.Done number) moment answer.now result }
 {
-    is_done::<R>(has_record::<R>(past, number), answer)
+    is_done::<R>(has_record(ledger, number), answer)
 }
 
 /// Whether a Forget has the answer of the control cell.
-pub fn forget_is_right<R: Rules>(
-    past: &[Event<R>],
+fn forget_is_right<R: Rules>(
+    ledger: &LedgerOf<R>,
     moment: u64,
     number: u64,
     answer: &Reply<R>,
 ) -> bool
-    ensures { (n : ℕ) → (IsTrue result ↔ IsAnswer (R.protocol n) (reverse past.now) moment (Message.Forget number) answer.now) }
+    ensures { (n : ℕ) → Judges (R.protocol n) ledger.now (Message.Forget number) moment answer.now result }
 {
-    is_forget::<R>(has_record::<R>(past, number), answer)
+    is_forget::<R>(has_record(ledger, number), answer)
 }
 
 /// Whether a FateOf has the answer of the control cell.
-pub fn fate_is_right<R: Rules>(
-    past: &[Event<R>],
+fn fate_is_right<R: Rules>(
+    ledger: &LedgerOf<R>,
     moment: u64,
     number: u64,
     answer: &Reply<R>,
 ) -> bool
-    ensures { (n : ℕ) → (IsTrue result ↔ IsAnswer (R.protocol n) (reverse past.now) moment (Message.FateOf number) answer.now) }
+    ensures { (n : ℕ) → Judges (R.protocol n) ledger.now (Message.FateOf number) moment answer.now result }
 {
-    let recorded = has_record::<R>(past, number);
-    is_fate::<R>(recorded, fate_of::<R>(past, number), answer)
-}
-
-/// Whether the entry finishes the number, or an older one did.
-fn done_or<R: Rules>(entry: &Event<R>, number: u64, older: bool) -> bool
-    ensures { result ≡ done_by number (effect entry.now) older }
-{
-    match (&entry.message, &entry.answer) {
-        (Message::Done { number: done }, Answer::Finished) if *done == number => true,
-        _ => older,
-    }
-}
-
-/// Whether the number is done.
-fn is_finished<R: Rules>(past: &[Event<R>], number: u64) -> bool
-    ensures { (n : ℕ) → result ≡ (state_after (R.protocol n).core (effects (reverse past.now))).ledger.done number }
-{
-    let mut found = false;
-    for entry in past {
-        found = done_or::<R>(entry, number, found);
-    }
-    found
+    let recorded = has_record(ledger, number);
+    is_fate::<R>(recorded, fate_of(ledger, number), answer)
 }
 
 /// Notes the number, unless it is done.
@@ -160,13 +128,13 @@ fn note_unless(numbers: &mut Vec<u64>, number: u64, done: bool) -> Result<(), No
 }
 
 /// The numbers that are begun and not done, ascending.
-fn unfinished<R: Rules>(alloc: Global, past: &[Event<R>]) -> Result<Vec<u64>, NoMemory>
-    ensures { IfOk result (λ numbers. (n : ℕ) → numbers.items ≡ unfinished (state_after (R.protocol n).core (effects (reverse past.now))).ledger) }
+fn unfinished<A>(alloc: Global, ledger: &Transactions<A>) -> Result<Vec<u64>, NoMemory>
+    ensures { IfOk result (λ numbers. TellsLedger ledger.now (λ l. unfinished l) numbers.items) }
 {
-    let next = next_of::<R>(past);
+    let next = next_of(ledger);
     let mut numbers = Vec::new(alloc);
     for number in 1..next {
-        note_unless(&mut numbers, number, is_finished::<R>(past, number))?;
+        note_unless(&mut numbers, number, is_finished(ledger, number))?;
     }
     Ok(numbers)
 }
@@ -181,14 +149,47 @@ fn are_numbers<R: Rules>(numbers: &[u64], answer: &Reply<R>) -> bool
 }
 
 /// Whether an Unfinished has the answer of the control cell.
-pub fn unfinished_is_right<R: Rules>(
+fn unfinished_is_right<R: Rules>(
     alloc: Global,
-    past: &[Event<R>],
+    ledger: &LedgerOf<R>,
     moment: u64,
     answer: &Reply<R>,
 ) -> Result<bool, NoMemory>
-    ensures { IfOk result (λ right. (n : ℕ) → (IsTrue right ↔ IsAnswer (R.protocol n) (reverse past.now) moment Message.Unfinished answer.now)) }
+    ensures { IfOk result (λ right. (n : ℕ) → Judges (R.protocol n) ledger.now Message.Unfinished moment answer.now right) }
 {
-    let numbers = unfinished::<R>(alloc, past)?;
+    let numbers = unfinished(alloc, ledger)?;
     Ok(are_numbers::<R>(numbers.as_slice(), answer))
+}
+
+/// Whether a message about transactions has the answer of the control cell.
+pub fn ledger_is_right<R: Rules>(
+    alloc: Global,
+    catalog: &R::Catalog,
+    past: &[Event<R>],
+    ledger: &LedgerOf<R>,
+    entry: &Event<R>,
+) -> Result<bool, NoMemory>
+    ensures { IfOk result (λ right. (n : ℕ) → JudgesLedger (R.protocol n) catalog.now past.now ledger.now entry.now right) }
+{
+    let answer = &entry.answer;
+    let moment = entry.moment;
+    match &entry.message {
+        Message::Begin { token, actions } => {
+            let actions = actions.as_slice();
+            Ok(begin_is_right::<R>(catalog, past, ledger, moment, token, actions, answer))
+        }
+        Message::Decide {
+            number,
+            commit,
+            reasons: _reasons,
+        } => { Ok(decide_is_right::<R>(ledger, moment, *number, *commit, answer)) }
+        Message::Done { number } => Ok(done_is_right::<R>(ledger, moment, *number, answer)),
+        Message::Forget { number } => Ok(forget_is_right::<R>(ledger, moment, *number, answer)),
+        Message::FateOf { number } => Ok(fate_is_right::<R>(ledger, moment, *number, answer)),
+        Message::Recall { number } => Ok(recall_is_right::<R>(
+            past, ledger, moment, *number, answer,
+        )),
+        Message::Unfinished => unfinished_is_right::<R>(alloc, ledger, moment, answer),
+        _ => Ok(false),
+    }
 }

@@ -1,19 +1,13 @@
 //! The first entry at which a list stops being a legal history.
-ghost use Rattle.std.specs.Prelude.{◌≡◌, ◌↔◌, ◌≤◌, ◌<◌, ◌^◌, [], ◌∷◌, IfOk, IfSome, IsTrue, List, Option, None, MatchOption, length, reverse, slice_index_or};
-ghost use Rattle.txn_core.specs.State.{state_after};
-ghost use Rattle.txn_core.specs.History.{effects};
-ghost use Rattle.txn_core.specs.Legal.{IsAnswer};
-ghost use Rattle.txn_core.specs.Breaks.{IsRight, AllKeep, IsFirstBreak};
-ghost use Rattle.txn_core.specs.declared.kind.BreakKind.TheVariants.{WrongAnswer};
-ghost use Rattle.txn_replay.specs.Replica.{key_in, IsReplica};
-ghost use Rattle.txn_replay.specs.Fed.{IsFed};
+ghost use Rattle.std.specs.Prelude.{◌≡◌, ◌≤◌, ◌<◌, ◌^◌, IfOk, IfSome, length};
+ghost use Rattle.txn_replay.specs.Judging.{JudgesAnswer, JudgesEntry, IsFirstWrong};
 ghost use Rattle.txn_replay.specs.Ends.{ends_at, EndsRight};
 
 use crate::itemless::other_is_right;
 use crate::items::item_is_right;
-use crate::replica::{ReplicaOf, begin, step};
 use crate::routes::{is_at, sent_to};
 use crate::timely::is_timely;
+use replay_state::{ReplicaOf, begin, step};
 use std::alloc::{AllocError as NoMemory, Global};
 use txn_core::{Break, BreakKind, Event, Rules, sending_check};
 
@@ -37,7 +31,7 @@ fn answer_is_right<R: Rules>(
 ) -> Result<bool, NoMemory>
     requires some { 1 ≤ partitions }
     requires within { place < length replica.now.slots.items }
-    ensures { IfOk result (λ right. (keys : List (Option R.Key)) → IsReplica (R.protocol partitions) keys (state_after (R.protocol partitions).core (effects (reverse past.now))) replica.now.catalog replica.now.slots.items → IsFed (R.protocol partitions) (reverse past.now) replica.now.feed → slice_index_or keys place None ≡ key_in (R.protocol partitions) entry.now.message → (IsTrue right ↔ IsAnswer (R.protocol partitions) (reverse past.now) entry.now.moment entry.now.message entry.now.answer)) }
+    ensures { IfOk result (λ right. JudgesAnswer (R.protocol partitions) past.now replica.now place entry.now right) }
 {
     match &replica.slots[place] {
         Some(tracked) => item_is_right::<R>(alloc, &replica.catalog, tracked, entry),
@@ -56,7 +50,7 @@ fn is_right<R: Rules>(
 ) -> Result<bool, NoMemory>
     requires some { 1 ≤ partitions }
     requires within { place < length replica.now.slots.items }
-    ensures { IfOk result (λ right. (keys : List (Option R.Key)) → IsReplica (R.protocol partitions) keys (state_after (R.protocol partitions).core (effects (reverse past.now))) replica.now.catalog replica.now.slots.items → IsFed (R.protocol partitions) (reverse past.now) replica.now.feed → slice_index_or keys place None ≡ key_in (R.protocol partitions) entry.now.message → (IsTrue right ↔ IsRight (R.protocol partitions) (reverse past.now) entry.now)) }
+    ensures { IfOk result (λ right. JudgesEntry (R.protocol partitions) past.now replica.now place entry.now right) }
 {
     if !is_timely::<R>(past, entry.pass, entry.moment) {
         return Ok(false);
@@ -75,7 +69,7 @@ fn first_wrong<R: Rules>(
 ) -> Result<Option<usize>, NoMemory>
     requires some { 1 ≤ partitions }
     requires room { length entries.now < 2 ^ 64 }
-    ensures { IfOk result (λ found. MatchOption found (AllKeep (R.protocol partitions) (WrongAnswer ∷ []) (reverse entries.now)) (λ place. IsFirstBreak (R.protocol partitions) (WrongAnswer ∷ []) entries.now place WrongAnswer)) }
+    ensures { IfOk result (λ found. IsFirstWrong (R.protocol partitions) entries.now found) }
 {
     let mut replica = begin::<R>(alloc, partitions, entries)?;
     for (place, entry) in entries.iter().enumerate() {
@@ -102,11 +96,11 @@ fn up_to(sent: Option<Break>, many: usize) -> usize
 /// partitions, else the first place at which they are not, with the first rule that its entry
 /// breaks. The rule of answers is asked first, then those of what may be sent.
 ///
-/// A checker for tests and tools. It keeps an item for each entry, and takes at most the square of
-/// the size of the list in steps, counting the items that its answers list, those that its commands
-/// bring and the changes that its writes queue for indexes, where the actions of a transaction, 100
-/// at most, count as one step; but each Unfinished takes a step for each number that was begun and
-/// each entry before. `NoMemory` comes where the allocator refuses.
+/// A checker for tests and tools. It keeps an item for each entry and the actions of each transaction,
+/// and takes at most the square of the size of the list in steps, counting the items that its answers
+/// list, those that its commands bring and the changes that its writes queue for indexes, where the
+/// actions of a transaction, 100 at most, count as one step; but each Unfinished takes a step for each
+/// number that was begun and each that was done. `NoMemory` comes where the allocator refuses.
 pub fn replay_check<R: Rules>(
     alloc: Global,
     partitions: u32,

@@ -4,8 +4,8 @@ ghost use Rattle.txn_core.specs.Legal.{sent_to};
 ghost use Rattle.txn_core.specs.Breaks.{IsAt};
 ghost use Rattle.txn_core.specs.declared.answer.Answer.{Answer};
 
-use crate::item_answers::Reply;
-use crate::slots::Asked;
+use answer_check::Reply;
+use replay_state::Asked;
 use std::alloc::{AllocError as NoMemory, Global};
 use txn_core::{Answer, Message, Rules};
 

@@ -1,17 +1,15 @@
-use Rattle.std.proofs.Common.{◌∙◌, map, ap, length, arith}
+use Rattle.std.proofs.Common.{ap, length, arith}
 use Rattle.feed_replay.specs.Lists.{carried}
-use Rattle.feed_replay.proofs.Written.{mapped_more, mapped_all, written_back}
+use Rattle.feed_replay.proofs.Written.{mapped_more, mapped_back}
 use Rattle.feed_replay.proofs.commands.carry_each.Goals as goal
 
 pub loop-one-preserved : goal.loop-one-preserved
-loop-one-preserved g c = λ n. mapped_more (carried (g.R.FeedRules.carried n c.args.command.now c.args.catalog.now c.args.next.now)) c.deref_mut-one-items.result.now c.loop-one.one-items c.loop-one.one-index c.one-item.result c.carry_one.new.one c.loop-one-test.true (c.loop-one.invariant n) c.one-item.is (c.in_ok-carry_one.ensures n)
+loop-one-preserved g c = λ n. mapped_more (carried ((g.R.FeedRules.commands n).carried c.args.command.now c.args.catalog.now c.args.next.now)) c.deref_mut-one-items.result.now c.loop-one.one-items c.loop-one.one-index c.one-item.result c.carry_one.new.one c.loop-one-test.true (c.loop-one.invariant n) c.one-item.is (c.in_ok-carry_one.ensures n)
 
 pub returns : goal.returns
 returns g c = λ n.
     let value = c.deref_mut-one-items.ensures.value in
     let len = c.deref_mut-one-items.ensures.len in
     let same = ap length value in
-    let many = c.loop-one.auto.one-items in
-    written_back c.args.items.now.len c.loop-one.one-items c.args.items.now.items (many ∙ same) (omega arith)
-    ∙ mapped_all (carried (g.R.FeedRules.carried n c.args.command.now c.args.catalog.now c.args.next.now)) c.deref_mut-one-items.result.now c.loop-one.one-items c.loop-one.one-index c.loop-one-test.false (c.loop-one.invariant n)
-    ∙ ap (map (carried (g.R.FeedRules.carried n c.args.command.now c.args.catalog.now c.args.next.now))) value
+    mapped_back (carried ((g.R.FeedRules.commands n).carried c.args.command.now c.args.catalog.now c.args.next.now)) c.args.items.now.len c.deref_mut-one-items.result.now c.loop-one.one-items c.args.items.now.items c.loop-one.one-index
+    c.loop-one.auto.one-items value (omega arith) c.loop-one-test.false (c.loop-one.invariant n)

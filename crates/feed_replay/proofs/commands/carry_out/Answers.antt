@@ -9,8 +9,8 @@ returns g c = λ f cat kept.
     let n = c.args.partitions in
     let I = g.R.FeedRules.indexed n in
     let s = c.args.state.now in
-    let F = g.R.FeedRules.carried n c.args.command.now c.args.catalog.now c.args.next.now in
-    carried_kept I (g.met.R.FeedRules.lawful n) f s kept c.args.next.now (g.R.FeedRules.brought n c.args.command.now c.args.catalog.now) F _
+    let F = (g.R.FeedRules.commands n).carried c.args.command.now c.args.catalog.now c.args.next.now in
+    carried_kept I (g.met.R.FeedRules.lawful n) f s kept c.args.next.now ((g.R.FeedRules.commands n).brought c.args.command.now c.args.catalog.now) F _
     (g.met.R.FeedRules.listed n c.args.command.now c.args.catalog.now c.args.next.now)
     (c.in_ok-carry_each.ensures n ∙ ap (map (carried F)) (c.in_ok-bring.ensures ∙ ap (λ ks. brought_to I ks s.items.items) (c.in_ok-brought.ensures n)))
     (c.in_ok-queue_foundings.ensures n ∙ (λ j. s.waiting.items ++ flat_map (foundings I (cat j) c.args.next.now) (c.as_slice.ensures.value j)))

@@ -1,6 +1,6 @@
-use Rattle.std.proofs.Common.{◌∙◌, map, ap, length, arith}
+use Rattle.std.proofs.Common.{ap, length, arith}
 use Rattle.feed_replay.specs.Lists.{served_only}
-use Rattle.feed_replay.proofs.Written.{mapped_more, mapped_all, written_back}
+use Rattle.feed_replay.proofs.Written.{mapped_more, mapped_back}
 use Rattle.feed_replay.proofs.commands.keep_served.Goals as goal
 
 pub loop-one-preserved : goal.loop-one-preserved
@@ -11,7 +11,5 @@ returns g c = λ n.
     let value = c.deref_mut-one-items.ensures.value in
     let len = c.deref_mut-one-items.ensures.len in
     let same = ap length value in
-    let many = c.loop-one.auto.one-items in
-    written_back c.args.rows.now.len c.loop-one.one-items c.args.rows.now.items (many ∙ same) (omega arith)
-    ∙ mapped_all (served_only (g.R.FeedRules.indexed n) c.args.catalog.now) c.deref_mut-one-items.result.now c.loop-one.one-items c.loop-one.one-index c.loop-one-test.false (c.loop-one.invariant n)
-    ∙ ap (map (served_only (g.R.FeedRules.indexed n) c.args.catalog.now)) value
+    mapped_back (served_only (g.R.FeedRules.indexed n) c.args.catalog.now) c.args.rows.now.len c.deref_mut-one-items.result.now c.loop-one.one-items c.args.rows.now.items c.loop-one.one-index
+    c.loop-one.auto.one-items value (omega arith) c.loop-one-test.false (c.loop-one.invariant n)

@@ -1,6 +1,6 @@
-use Rattle.std.proofs.Common.{◌∙◌, map, ap, length, arith}
+use Rattle.std.proofs.Common.{ap, length, arith}
 use Rattle.feed_replay.specs.Lists.{shown_set}
-use Rattle.feed_replay.proofs.Written.{mapped_more, mapped_all, written_back}
+use Rattle.feed_replay.proofs.Written.{mapped_more, mapped_back}
 use Rattle.feed_replay.proofs.steps.show.Goals as goal
 
 pub loop-one-preserved : goal.loop-one-preserved
@@ -11,7 +11,5 @@ returns g c = λ n.
     let value = c.deref_mut-one-items.ensures.value in
     let len = c.deref_mut-one-items.ensures.len in
     let same = ap length value in
-    let many = c.loop-one.auto.one-items in
-    written_back c.args.rows.now.len c.loop-one.one-items c.args.rows.now.items (many ∙ same) (omega arith)
-    ∙ mapped_all (shown_set (g.R.FeedRules.indexed n) c.args.key.now c.args.index c.args.after.now) c.deref_mut-one-items.result.now c.loop-one.one-items c.loop-one.one-index c.loop-one-test.false (c.loop-one.invariant n)
-    ∙ ap (map (shown_set (g.R.FeedRules.indexed n) c.args.key.now c.args.index c.args.after.now)) value
+    mapped_back (shown_set (g.R.FeedRules.indexed n) c.args.key.now c.args.index c.args.after.now) c.args.rows.now.len c.deref_mut-one-items.result.now c.loop-one.one-items c.args.rows.now.items c.loop-one.one-index
+    c.loop-one.auto.one-items value (omega arith) c.loop-one-test.false (c.loop-one.invariant n)

@@ -2,7 +2,7 @@ use Rattle.std.proofs.Common.{◌≡◌, subst}
 use Rattle.std.specs.Prelude.{◌↔◌, IsTrue}
 use Rattle.txn_core.specs.Answers.{feed_answer}
 use Rattle.txn_core.specs.Feeding.{feed_after}
-use Rattle.txn_replay.proofs.FedSteps.{under}
+use Rattle.replay_state.proofs.FedSteps.{under}
 use Rattle.txn_replay.proofs.feed_answers.feed_is_right.Goals as goal
 
 pub returns : goal.returns

@@ -1,5 +1,5 @@
 use Rattle.std.proofs.Common.{◌≡◌, ℕ, ◌<◌, false, get_or, None}
-use Rattle.txn_replay.specs.Replica.{untold}
+use Rattle.txn_replay.specs.Held.{untold}
 use Rattle.txn_replay.proofs.pendings.are_all_told.Given as goal
 
 abbrev pub invariant-loop-slot : goal.invariant-loop-slot

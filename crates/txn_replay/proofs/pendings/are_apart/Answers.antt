@@ -1,5 +1,5 @@
 use Rattle.std.proofs.Common.{sym, ap, not, ◌&&◌, ◌∙◌}
-use Rattle.txn_replay.specs.Replica.{are_once}
+use Rattle.txn_replay.specs.Held.{are_once}
 use Rattle.txn_replay.proofs.pendings.are_apart.Goals as goal
 
 pub returns-then-is_again : goal.returns-then-is_again

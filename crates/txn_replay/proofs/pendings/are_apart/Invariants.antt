@@ -1,5 +1,5 @@
 use Rattle.std.proofs.Common.{◌≡◌, ℕ, length}
-use Rattle.txn_replay.specs.Replica.{are_once}
+use Rattle.txn_replay.specs.Held.{are_once}
 use Rattle.txn_replay.proofs.pendings.are_apart.Given as goal
 
 abbrev pub invariant-loop-first : goal.invariant-loop-first

@@ -2,7 +2,7 @@ use Rattle.std.proofs.Common.{◌≡◌, ℕ, ◌<◌, List, Option, Some, get_o
 use Rattle.txn_core.specs.declared.answer.HeldItem.{HeldItem}
 use Rattle.txn_core.specs.Effects.{Effect}
 use Rattle.txn_core.specs.State.{holder, state_after}
-use Rattle.txn_replay.specs.Replica.{IsReplica}
+use Rattle.replay_state.specs.Replica.{IsReplica}
 use Rattle.txn_replay.proofs.pendings.are_held_there.Given as goal
 
 abbrev pub invariant-loop-held : goal.invariant-loop-held

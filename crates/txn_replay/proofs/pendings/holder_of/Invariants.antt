@@ -1,5 +1,5 @@
 use Rattle.std.proofs.Common.{◌≡◌, ℕ, ◌<◌, get_or, None}
-use Rattle.txn_replay.specs.Replica.{held_as}
+use Rattle.txn_replay.specs.Held.{held_as}
 use Rattle.txn_replay.proofs.pendings.holder_of.Given as goal
 
 abbrev pub invariant-loop-slot : goal.invariant-loop-slot

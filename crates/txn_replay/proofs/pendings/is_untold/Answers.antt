@@ -1,5 +1,5 @@
 use Rattle.std.proofs.Common.{◌∙◌, ◌&&◌, not, nat_eq, sym, ap}
-use Rattle.txn_replay.specs.Replica.{untold}
+use Rattle.txn_replay.specs.Held.{untold}
 use Rattle.txn_replay.proofs.pendings.is_untold.Goals as goal
 
 pub returns : goal.returns

@@ -1,0 +1,5 @@
+pub mod Items
+pub mod Replica
+pub mod Ledger
+pub mod Feeding
+pub mod Fed
