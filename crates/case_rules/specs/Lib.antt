@@ -1,0 +1,10 @@
+pub mod Keys
+pub mod KeyLaws
+pub mod Catalogs
+pub mod TableLaws
+pub mod Actions
+pub mod Rows
+pub mod Parameters
+pub mod ParameterLaws
+pub mod Shop
+pub mod Laws
