@@ -1,11 +1,23 @@
-//! Laws of transactions and of the index feed, at a type, and histories by hand.
+//! Laws of transactions and of the index feed, at types that they hold of, and histories by hand.
 #![tactic(auto)]
 
 #[cfg(test)]
-mod feed;
+mod asks;
 #[cfg(test)]
-mod protocol;
+mod courses;
 #[cfg(test)]
-mod replay;
+mod judged;
+#[cfg(test)]
+mod laws;
+#[cfg(test)]
+mod lines;
+#[cfg(test)]
+mod replies;
+#[cfg(test)]
+mod shop;
 #[cfg(test)]
 mod simple;
+#[cfg(test)]
+mod tables;
+#[cfg(test)]
+mod transactions;
