@@ -1,0 +1,12 @@
+pub mod FaultTests
+pub mod FirstFaults
+pub mod Exact
+pub mod Numbers
+pub mod Lookups
+pub mod KeptTypes
+pub mod Steady
+pub mod Lawful
+pub mod Ties
+pub mod Making
+pub mod Keeping
+pub mod CatalogsKept

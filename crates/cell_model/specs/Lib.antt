@@ -1,0 +1,15 @@
+-- The definitions in reading order: keys and their order; the catalog; what actions say and do, and which are the same;
+-- the first fault of a schema; commands; index rows; pages; and what the protocol needs to know of all these.
+pub mod Keys
+pub mod KeyLaws
+pub mod Catalogs
+pub mod Actions
+pub mod ActionCodes
+pub mod SameActions
+pub mod FirstFault
+pub mod Commands
+pub mod IndexRows
+pub mod Pages
+pub mod Service
+pub mod Laws
+pub mod KeptCatalogs

@@ -1,0 +1,51 @@
+//! Actions on items.
+
+ghost use Rattle.std.specs.Prelude.{◌≡◌};
+ghost use Rattle.cell_model.specs.Actions.{stated_action};
+
+use crate::key::CellKey;
+use std::marker::Model;
+use table_request::TransactAction;
+
+/// An action on one item, with the item's key, which was computed once.
+///
+/// Contracts see what it says, its expressions by their trees.
+#[derive(Drop)]
+pub struct KeyedAction {
+    key: CellKey,
+    action: TransactAction,
+}
+
+impl Model for KeyedAction {
+    ghost use Rattle.cell_model.specs.Actions.{ItemAction, stated_action};
+    ghost use Rattle.cell_model.specs.ActionCodes.{action_code};
+
+    ghost Value = { ItemAction };
+
+    ghost coded = { action_code };
+
+    ghost view = { λ a. stated_action a.key a.action };
+}
+
+impl KeyedAction {
+    /// The action on the item of this key.
+    pub fn new(key: CellKey, action: TransactAction) -> KeyedAction
+        ensures { result ≡ stated_action key action }
+    {
+        KeyedAction { key, action }
+    }
+
+    /// The item that it is on.
+    pub fn key(&self) -> &CellKey
+        ensures { result.now ≡ self.now.key }
+    {
+        &self.key
+    }
+
+    /// What is done to the item.
+    pub fn action(&self) -> &TransactAction
+        ensures { self.now ≡ stated_action self.now.key result.now }
+    {
+        &self.action
+    }
+}

@@ -1,0 +1,52 @@
+//! Questions about the catalog, and pages of rows.
+
+use base_types::Text;
+use page_ranges::Span;
+use row_keys::Position;
+
+/// What a page may still take.
+#[derive(Clone, Copy, PartialEq, Eq)]
+pub struct PageRoom {
+    /// How many rows, where there is a limit.
+    pub rows: Option<u64>,
+    /// How many bytes, the one that ends the page included.
+    pub bytes: u64,
+}
+
+/// Whose rows a page has.
+#[derive(Clone, Copy)]
+pub enum PageSource {
+    /// The table's own.
+    Table,
+    /// Those of the local index at this place among the schema's, from 0.
+    Local { place: u64 },
+    /// Those of the global index of this number.
+    Global { number: u64 },
+}
+
+/// A page of the rows of one cell (API Reference: Query, Scan).
+#[derive(Drop)]
+pub struct PageQuestion {
+    /// The table's number.
+    pub table: u64,
+    pub source: PageSource,
+    /// The keys, in what is read, of the rows that are asked for: one partition key's, or those at some places. The cell
+    /// is that of its low end.
+    pub span: Span,
+    /// Whether the rows come in ascending order.
+    pub forward: bool,
+    /// Where the page goes on: behind this position.
+    pub after: Option<Position>,
+    pub room: PageRoom,
+}
+
+/// What is asked of the catalog, or of a cell's rows.
+#[derive(Drop)]
+pub enum CatalogQuestion {
+    /// The table of this name.
+    Look { name: Text },
+    /// The names of tables, at most so many, from behind the one that is given.
+    Names { after: Option<Text>, limit: u64 },
+    /// A page of rows.
+    Page(PageQuestion),
+}
