@@ -1,0 +1,18 @@
+//! Real tables meet what the protocol of transactions asks of tables.
+//!
+//! [`TableRules`] is the type: its keys are [`CellKey`](cell_model::CellKey)s, an item is shared, an action is one of a
+//! TransactWriteItems with its key, and the catalog is that of `cell_model`. What each call answers is what the definitions
+//! there say, for every number of partitions, so that a history of the cells can be replayed.
+#![tactic(auto)]
+
+mod act;
+mod answers;
+mod copies;
+mod equal;
+mod keys;
+mod questions;
+mod rows;
+mod rules;
+mod told;
+
+pub use rules::TableRules;

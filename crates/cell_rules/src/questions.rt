@@ -1,0 +1,97 @@
+//! Where pages are asked, and of what.
+
+ghost use Rattle.std.specs.Prelude.{◌≡◌, ◌≤◌, nat_eq};
+ghost use Rattle.std.specs.List.{list_any};
+ghost use Rattle.std.specs.Option.{option_copied};
+ghost use Rattle.cell_model.specs.Catalogs.{index_numbers};
+ghost use Rattle.cell_model.specs.Pages.{place_or, page_cell, index_number, page_index, has_source, has_source_in, serves};
+
+use crate::keys::cell_at;
+use cell_catalog::{index_numbered, table_numbered};
+use cell_model::{Catalog, CatalogQuestion, CatalogTable, PageSource};
+use row_keys::RowKey;
+
+/// The key's place, or 0.
+fn place_or(key: &Option<RowKey>) -> u64
+    ensures { result ≡ place_or key.now }
+{
+    match key {
+        Some(key) => key.place,
+        None => 0,
+    }
+}
+
+/// The partition of a page of rows: that of the low end of its span.
+pub(crate) fn page_cell(partitions: u32, question: &CatalogQuestion) -> u32
+    requires { 1 ≤ partitions }
+    ensures { result ≡ page_cell partitions question.now }
+{
+    match question {
+        CatalogQuestion::Page(page) => cell_at(partitions, place_or(&page.span.low)),
+        CatalogQuestion::Look { .. } => cell_at(partitions, 0),
+        CatalogQuestion::Names { .. } => cell_at(partitions, 0),
+    }
+}
+
+/// The number of the global index whose rows they are.
+fn index_number(source: PageSource) -> Option<u64>
+    ensures { result ≡ index_number source }
+{
+    match source {
+        PageSource::Global { number } => Some(number),
+        PageSource::Table => None,
+        PageSource::Local { .. } => None,
+    }
+}
+
+/// The number of the global index that a page is of.
+pub(crate) fn page_index(question: &CatalogQuestion) -> Option<u64>
+    ensures { result ≡ page_index question.now }
+{
+    match question {
+        CatalogQuestion::Page(page) => index_number(page.source),
+        CatalogQuestion::Look { .. } => None,
+        CatalogQuestion::Names { .. } => None,
+    }
+}
+
+/// Whether the table has a global index of this number.
+fn has_index(table: &CatalogTable, number: u64) -> bool
+    ensures { result ≡ list_any (λ other. nat_eq other number) (index_numbers table.now) }
+{
+    index_numbered(table, number).is_some()
+}
+
+/// Whether the table has what is read.
+fn has_source(table: &CatalogTable, source: PageSource) -> bool
+    ensures { result ≡ has_source table.now source }
+{
+    match source {
+        PageSource::Table => true,
+        PageSource::Local { place } => place < table.schema.locals.len() as u64,
+        PageSource::Global { number } => has_index(table, number),
+    }
+}
+
+/// Whether a table that may be there has what is read.
+fn has_source_in(table: Option<&CatalogTable>, source: PageSource) -> bool
+    ensures { result ≡ has_source_in (option_copied table.entry) source }
+{
+    match table {
+        Some(table) => has_source(table, source),
+        None => false,
+    }
+}
+
+/// Whether the catalog has the page's table and index.
+pub(crate) fn serves(catalog: &Catalog, question: &CatalogQuestion) -> bool
+    ensures { result ≡ serves catalog.now question.now }
+{
+    match question {
+        CatalogQuestion::Page(page) => {
+            has_source_in(table_numbered(catalog, page.table), page.source)
+        }
+        CatalogQuestion::Look { .. } => true,
+        CatalogQuestion::Names { .. } => true,
+    }
+}
