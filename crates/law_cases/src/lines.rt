@@ -2,6 +2,7 @@
 
 use crate::asks::{Ask, message};
 use crate::replies::{Reply, answer};
+use crate::shop::Change;
 use case_rules::Shop;
 use std::alloc::{AllocError as NoMemory, Global};
 use txn_core::{Entry, Event};
@@ -9,6 +10,10 @@ use txn_core::{Entry, Event};
 /// A line of a history. Entries are of pass 1 and at the moment 7 until a line says otherwise.
 #[derive(Clone, Copy)]
 pub(crate) enum Line {
+    /// The table of orders is made, as the table 1.
+    Orders,
+    /// Their index is made, as the index 2.
+    Index,
     /// An entry at a cell.
     At(u32, Ask, Reply),
     /// An entry over all cells.
@@ -26,6 +31,8 @@ pub(crate) fn history(alloc: Global, lines: &[Line]) -> Result<Vec<Event<Shop>>,
     let mut pass = 1;
     for line in lines {
         let (cell, ask, reply) = match *line {
+            Line::Orders => (None, Ask::Change(Change::MakeOrders), Reply::Changed(1)),
+            Line::Index => (None, Ask::Change(Change::MakeIndex), Reply::Changed(2)),
             Line::At(cell, ask, reply) => (Some(cell), ask, reply),
             Line::Over(ask, reply) => (None, ask, reply),
             Line::Moment(later) => {

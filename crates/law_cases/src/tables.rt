@@ -5,7 +5,7 @@ use crate::asks::Ask::{
     Scan, Version, Write,
 };
 use crate::judged::{Case, judge};
-use crate::lines::Line::{At, Moment, Over};
+use crate::lines::Line::{At, Index, Moment, Orders, Over};
 use crate::replies::Reply::{
     Accepted, Acked, Already, Applied, Begun, Changed, Decided, Empty, Fed, Full, HasIndex, Held,
     Holds, InUse, Invalid, Late, NoTable, Nothing, Out, Part, Row, Stale, Told, ToldNone, Unmet,
@@ -28,7 +28,7 @@ static LEGAL: &[Case] = &[
     // Conditions and faults of single writes.
     (
         &[
-            Over(Change(MakeOrders), Changed(1)),
+            Orders,
             At(1, Write(TakeThreeOfA), Invalid(Fault::NoItem)),
             At(1, Write(PutA), Written(None, Some(Eight))),
             At(1, Write(TakeThreeOfA), Written(Some(Eight), Some(Five))),
@@ -46,7 +46,7 @@ static LEGAL: &[Case] = &[
     (
         &[
             Over(Change(DropPayments), NoTable),
-            Over(Change(MakeOrders), Changed(1)),
+            Orders,
             Over(Change(MakeOrders), InUse),
             Over(Change(MakePayments), Changed(2)),
             At(0, Get(Payment), Row(Some(Five))),
@@ -72,7 +72,7 @@ static LEGAL: &[Case] = &[
     // A page has the orders of its cell, in the order of their keys.
     (
         &[
-            Over(Change(MakeOrders), Changed(1)),
+            Orders,
             At(1, Write(PutC), Written(None, Some(Five))),
             At(1, Write(PutA), Written(None, Some(Eight))),
             At(2, Write(PutB), Written(None, Some(Five))),
@@ -83,7 +83,7 @@ static LEGAL: &[Case] = &[
     // What is held stands in the way of its own table's commands.
     (
         &[
-            Over(Change(MakeOrders), Changed(1)),
+            Orders,
             Over(Change(MakePayments), Changed(2)),
             At(16, Begin(None, &[PutA]), Begun(1)),
             At(1, Prepare(1, PutA), Accepted),
@@ -98,8 +98,8 @@ static LEGAL: &[Case] = &[
     // nothing queues nothing, and a transaction's Apply queues what a write would.
     (
         &[
-            Over(Change(MakeOrders), Changed(1)),
-            Over(Change(MakeIndex), Changed(2)),
+            Orders,
+            Index,
             At(1, Write(NobodysA), Invalid(Fault::IndexKey)),
             At(1, Write(PutA), Written(None, Some(Eight))),
             At(1, Query(Orders1), Part(&[(A, Eight)])),
@@ -137,11 +137,11 @@ static LEGAL: &[Case] = &[
     // still waits is fed to nobody.
     (
         &[
-            Over(Change(MakeOrders), Changed(1)),
+            Orders,
             At(1, Write(PutA), Written(None, Some(Eight))),
             At(1, Peek, Empty),
             At(4, Query(Rows4), Stale),
-            Over(Change(MakeIndex), Changed(2)),
+            Index,
             At(1, Peek, Out(1, 4, RowOfA, Some(Eight))),
             Over(Change(DropOrders), Changed(1)),
             At(4, Feed(1, RowOfA, Some(Eight)), Already),
@@ -156,15 +156,12 @@ static LEGAL: &[Case] = &[
 /// What they don't answer, and changes of rows that come too early.
 static BROKEN: &[Case] = &[
     (
-        &[
-            Over(Change(MakeOrders), Changed(1)),
-            At(16, Begin(None, &[PutA]), Begun(2)),
-        ],
+        &[Orders, At(16, Begin(None, &[PutA]), Begun(2))],
         Some((1, WrongAnswer)),
     ),
     (
         &[
-            Over(Change(MakeOrders), Changed(1)),
+            Orders,
             At(16, Begin(None, &[PutA]), Begun(1)),
             At(1, Prepare(1, PutA), Accepted),
             At(1, Get(A), Row(Some(Eight))),
@@ -173,7 +170,7 @@ static BROKEN: &[Case] = &[
     ),
     (
         &[
-            Over(Change(MakeOrders), Changed(1)),
+            Orders,
             At(16, Begin(None, &[PutA]), Begun(1)),
             At(16, Begin(None, &[PutA]), Begun(2)),
             At(1, Prepare(1, PutA), Accepted),
@@ -184,48 +181,31 @@ static BROKEN: &[Case] = &[
     // A stamp of the same moment and a lower number isn't late.
     (
         &[
-            Over(Change(MakeOrders), Changed(1)),
+            Orders,
             At(1, Write(PutA), Written(None, Some(Eight))),
             At(16, Begin(None, &[PutA]), Begun(1)),
             At(1, Prepare(1, PutA), Late(0)),
         ],
         Some((3, WrongAnswer)),
     ),
+    (&[Orders, At(2, Get(A), Row(None))], Some((1, WrongAnswer))),
     (
-        &[
-            Over(Change(MakeOrders), Changed(1)),
-            At(2, Get(A), Row(None)),
-        ],
+        &[Orders, Moment(6), At(1, Get(A), Row(None))],
         Some((1, WrongAnswer)),
     ),
     (
-        &[
-            Over(Change(MakeOrders), Changed(1)),
-            Moment(6),
-            At(1, Get(A), Row(None)),
-        ],
-        Some((1, WrongAnswer)),
-    ),
-    (
-        &[
-            Over(Change(MakeOrders), Changed(1)),
-            At(1, Pendings(1), Holds(A, 1)),
-        ],
+        &[Orders, At(1, Pendings(1), Holds(A, 1))],
         Some((1, WrongAnswer)),
     ),
     // A number that was drawn comes again.
     (
-        &[
-            Over(Change(MakeOrders), Changed(1)),
-            Over(Change(DropOrders), Changed(1)),
-            Over(Change(MakeOrders), Changed(1)),
-        ],
+        &[Orders, Over(Change(DropOrders), Changed(1)), Orders],
         Some((2, WrongAnswer)),
     ),
     // The condition is false.
     (
         &[
-            Over(Change(MakeOrders), Changed(1)),
+            Orders,
             At(2, Write(NewB), Written(None, Some(Five))),
             At(2, Write(NewB), Written(Some(Five), Some(Five))),
         ],
@@ -235,7 +215,7 @@ static BROKEN: &[Case] = &[
     // table, and with one that isn't fed yet.
     (
         &[
-            Over(Change(MakeOrders), Changed(1)),
+            Orders,
             At(1, Write(PutA), Written(None, Some(Eight))),
             At(1, Query(Orders1), Part(&[])),
         ],
@@ -243,7 +223,7 @@ static BROKEN: &[Case] = &[
     ),
     (
         &[
-            Over(Change(MakeOrders), Changed(1)),
+            Orders,
             At(1, Write(PutC), Written(None, Some(Five))),
             At(1, Write(PutA), Written(None, Some(Eight))),
             At(1, Scan(Orders1), Part(&[(C, Five), (A, Eight)])),
@@ -252,7 +232,7 @@ static BROKEN: &[Case] = &[
     ),
     (
         &[
-            Over(Change(MakeOrders), Changed(1)),
+            Orders,
             At(2, Write(PutB), Written(None, Some(Five))),
             At(1, Query(Orders1), Part(&[(B, Five)])),
         ],
@@ -260,7 +240,7 @@ static BROKEN: &[Case] = &[
     ),
     (
         &[
-            Over(Change(MakeOrders), Changed(1)),
+            Orders,
             Over(Change(MakePayments), Changed(2)),
             At(0, Scan(Orders0), Part(&[(Payment, Five)])),
         ],
@@ -268,8 +248,8 @@ static BROKEN: &[Case] = &[
     ),
     (
         &[
-            Over(Change(MakeOrders), Changed(1)),
-            Over(Change(MakeIndex), Changed(2)),
+            Orders,
+            Index,
             At(1, Write(PutA), Written(None, Some(Eight))),
             At(4, Query(Rows4), Part(&[(RowOfA, Eight)])),
         ],
@@ -278,8 +258,8 @@ static BROKEN: &[Case] = &[
     // A change that waits isn't shown, shown with another row, or under another number.
     (
         &[
-            Over(Change(MakeOrders), Changed(1)),
-            Over(Change(MakeIndex), Changed(2)),
+            Orders,
+            Index,
             At(1, Write(PutA), Written(None, Some(Eight))),
             At(1, Peek, Empty),
         ],
@@ -287,8 +267,8 @@ static BROKEN: &[Case] = &[
     ),
     (
         &[
-            Over(Change(MakeOrders), Changed(1)),
-            Over(Change(MakeIndex), Changed(2)),
+            Orders,
+            Index,
             At(1, Write(PutA), Written(None, Some(Eight))),
             At(1, Peek, Out(1, 4, RowOfA, Some(Five))),
         ],
@@ -296,8 +276,8 @@ static BROKEN: &[Case] = &[
     ),
     (
         &[
-            Over(Change(MakeOrders), Changed(1)),
-            Over(Change(MakeIndex), Changed(2)),
+            Orders,
+            Index,
             At(1, Write(PutA), Written(None, Some(Eight))),
             At(1, Peek, Out(2, 4, RowOfA, Some(Eight))),
         ],
@@ -306,9 +286,9 @@ static BROKEN: &[Case] = &[
     // The new row comes behind the removal of the old one.
     (
         &[
-            Over(Change(MakeOrders), Changed(1)),
+            Orders,
             At(1, Write(PutA), Written(None, Some(Eight))),
-            Over(Change(MakeIndex), Changed(2)),
+            Index,
             At(1, Peek, Out(1, 4, RowOfA, Some(Eight))),
             At(4, Feed(1, RowOfA, Some(Eight)), Fed),
             At(1, Ack(1), Acked),
@@ -320,8 +300,8 @@ static BROKEN: &[Case] = &[
     // Fed twice, acknowledged before it is fed, fed before it is shown, and fed with another row.
     (
         &[
-            Over(Change(MakeOrders), Changed(1)),
-            Over(Change(MakeIndex), Changed(2)),
+            Orders,
+            Index,
             At(1, Write(PutA), Written(None, Some(Eight))),
             At(1, Peek, Out(1, 4, RowOfA, Some(Eight))),
             At(4, Feed(1, RowOfA, Some(Eight)), Fed),
@@ -331,8 +311,8 @@ static BROKEN: &[Case] = &[
     ),
     (
         &[
-            Over(Change(MakeOrders), Changed(1)),
-            Over(Change(MakeIndex), Changed(2)),
+            Orders,
+            Index,
             At(1, Write(PutA), Written(None, Some(Eight))),
             At(1, Peek, Out(1, 4, RowOfA, Some(Eight))),
             At(1, Ack(1), Acked),
@@ -341,8 +321,8 @@ static BROKEN: &[Case] = &[
     ),
     (
         &[
-            Over(Change(MakeOrders), Changed(1)),
-            Over(Change(MakeIndex), Changed(2)),
+            Orders,
+            Index,
             At(1, Write(PutA), Written(None, Some(Eight))),
             At(4, Feed(1, RowOfA, Some(Eight)), Fed),
         ],
@@ -350,8 +330,8 @@ static BROKEN: &[Case] = &[
     ),
     (
         &[
-            Over(Change(MakeOrders), Changed(1)),
-            Over(Change(MakeIndex), Changed(2)),
+            Orders,
+            Index,
             At(1, Write(PutA), Written(None, Some(Eight))),
             At(1, Peek, Out(1, 4, RowOfA, Some(Eight))),
             At(4, Feed(1, RowOfA, Some(Five)), Fed),

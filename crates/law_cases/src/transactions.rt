@@ -5,7 +5,7 @@ use crate::asks::Ask::{
     Release, Unfinished, Write,
 };
 use crate::judged::{Case, judge};
-use crate::lines::Line::{At, Moment, Over, Pass};
+use crate::lines::Line::{At, Moment, Orders, Over, Pass};
 use crate::replies::Reply::{
     Accepted, Applied, Begun, Changed, Decided, Finished, Forgotten, Held, Holds, Invalid, Is,
     Known, Late, Mismatch, Nothing, Number, Released, Repeat, Row, Running, Stale, Unknown, Unmet,
@@ -29,7 +29,7 @@ static LEGAL: &[Case] = &[
     // held isn't shown, and is written by nobody else.
     (
         &[
-            Over(Change(MakeOrders), Changed(1)),
+            Orders,
             At(16, Begin(Some("t"), &[PutA, PutB]), Begun(1)),
             At(16, Begin(Some("t"), &[PutA, PutB]), Running(1)),
             At(1, Prepare(1, PutA), Accepted),
@@ -61,7 +61,7 @@ static LEGAL: &[Case] = &[
     // Two that race a third: one finds an order held, and one comes too late.
     (
         &[
-            Over(Change(MakeOrders), Changed(1)),
+            Orders,
             At(16, Begin(None, &[PutA, PutB]), Begun(1)),
             At(16, Begin(None, &[PutA, PutB]), Begun(2)),
             At(16, Begin(None, &[PutA, PutB]), Begun(3)),
@@ -93,7 +93,7 @@ static LEGAL: &[Case] = &[
     // A condition is false, and nothing can be taken from an order that isn't there.
     (
         &[
-            Over(Change(MakeOrders), Changed(1)),
+            Orders,
             At(16, Begin(None, &[TakeThreeOfA, CheckB]), Begun(1)),
             At(1, Prepare(1, TakeThreeOfA), Invalid(Fault::NoItem)),
             At(2, Prepare(1, CheckB), Unmet(None)),
@@ -122,7 +122,7 @@ static LEGAL: &[Case] = &[
     // The table goes: that is a cause without reasons. A table that is made again is another one.
     (
         &[
-            Over(Change(MakeOrders), Changed(1)),
+            Orders,
             At(16, Begin(None, &[PutA, PutB]), Begun(1)),
             Over(Change(DropOrders), Changed(1)),
             Over(Change(MakeOrders), Changed(2)),
@@ -142,7 +142,7 @@ static LEGAL: &[Case] = &[
 static FORBIDDEN: &[Case] = &[
     (
         &[
-            Over(Change(MakeOrders), Changed(1)),
+            Orders,
             At(16, Begin(None, &[PutA, PutB]), Begun(1)),
             At(1, Prepare(1, PutA), Accepted),
             At(16, Commit(1), Decided(Committed, true)),
@@ -151,7 +151,7 @@ static FORBIDDEN: &[Case] = &[
     ),
     (
         &[
-            Over(Change(MakeOrders), Changed(1)),
+            Orders,
             At(16, Begin(None, &[PutA, PutB]), Begun(1)),
             At(1, Prepare(1, PutA), Accepted),
             At(2, Prepare(1, PutB), Accepted),
@@ -163,7 +163,7 @@ static FORBIDDEN: &[Case] = &[
     ),
     (
         &[
-            Over(Change(MakeOrders), Changed(1)),
+            Orders,
             At(16, Begin(None, &[PutA, CheckB]), Begun(1)),
             At(1, Prepare(1, PutA), Accepted),
             At(2, Prepare(1, CheckB), Unmet(None)),
@@ -177,7 +177,7 @@ static FORBIDDEN: &[Case] = &[
     ),
     (
         &[
-            Over(Change(MakeOrders), Changed(1)),
+            Orders,
             At(16, Begin(None, &[PutA, CheckB]), Begun(1)),
             At(1, Prepare(1, PutA), Accepted),
             At(2, Prepare(1, CheckB), Unmet(None)),
@@ -192,7 +192,7 @@ static FORBIDDEN: &[Case] = &[
     // One reason for two actions.
     (
         &[
-            Over(Change(MakeOrders), Changed(1)),
+            Orders,
             At(16, Begin(None, &[PutA, CheckB]), Begun(1)),
             At(1, Prepare(1, PutA), Accepted),
             At(2, Prepare(1, CheckB), Unmet(None)),
@@ -202,7 +202,7 @@ static FORBIDDEN: &[Case] = &[
     ),
     (
         &[
-            Over(Change(MakeOrders), Changed(1)),
+            Orders,
             At(16, Begin(None, &[PutA]), Begun(1)),
             At(1, Prepare(1, PutA), Accepted),
             At(1, Apply(1, A), Applied),
@@ -211,7 +211,7 @@ static FORBIDDEN: &[Case] = &[
     ),
     (
         &[
-            Over(Change(MakeOrders), Changed(1)),
+            Orders,
             At(16, Begin(None, &[PutA]), Begun(1)),
             At(1, Prepare(1, PutA), Accepted),
             At(16, Commit(1), Decided(Committed, true)),
@@ -221,7 +221,7 @@ static FORBIDDEN: &[Case] = &[
     ),
     (
         &[
-            Over(Change(MakeOrders), Changed(1)),
+            Orders,
             At(16, Begin(None, &[PutA]), Begun(1)),
             At(1, Prepare(1, PutA), Accepted),
             At(16, Commit(1), Decided(Committed, true)),
@@ -233,7 +233,7 @@ static FORBIDDEN: &[Case] = &[
     // A pass forgets its own transactions alone.
     (
         &[
-            Over(Change(MakeOrders), Changed(1)),
+            Orders,
             At(16, Begin(None, &[PutA]), Begun(1)),
             At(1, Prepare(1, PutA), Accepted),
             At(16, Commit(1), Decided(Committed, true)),
@@ -245,52 +245,34 @@ static FORBIDDEN: &[Case] = &[
         Some((6, EarlyForget)),
     ),
     (
-        &[
-            Over(Change(MakeOrders), Changed(1)),
-            At(1, Prepare(1, PutA), Accepted),
-        ],
+        &[Orders, At(1, Prepare(1, PutA), Accepted)],
         Some((1, NotBegun)),
     ),
     (
         &[
-            Over(Change(MakeOrders), Changed(1)),
+            Orders,
             At(16, Begin(None, &[PutA]), Begun(1)),
             At(1, Prepare(1, DeleteA), Accepted),
         ],
         Some((2, NotBegun)),
     ),
     (
-        &[
-            Over(Change(MakeOrders), Changed(1)),
-            At(16, Commit(1), Decided(Gone, false)),
-        ],
+        &[Orders, At(16, Commit(1), Decided(Gone, false))],
         Some((1, NotBegun)),
     ),
     (
-        &[
-            Over(Change(MakeOrders), Changed(1)),
-            At(16, Begin(None, &[]), Begun(1)),
-        ],
+        &[Orders, At(16, Begin(None, &[]), Begun(1))],
         Some((1, NotBegun)),
     ),
     (
-        &[
-            Over(Change(MakeOrders), Changed(1)),
-            At(16, Begin(None, &[PutA, DeleteA]), Begun(1)),
-        ],
+        &[Orders, At(16, Begin(None, &[PutA, DeleteA]), Begun(1))],
         Some((1, NotBegun)),
     ),
     (
         &[At(3, Change(MakeOrders), Changed(1))],
         Some((0, AllCells)),
     ),
-    (
-        &[
-            Over(Change(MakeOrders), Changed(1)),
-            Over(Get(A), Row(None)),
-        ],
-        Some((1, AllCells)),
-    ),
+    (&[Orders, Over(Get(A), Row(None))], Some((1, AllCells))),
 ];
 
 #[test]
