@@ -16,8 +16,6 @@ mod replies;
 #[cfg(test)]
 mod shop;
 #[cfg(test)]
-mod simple;
-#[cfg(test)]
 mod tables;
 #[cfg(test)]
 mod transactions;
