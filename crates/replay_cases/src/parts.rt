@@ -1,0 +1,117 @@
+//! A table with a global index, and its one item.
+
+use attr_value::{Item, Value};
+use base_types::{Seq, Text};
+use cell_model::{CellKey, IndexRowKey, ItemKey, KeyedAction};
+use item_keys::{Key, KeyValue};
+use row_keys::{Position, RowKey};
+use shared_item::SharedItem;
+use std::alloc::{AllocError as NoMemory, Global};
+use table_request::{Change, TransactAction};
+use table_schema::{Definition, GlobalIndex, KeyKind, KeyNames, Projection, Schema};
+
+/// When everything happens.
+pub(crate) const MOMENT: u64 = 5;
+
+fn definition(alloc: Global, name: &str) -> Result<Definition, NoMemory> {
+    Ok(Definition {
+        name: Text::copied(alloc, name)?,
+        kind: KeyKind::S,
+    })
+}
+
+fn keys(alloc: Global, name: &str) -> Result<KeyNames, NoMemory> {
+    Ok(KeyNames {
+        partition: Text::copied(alloc, name)?,
+        sort: None,
+    })
+}
+
+fn globals(alloc: Global) -> Result<Seq<GlobalIndex>, NoMemory> {
+    let mut globals = Seq::new(alloc);
+    globals.push(GlobalIndex {
+        name: Text::copied(alloc, "by_kind")?,
+        keys: keys(alloc, "kind")?,
+        projection: Projection::KeysOnly,
+    })?;
+    Ok(globals)
+}
+
+/// A table with the key `id` and an index with the key `kind`.
+pub(crate) fn schema(alloc: Global) -> Result<Schema, NoMemory> {
+    let mut definitions = Seq::new(alloc);
+    definitions.push(definition(alloc, "id")?)?;
+    definitions.push(definition(alloc, "kind")?)?;
+    Ok(Schema {
+        name: Text::copied(alloc, "Tab")?,
+        definitions,
+        keys: keys(alloc, "id")?,
+        locals: Seq::new(alloc),
+        globals: globals(alloc)?,
+        on_demand: true,
+        read_units: 0,
+        write_units: 0,
+        created: MOMENT,
+    })
+}
+
+/// The key of this text.
+pub(crate) fn row_key(alloc: Global, text: &str) -> Result<RowKey, NoMemory> {
+    let key = Key {
+        partition: KeyValue::S(Text::copied(alloc, text)?),
+        sort: None,
+    };
+    Ok(RowKey::from(key.placed(alloc)?))
+}
+
+fn attribute(alloc: Global, item: &mut Item, name: &str, text: &str) -> Result<(), NoMemory> {
+    item.put(
+        Text::copied(alloc, name)?,
+        Value::S(Text::copied(alloc, text)?),
+    )?;
+    Ok(())
+}
+
+fn plain_item(alloc: Global) -> Result<Item, NoMemory> {
+    let mut item = Item::new(alloc);
+    attribute(alloc, &mut item, "id", "a")?;
+    attribute(alloc, &mut item, "kind", "b")?;
+    Ok(item)
+}
+
+/// The item `a`, whose kind is `b`. It has 8 bytes.
+pub(crate) fn item(alloc: Global) -> Result<SharedItem, NoMemory> {
+    SharedItem::new(alloc, plain_item(alloc)?)
+}
+
+/// Its key in the table of number 1.
+pub(crate) fn item_key(alloc: Global) -> Result<CellKey, NoMemory> {
+    Ok(CellKey::Item(ItemKey {
+        table: 1,
+        key: row_key(alloc, "a")?,
+    }))
+}
+
+/// The key of its row in the index, which has the number 2.
+pub(crate) fn index_key(alloc: Global) -> Result<CellKey, NoMemory> {
+    Ok(CellKey::Row(IndexRowKey {
+        table: 1,
+        index: 2,
+        at: Position {
+            read: row_key(alloc, "b")?,
+            item: row_key(alloc, "a")?,
+        },
+    }))
+}
+
+/// Puts the item.
+pub(crate) fn put(alloc: Global) -> Result<KeyedAction, NoMemory> {
+    let action = TransactAction {
+        table: Text::copied(alloc, "Tab")?,
+        change: Change::Put(plain_item(alloc)?),
+        condition: None,
+        values: Seq::new(alloc),
+        show_old: false,
+    };
+    Ok(KeyedAction::new(item_key(alloc)?, action))
+}
