@@ -5,7 +5,7 @@
 //! number by number and token by token in `specs/`, in the terms that `txn_core` has for the control cell. That both say the
 //! same is left to the layer above, which also compares and copies actions.
 //!
-//! Only [`TxnLedger::begin`] takes memory: what decides, finishes and forgets a transaction can't run out.
+//! What decides, finishes and forgets a transaction takes no memory and has no error.
 #![tactic(auto)]
 
 mod ledger;
