@@ -14,8 +14,6 @@ pub mod Causes
 pub mod Prefix
 pub mod Versions
 pub mod TokenLife
-mod Rows
-mod ApartRows
 pub mod Records
 pub mod Drives
 pub mod CourseEnds
@@ -26,6 +24,7 @@ pub mod FeedLegality
 pub mod Locality
 pub mod CellAnswers
 pub mod Writes
+pub mod Removals
 pub mod Moves
 pub mod Cancels
 pub mod Accepted

@@ -8,9 +8,9 @@ use Rattle.txn_core.specs.declared.outcome.Outcome.TheVariants.{New, Unmet, Fail
 use Rattle.txn_core.specs.Stamps.{IsBy}
 use Rattle.txn_core.specs.Protocol.{Protocol}
 use Rattle.txn_core.specs.Service.{Service, Asked, Reply, Event, History}
-use Rattle.txn_core.specs.Effects.{Effect, Commits}
+use Rattle.txn_core.specs.Effects.{Effect, Wrote, Commits}
 use Rattle.txn_core.specs.State.{Pending, State, holder, last, on_item, here, state_after}
-use Rattle.txn_core.specs.Serial.{Change, begun_stamp, begun_actions, decisions, serial, standings, once_whole, catalog_of, tables, waiting, shown, point, IsStampOrder}
+use Rattle.txn_core.specs.Serial.{Change, Single, begun_stamp, begun_actions, decisions, serial, standings, once_whole, catalog_of, tables, waiting, shown, point, IsStampOrder}
 use Rattle.txn_core.specs.History.{is_written, is_applied, is_changed, is_first, tells_commit, effect, effects, Had, begins, commits, cancels, finishes, finds_no_table, IsTimely, is_over}
 use Rattle.std.specs.List.{list_any}
 use Rattle.txn_core.specs.Tokens.{draws, cancels_first, first_done, LivesOn, Names}
@@ -156,6 +156,18 @@ module _ {K V A F C D Q B : Type 0} (S : Service K V A F C D Q B) where
   -- the catalog that the cells hold is that of the one order
   abbrev pub CatalogIsSerial : Type 0
   CatalogIsSerial = (es : History S) → (state S es).catalog ≡ catalog_by es
+
+  -- an entry that writes an item's removal leaves the item absent, in its cell and in the tables
+  abbrev pub RemovalsLeaveNone : Type 0
+  RemovalsLeaveNone =
+      (e : Event S) (es : History S) (q : K) (moment : ℕ) → effect e ≡ Wrote (S.core.removal q) moment
+      → (row_of S.core (effects (e ∷ es)) q ≡ None) × (item_by (e ∷ es) q ≡ None)
+
+  -- and stands in the one order as any other accepted write does
+  abbrev pub RemovalsAreSingle : Type 0
+  RemovalsAreSingle =
+      (e : Event S) (es : History S) (q : K) (moment : ℕ) → effect e ≡ Wrote (S.core.removal q) moment
+      → order (e ∷ es) ≡ Single (S.core.removal q) ∷ order es
 
   -- [Timestamp order]: transactions of the one order that share an item stand in the order of their stamps
   abbrev pub StampsRise : Type 0

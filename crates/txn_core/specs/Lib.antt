@@ -18,5 +18,3 @@ pub mod Driver
 pub mod Cells
 pub mod Laws
 pub mod Indexes
-pub mod Simple
-pub mod SimpleLaws

@@ -26,6 +26,25 @@ pub struct Entry<K, V, A, F, D, Q, B> {
     pub moment: u64,
 }
 
+/// What is asked, with the keys, values and actions of these rules.
+pub type Asked<R> = Message<
+    <R as Rules>::Key,
+    <R as Rules>::Value,
+    <R as Rules>::Action,
+    <R as Rules>::Fault,
+    <R as Rules>::Command,
+    <R as Rules>::Question,
+>;
+
+/// What is answered, with the keys, values and actions of these rules.
+pub type Reply<R> = Answer<
+    <R as Rules>::Key,
+    <R as Rules>::Value,
+    <R as Rules>::Action,
+    <R as Rules>::Fault,
+    <R as Rules>::Told,
+>;
+
 /// An entry with the keys, values and actions of these rules.
 pub type Event<R> = Entry<
     <R as Rules>::Key,

@@ -7,7 +7,7 @@ ghost use Rattle.txn_core.specs.Replay.{are_apart, touch, HadOnEach, RefusesWith
 ghost use Rattle.txn_core.specs.declared.reason.Reason.{Reason};
 
 use crate::answer::Answer;
-use crate::entry::Event;
+use crate::entry::{Event, Reply};
 use crate::fact::{Fact, ItemFact};
 use crate::message::Message;
 use crate::past::{was, was_on};
@@ -81,10 +81,7 @@ pub fn are_equal_items<R: Rules>(left: &Option<R::Value>, right: &Option<R::Valu
 }
 
 /// Whether a Prepare's answer gives this reason.
-fn gives<R: Rules>(
-    answer: &Answer<R::Key, R::Value, R::Action, R::Fault, R::Told>,
-    reason: &Reason<R::Value, R::Fault>,
-) -> bool
+fn gives<R: Rules>(answer: &Reply<R>, reason: &Reason<R::Value, R::Fault>) -> bool
     ensures { IsTrue result ↔ (reason_of answer.now ≡ Some reason.now) }
 {
     match (answer, reason) {

@@ -7,7 +7,7 @@
 //! entries change in `specs/History.antt` and `specs/State.antt`, and the one order, with the
 //! tables that it makes, in `specs/Serial.antt`, with no word of cells.
 ghost use Rattle.std.specs.Prelude.{ℕ};
-ghost use Rattle.txn_core.specs.Laws.{RowsAreShown, ImagesAreTables, NumbersAreDecidedOnce, CommittedStandOnce, ActionsKeepTheirOutcome, HeldIsAccepted, FirstDecisionStands, OthersLeaveTheOrder, WritesAreSerial, CatalogIsSerial, StampsRise, GetsAreShown, PointsNeverFall, PointsPassOwn, TokensDrawOnce, LaterBeginsName, TimeEndsLife, CancelEndsLife, StaleBeginsAreReal, RepeatsAreDone, ReadsAreAtOnePoint, HeldIsReal, LateIsReal, MovedIsReal, ReadHoldersAreReal, MovedItemIsReal, CancelsAreReal, BeginningsAllow, RulesAreAll};
+ghost use Rattle.txn_core.specs.Laws.{RowsAreShown, ImagesAreTables, NumbersAreDecidedOnce, CommittedStandOnce, ActionsKeepTheirOutcome, HeldIsAccepted, FirstDecisionStands, OthersLeaveTheOrder, WritesAreSerial, CatalogIsSerial, RemovalsLeaveNone, RemovalsAreSingle, StampsRise, GetsAreShown, PointsNeverFall, PointsPassOwn, TokensDrawOnce, LaterBeginsName, TimeEndsLife, CancelEndsLife, StaleBeginsAreReal, RepeatsAreDone, ReadsAreAtOnePoint, HeldIsReal, LateIsReal, MovedIsReal, ReadHoldersAreReal, MovedItemIsReal, CancelsAreReal, BeginningsAllow, RulesAreAll};
 
 use crate::rules::Rules;
 
@@ -39,6 +39,13 @@ pub fn one_fate<R: Rules>()
 pub fn writes_are_serial<R: Rules>()
     ensures writes { (n : ℕ) → WritesAreSerial (R.protocol n) }
     ensures catalog { (n : ℕ) → CatalogIsSerial (R.protocol n) }
+{}
+
+/// The write of an item's removal leaves the item absent, in its cell and in the tables, and stands
+/// in the one order as any other accepted write does.
+pub fn removals_leave_none<R: Rules>()
+    ensures gone { (n : ℕ) → RemovalsLeaveNone (R.protocol n) }
+    ensures single { (n : ℕ) → RemovalsAreSingle (R.protocol n) }
 {}
 
 /// [Timestamp order]. Two transactions of the one order that share an item stand in the order of

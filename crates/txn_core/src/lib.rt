@@ -16,7 +16,8 @@
 //! that a driver who follows the course sends nothing that is forbidden.
 //!
 //! [`sending_check`] reads a list of entries and finds the first that nobody may send, with the
-//! first rule that it breaks. It takes answers as they stand. [`laws::rules_one_by_one`] says that
+//! first rule that it breaks; [`past`] has what it asks the entries before. It takes answers as they
+//! stand. [`laws::rules_one_by_one`] says that
 //! its rules and that of answers are together what makes a history legal.
 //!
 //! What the cells hold beside items is a fold of its own over the same entries: the outboxes of
@@ -28,8 +29,7 @@
 //! `Serial` (the one order and its tables), `Answers`, `History`, `Feeding` (outboxes, marks and
 //! index rows) and `Legal` (legal histories), `Breaks` (their rules one by one), `Replay` (words of
 //! the checker), `Tokens`, `Course` and `Driver`, `Cells` (what the cells hold apart), `Laws` and
-//! `Indexes`. `Simple` is one table of numbers on which they are tried; `proofs/Rows.antt` has worked
-//! histories, legal and not.
+//! `Indexes`.
 #![tactic(auto)]
 
 mod answer;
@@ -46,7 +46,7 @@ pub mod laws;
 mod message;
 mod order;
 mod outcome;
-mod past;
+pub mod past;
 mod reason;
 mod replay;
 mod rules;
@@ -56,7 +56,8 @@ mod verdict;
 
 pub use answer::{Answer, HeldItem};
 pub use course::{Course, Move};
-pub use entry::{Entry, Event};
+pub use entry::{Asked, Entry, Event, Reply};
+pub use fact::{Fact, ItemFact};
 pub use fate::Fate;
 pub use kind::BreakKind;
 pub use message::Message;

@@ -7,7 +7,7 @@ ghost use Rattle.txn_core.specs.Replay.{IsFinishable, IsSettled, is_command};
 ghost use Rattle.txn_core.specs.declared.message.Message.{Message};
 ghost use Rattle.txn_core.specs.Breaks.{HaveOneReach, NamesBegun, HasGroundFor, AppliesLate, ReleasesLate, FinishesLate, ForgetsLate, FeedsInOrder};
 
-use crate::entry::Event;
+use crate::entry::{Asked, Event};
 use crate::fact::{Fact, ItemFact};
 use crate::grounds::{are_apart, has_cause, is_action_of, was_on_all, was_peeked};
 use crate::message::Message;
@@ -15,16 +15,6 @@ use crate::past::{actions_of, stamp_of, was, was_begun_by, was_fed};
 use crate::reason::Reason;
 use crate::rules::Rules;
 use crate::stamp::Stamp;
-
-/// A message under these rules.
-pub type Asked<R> = Message<
-    <R as Rules>::Key,
-    <R as Rules>::Value,
-    <R as Rules>::Action,
-    <R as Rules>::Fault,
-    <R as Rules>::Command,
-    <R as Rules>::Question,
->;
 
 /// Whether a Begin has 1 to 100 actions on items that differ, and a Prepare and a Decide name a
 /// begun number, a Prepare with its stamp and one of its actions.

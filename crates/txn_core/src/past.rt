@@ -1,5 +1,5 @@
-//! What the entries before say. They are given in order of time; the words of a history go by the
-//! newest first.
+//! What the entries before say: the calls of whoever reads a history, here and in the crates above.
+//! The entries are given in order of time; the words of a history go by the newest first.
 ghost use Rattle.std.specs.Prelude.{◌≡◌, ℕ, reverse};
 ghost use Rattle.std.specs.List.{list_any};
 ghost use Rattle.txn_core.specs.Serial.{begun_stamp, begun_actions};

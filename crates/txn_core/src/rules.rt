@@ -72,6 +72,14 @@ pub trait Rules {
     ) -> Result<Outcome<Self::Value, Self::Fault>, NoMemory>
         ensures { IfOk result (λ outcome. (partitions : ℕ) → outcome ≡ (protocol partitions).core.act catalog.now action.now (option_copied item.entry)) };
 
+    /// The action that removes an item, whatever it holds.
+    fn removal(alloc: Global, key: &Self::Key) -> Result<Self::Action, NoMemory>
+        ensures { IfOk result (λ action. (partitions : ℕ) → action ≡ (protocol partitions).core.removal key.now) };
+
+    /// Whether what an item holds is expired at a moment, in microseconds since 1970-01-01T00:00:00Z.
+    fn is_expired(catalog: &Self::Catalog, key: &Self::Key, item: &Self::Value, moment: u64) -> bool
+        ensures { (partitions : ℕ) → result ≡ (protocol partitions).core.expired catalog.now key.now item.now moment };
+
     /// The catalog without a table.
     fn no_table(alloc: Global) -> Result<Self::Catalog, NoMemory>
         ensures { IfOk result (λ catalog. (partitions : ℕ) → catalog ≡ (protocol partitions).core.empty) };
@@ -214,7 +222,7 @@ pub trait Rules {
     /// The partitions are the cells below the control cell.
     ghost numbered: { (partitions : ℕ) → (protocol partitions).control ≡ partitions };
 
-    /// Keys that stand for one item can't be told apart, the number of a table never comes again,
-    /// and a command spares the tables that it doesn't concern.
+    /// Keys that stand for one item can't be told apart, removals remove, the number of a table
+    /// never comes again, and a command spares the tables that it doesn't concern.
     ghost lawful: { (partitions : ℕ) → IsServiceLawful (protocol partitions) };
 }
