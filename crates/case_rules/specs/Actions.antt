@@ -3,6 +3,7 @@ use Rattle.std.specs.Prelude.{ℕ, ◌-◌, Bool, true, false, ◌&&◌, nat_eq,
 use Rattle.txn_core.specs.declared.outcome.Outcome.{Outcome}
 use Rattle.txn_core.specs.declared.outcome.Outcome.TheVariants.{New, Unmet, Fails}
 use Rattle.case_rules.specs.declared.item.Item.{Item}
+use Rattle.case_rules.specs.declared.key.Key.{Key}
 use Rattle.case_rules.specs.declared.action.Condition.{Condition}
 use Rattle.case_rules.specs.declared.action.Condition.TheVariants.{Always, Absent, Holds}
 use Rattle.case_rules.specs.declared.action.Deed.{Deed}
@@ -39,6 +40,15 @@ done is_indexed (Take amount) None = Fails NoItem
 done is_indexed (Take amount) (Some i) = taken amount i
 done is_indexed Delete old = New None
 done is_indexed Check old = New old
+
+-- the action that removes an item, whatever it is
+abbrev pub removal : Key → Action
+removal k = record { key = k; condition = Always; deed = Delete }
+
+-- the moment from which an item is expired has come
+abbrev pub has_come : Option ℕ → ℕ → Bool
+has_come None moment = false
+has_come (Some expires) moment = nat_le expires moment
 
 abbrev pub is_indexed : Catalog → Action → Bool
 is_indexed c a = is_some (index_of (table_of c a.key.name))

@@ -30,27 +30,31 @@ exact_equiv {X} E itself exact =
       ]
     ]
 
-customer_itself : (a : Option ℕ) → option_eq nat_eq a a ≡ true
-customer_itself None = refl
-customer_itself (Some n) = eq-eqb n n refl
+number_itself : (a : Option ℕ) → option_eq nat_eq a a ≡ true
+number_itself None = refl
+number_itself (Some n) = eq-eqb n n refl
 
-customer_is : (a b : Option ℕ) → option_eq nat_eq a b ≡ true → a ≡ b
-customer_is None None e = refl
-customer_is None (Some m) e = absurd (cc)
-customer_is (Some n) None e = absurd (cc)
-customer_is (Some n) (Some m) e = ap (λ z. Some z) (eqb-true n m e)
+number_is : (a b : Option ℕ) → option_eq nat_eq a b ≡ true → a ≡ b
+number_is None None e = refl
+number_is None (Some m) e = absurd (cc)
+number_is (Some n) None e = absurd (cc)
+number_is (Some n) (Some m) e = ap (λ z. Some z) (eqb-true n m e)
 
 pub item_itself : (x : Item) → same_item x x ≡ true
 item_itself x =
-    and_from (option_eq nat_eq x.customer x.customer) (nat_eq x.amount x.amount) (customer_itself x.customer)
-    (eq-eqb x.amount x.amount refl)
+    and_from (option_eq nat_eq x.customer x.customer) (nat_eq x.amount x.amount && option_eq nat_eq x.expires x.expires)
+    (number_itself x.customer)
+    (and_from (nat_eq x.amount x.amount) (option_eq nat_eq x.expires x.expires) (eq-eqb x.amount x.amount refl)
+    (number_itself x.expires))
 
 pub item_is : (x y : Item) → same_item x y ≡ true → x ≡ y
 item_is x y e =
-    let p = and_parts (option_eq nat_eq x.customer y.customer) (nat_eq x.amount y.amount) e in
-    let customer = customer_is x.customer y.customer p.0 in
-    let amount = eqb-true x.amount y.amount p.1 in
-    λ i. record { customer = customer i; amount = amount i }
+    let p = and_parts (option_eq nat_eq x.customer y.customer) (nat_eq x.amount y.amount && option_eq nat_eq x.expires y.expires) e in
+    let q = and_parts (nat_eq x.amount y.amount) (option_eq nat_eq x.expires y.expires) p.1 in
+    let customer = number_is x.customer y.customer p.0 in
+    let amount = eqb-true x.amount y.amount q.0 in
+    let expires = number_is x.expires y.expires q.1 in
+    λ i. record { customer = customer i; amount = amount i; expires = expires i }
 
 condition_itself : (x : Condition) → same_condition x x ≡ true
 condition_itself Always = refl

@@ -11,7 +11,8 @@ use Rattle.case_rules.specs.declared.action.Action.{Action}
 use Rattle.case_rules.specs.Keys.{same_key}
 
 abbrev pub same_item : Item → Item → Bool
-same_item x y = option_eq nat_eq x.customer y.customer && nat_eq x.amount y.amount
+same_item x y =
+    option_eq nat_eq x.customer y.customer && (nat_eq x.amount y.amount && option_eq nat_eq x.expires y.expires)
 
 abbrev pub same_condition : Condition → Condition → Bool
 same_condition Always Always = true

@@ -18,7 +18,7 @@ use Rattle.case_rules.specs.declared.question.Told.{Told}
 use Rattle.case_rules.specs.declared.question.Told.TheVariants.{Numbered, NoTable, InUse, HasIndex, Full}
 use Rattle.case_rules.specs.Keys.{key_cmp, same_key, same_name, place_of}
 use Rattle.case_rules.specs.Catalogs.{no_table, table_of, drawn, number_after, has_table, indexes, index_of, name_of, catalog_after, first_of, key_in, item_in}
-use Rattle.case_rules.specs.Actions.{act}
+use Rattle.case_rules.specs.Actions.{act, removal, has_come}
 use Rattle.case_rules.specs.Rows.{item_of, row_of, number_told, told, page_place, page_index, serves, page}
 use Rattle.case_rules.specs.Parameters.{same_item, same_actions}
 
@@ -47,6 +47,8 @@ protocol partitions =
       cell_of = λ k. place_of k.customer k.number % partitions;
       key_of = λ a. a.key;
       act = act;
+      removal = removal;
+      expired = λ c k i moment. has_come i.expires moment;
       empty = no_table;
       there = has_table;
       table = λ k. k.table;

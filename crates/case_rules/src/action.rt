@@ -1,6 +1,6 @@
 ghost use Rattle.std.specs.Prelude.{◌≡◌};
 ghost use Rattle.std.specs.Option.{option_copied};
-ghost use Rattle.case_rules.specs.Actions.{meets, fitted, taken, done, act};
+ghost use Rattle.case_rules.specs.Actions.{meets, fitted, taken, done, act, removal};
 
 use crate::catalog::{Catalog, index_of};
 use crate::item::Item;
@@ -98,6 +98,7 @@ impl Item {
             let left = Item {
                 customer: self.customer,
                 amount: self.amount - amount,
+                expires: self.expires,
             };
             Outcome::New { item: Some(left) }
         } else {
@@ -125,6 +126,17 @@ impl Deed {
 }
 
 impl Action {
+    /// The one that removes an item, whatever it is.
+    pub(crate) fn removal(key: &Key) -> Action
+        ensures { result ≡ removal key.now }
+    {
+        Action {
+            key: *key,
+            condition: Condition::Always,
+            deed: Deed::Delete,
+        }
+    }
+
     /// What it makes of an item, or of none.
     pub(crate) fn act(&self, catalog: &Catalog, old: Option<&Item>) -> Outcome<Item, Fault>
         ensures { result ≡ act catalog.now self.now (option_copied old.entry) }

@@ -18,7 +18,7 @@ pub(crate) fn are_equal_items(left: &Item, right: &Item) -> bool
     ensures tested { result ≡ same_item left.now right.now }
     ensures exact { IsTrue result ↔ (left.now ≡ right.now) }
 {
-    left.customer == right.customer && left.amount == right.amount
+    left.customer == right.customer && left.amount == right.amount && left.expires == right.expires
 }
 
 fn are_equal_conditions(left: &Condition, right: &Condition) -> bool

@@ -76,6 +76,14 @@ impl Rules for Shop {
         Ok(action.act(catalog, item))
     }
 
+    fn removal(_alloc: Global, key: &Key) -> Result<Action, NoMemory> {
+        Ok(Action::removal(key))
+    }
+
+    fn is_expired(_catalog: &Catalog, _key: &Key, item: &Item, moment: u64) -> bool {
+        item.is_expired(moment)
+    }
+
     fn no_table(_alloc: Global) -> Result<Catalog, NoMemory> {
         Ok(Catalog::empty())
     }
