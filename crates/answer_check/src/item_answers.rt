@@ -1,19 +1,9 @@
 //! Whether a message was answered so.
 ghost use Rattle.std.specs.Prelude.{◌≡◌, ◌↔◌, ◌==◌, IsTrue, if◌then◌else◌};
 ghost use Rattle.txn_core.specs.Answers.{get_answer, write_answer, outcome_answer, prepare_answer, is_holder, apply_answer, release_answer, version_answer};
-ghost use Rattle.txn_core.specs.Stamps.{earlier};
 ghost use Rattle.txn_core.specs.declared.answer.Answer.{Answer};
 
-use txn_core::{Answer, Outcome, Rules, Stamp};
-
-/// An answer under these rules.
-pub type Reply<R> = Answer<
-    <R as Rules>::Key,
-    <R as Rules>::Value,
-    <R as Rules>::Action,
-    <R as Rules>::Fault,
-    <R as Rules>::Told,
->;
+use txn_core::{Answer, Outcome, Reply, Rules, Stamp};
 
 /// Whether both are one item, or both are none.
 pub fn are_equal_rows<R: Rules>(left: &Option<R::Value>, right: &Option<R::Value>) -> bool
@@ -172,20 +162,13 @@ pub fn is_prepare<R: Rules>(
     match holding {
         Some(holder) => is_holder::<R>(holder, number, answer),
         None => {
-            if is_earlier(last, stamp) {
+            if last.is_earlier(stamp) {
                 is_outcome::<R>(row, outcome, answer)
             } else {
                 is_late::<R>(last, answer)
             }
         }
     }
-}
-
-/// Whether one stamp comes before the other.
-fn is_earlier(one: Stamp, other: Stamp) -> bool
-    ensures { result ≡ earlier one other }
-{
-    one.moment < other.moment || (one.moment == other.moment && one.number < other.number)
 }
 
 /// Whether an Apply is answered so.

@@ -5,9 +5,8 @@ ghost use Rattle.txn_core.specs.declared.answer.Answer.{Answer};
 ghost use Rattle.answer_check.specs.Kept.{kept_in};
 
 use crate::equality::{are_equal_actions, are_equal_reasons};
-use crate::item_answers::Reply;
 use crate::kept::Kept;
-use txn_core::{Answer, Fate, Reason, Rules, Stamp};
+use txn_core::{Answer, Fate, Reason, Reply, Rules, Stamp};
 
 fn is_decided<R: Rules>(fate: Fate, first: bool, answer: &Reply<R>) -> bool
     ensures { IsTrue result ↔ (answer.now ≡ Answer.Decided fate first) }

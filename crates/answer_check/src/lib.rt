@@ -16,7 +16,7 @@ mod kept;
 mod ledger_answers;
 
 pub use item_answers::{
-    Reply, are_equal_rows, is_apply, is_get, is_held, is_prepare, is_release, is_stale, is_version,
+    are_equal_rows, is_apply, is_get, is_held, is_prepare, is_release, is_stale, is_version,
     is_write,
 };
 pub use kept::Kept;

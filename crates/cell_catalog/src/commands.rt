@@ -1,6 +1,6 @@
 //! What commands make of the catalog, and what is told of them.
 
-ghost use Rattle.std.specs.Prelude.{◌≡◌, ℕ, ◌+◌, ◌≤◌, IfOk, IfSome, is_some, length, None, Some, if◌then◌else◌};
+ghost use Rattle.std.specs.Prelude.{◌≡◌, ℕ, ◌+◌, ◌^◌, ◌≤◌, IfOk, MatchOption, is_some, length, None, Some, if◌then◌else◌};
 ghost use Rattle.std.specs.List.{filter_map, insert, range_with_len};
 ghost use Rattle.table_model.specs.Catalog.{updated_schema};
 ghost use Rattle.cell_model.specs.Keys.{table_of};
@@ -297,7 +297,7 @@ fn with_new(
 
 /// The greatest number that was drawn after a command, or none where there are no more numbers.
 fn drawn_after(command: &CatalogCommand, drawn: u64) -> Option<u64>
-    ensures { IfSome result (λ last. last ≡ drawn + draws command.now) }
+    ensures { MatchOption result (2 ^ 64 ≤ drawn + draws command.now) (λ last. last ≡ drawn + draws command.now) }
 {
     match command {
         CatalogCommand::Create { schema } => {

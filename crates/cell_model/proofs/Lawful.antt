@@ -15,6 +15,7 @@ use Rattle.item_keys.specs.declared.fault.KeyFault.{KeyFault}
 use Rattle.item_keys.specs.declared.key.Key.{Key}
 use Rattle.item_keys.specs.ItemKey.{key_in}
 use Rattle.row_keys.specs.Rows.{position_if}
+use Rattle.txn_core.specs.declared.outcome.Outcome.TheVariants.{New}
 use Rattle.txn_core.specs.Protocol.{IsLawful}
 use Rattle.txn_core.specs.Indexing.{indexed, IsIndexingLawful}
 use Rattle.txn_core.specs.Service.{IsServiceLawful}
@@ -29,7 +30,7 @@ use Rattle.cell_model.specs.declared.command.CatalogCommand.TheVariants.{Create,
 use Rattle.cell_model.specs.Keys.{same_key, table_of, place_of, cell_at, item_of}
 use Rattle.cell_model.specs.KeyLaws.{key_total}
 use Rattle.cell_model.specs.Catalogs.{numbered, has_table, ascend_from, numbered_indexes, index_numbers, index_at, last_drawn}
-use Rattle.cell_model.specs.Actions.{ItemAction, outcome_in}
+use Rattle.cell_model.specs.Actions.{ItemAction, removal, outcome_in}
 use Rattle.cell_model.specs.Commands.{subject, is_number, changed_table, new_table, kept, catalog_after}
 use Rattle.cell_model.specs.IndexRows.{row_at, row_in, row_if, row_of, numbers_in, indexes_of}
 use Rattle.cell_model.specs.Pages.{page_cell}
@@ -82,6 +83,11 @@ table_comes d moment c n h =
 grows : (d : CatalogCommand) (moment : ℕ) (c : Catalog) → last_drawn c ≤ last_drawn (catalog_after d moment c)
 grows d moment c = omega arith
 
+-- a removal leaves no item, whether its table is there or not
+removes : (o : Option CatalogTable) (k : CellKey) (v : Option Attributes) → outcome_in o (removal k) v ≡ New None
+removes None k v = refl
+removes (Some t) k v = refl
+
 pub protocol_lawful : (partitions : ℕ) → IsLawful (protocol partitions)
 protocol_lawful partitions = record {
   itself = same_itself;
@@ -90,6 +96,9 @@ protocol_lawful partitions = record {
   one_cell = λ x y e. ap (λ k. cell_at partitions (place_of k)) (same_is x y e);
   one_place = λ c x y e. ap (λ k. has_table c (table_of k)) (same_is x y e);
   one_gift = λ d c x y e. refl;
+  one_expiry = λ c x y v moment e. refl;
+  its_item = λ k. refl;
+  removes = λ c k v. removes (numbered c.tables (table_of k)) k v;
   comes = λ d moment c x h. table_comes d moment c (table_of x) h;
   known = λ c x h. found_drawn c (table_of x) h;
   grows = grows;

@@ -1,6 +1,6 @@
 -- What an action on an item says, and what it makes of the item (API Reference: TransactWriteItems).
-use Rattle.std.specs.Prelude.{ℕ, List, Bool, true, Option, None, Some, option_map, unwrap_or}
-use Rattle.attr_value.specs.Tree.{Attributes}
+use Rattle.std.specs.Prelude.{ℕ, List, [], Bool, true, false, Option, None, Some, option_map, unwrap_or}
+use Rattle.attr_value.specs.Tree.{Attributes, no_attributes}
 use Rattle.attr_value.specs.declared.value.Value.{Value}
 use Rattle.expr_words.specs.Trees.{Tree, tree}
 use Rattle.expr_parse.specs.UpdateTree.{UpdateTree}
@@ -54,6 +54,17 @@ stated_action key action = record {
   show_old = action.show_old;
 }
 
+-- the action that removes the item of a key: a delete without a condition. No request asked for it, so it names no table
+abbrev pub removal : CellKey → ItemAction
+removal key = record {
+  key = key;
+  table = [];
+  change = Delete no_attributes;
+  condition = None;
+  values = [];
+  show_old = false;
+}
+
 -- ---- what an action makes of its item
 
 -- the condition is true of the item, or there is none
@@ -79,9 +90,9 @@ outcome_of (becomes item) = New item
 outcome_of is_false = Unmet
 outcome_of (is_faulty fault) = Fails fault
 
--- an action in a table that may not be there, where it does nothing
+-- an action in a table that may not be there, of which nothing is kept
 abbrev pub outcome_in : Option CatalogTable → ItemAction → Option Attributes → Outcome Attributes EvalFault
-outcome_in None action old = Unmet
+outcome_in None action old = New None
 outcome_in (Some table) action old = outcome_of (action_outcome table.schema action old)
 
 -- an action under a catalog

@@ -1,5 +1,5 @@
 -- What the protocol needs to know of these tables, for a number of partitions.
-use Rattle.std.specs.Prelude.{ℕ, [], None}
+use Rattle.std.specs.Prelude.{ℕ, false, [], None}
 use Rattle.std.specs.Cmp.Lexicographic.{pointwise}
 use Rattle.attr_value.specs.Tree.{Attributes}
 use Rattle.attr_value.specs.Equality.{same_attributes}
@@ -14,19 +14,21 @@ use Rattle.cell_model.specs.declared.question.CatalogQuestion.{CatalogQuestion}
 use Rattle.cell_model.specs.declared.answer.CatalogAnswer.{CatalogAnswer}
 use Rattle.cell_model.specs.Keys.{key_order, same_key, table_of, place_of, cell_at, item_of}
 use Rattle.cell_model.specs.Catalogs.{no_table, has_table, last_drawn}
-use Rattle.cell_model.specs.Actions.{ItemAction, act}
+use Rattle.cell_model.specs.Actions.{ItemAction, act, removal}
 use Rattle.cell_model.specs.SameActions.{same_action}
 use Rattle.cell_model.specs.Commands.{subject, is_number, refusal, catalog_after, ruling}
 use Rattle.cell_model.specs.IndexRows.{row_of, indexes_of}
 use Rattle.cell_model.specs.Pages.{page_cell, page_index, serves, told_of}
 
--- items, actions and the catalog; no item comes with a table
+-- items, actions and the catalog; no item comes with a table, and none expires, since no table has a time to live
 abbrev pub protocol : ℕ → Protocol CellKey Attributes ItemAction EvalFault Catalog CatalogCommand
 protocol partitions = record {
   same = same_key;
   cell_of = λ key. cell_at partitions (place_of key);
   key_of = λ action. action.key;
   act = act;
+  removal = removal;
+  expired = λ catalog key item moment. false;
   empty = no_table;
   there = λ catalog key. has_table catalog (table_of key);
   table = table_of;

@@ -110,7 +110,7 @@ fn act_in(
     changed(alloc, schema, &action.values, &action.change, item)
 }
 
-/// What an action makes of its item under a catalog. Where its table is not there it does nothing.
+/// What an action makes of its item under a catalog. Of a table that is not there nothing is kept.
 pub(crate) fn act(
     alloc: Global,
     catalog: &Catalog,
@@ -121,6 +121,6 @@ pub(crate) fn act(
 {
     match table_numbered(catalog, table_of(action.key())) {
         Some(table) => act_in(alloc, &table.schema, action.action(), item),
-        None => Ok(Outcome::Unmet),
+        None => Ok(Outcome::New { item: None }),
     }
 }

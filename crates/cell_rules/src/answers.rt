@@ -1,12 +1,13 @@
 //! Whether two answers of the catalog are equal.
 
 ghost use Rattle.std.specs.Prelude.{◌≡◌, ◌↔◌, IsTrue};
+ghost use Rattle.cell_model.specs.declared.answer.CatalogAnswer.{CatalogAnswer};
 
 use crate::equal::{are_equal_items, are_equal_schemas};
 use base_types::{Seq, Text};
 use cell_model::{CatalogAnswer, PageRoom, PageRow};
 use row_keys::Position;
-use table_schema::SchemaFault;
+use table_schema::{Schema, SchemaFault};
 
 /// Whether both lists have the same numbers in the same order.
 fn are_equal_numbers(left: &Seq<u64>, right: &Seq<u64>) -> bool
@@ -68,6 +69,55 @@ fn are_equal_rooms(left: PageRoom, right: PageRoom) -> bool
     left == right
 }
 
+/// Whether an answer is this table's.
+fn is_table(table: u64, schema: &Schema, indexes: &Seq<u64>, answer: &CatalogAnswer) -> bool
+    ensures { IsTrue result ↔ (CatalogAnswer.Table table schema.now indexes.now ≡ answer.now) }
+{
+    match answer {
+        CatalogAnswer::Table {
+            table: other,
+            schema: another,
+            indexes: numbers,
+        } => {
+            table == *other
+                && are_equal_schemas(schema, another)
+                && are_equal_numbers(indexes, numbers)
+        }
+        _ => false,
+    }
+}
+
+/// Whether an answer is this list of names.
+fn is_name_list(names: &Seq<Text>, more: bool, answer: &CatalogAnswer) -> bool
+    ensures { IsTrue result ↔ (CatalogAnswer.NameList names.now more ≡ answer.now) }
+{
+    match answer {
+        CatalogAnswer::NameList {
+            names: others,
+            more: follow,
+        } => are_equal_names(names, others) && more == *follow,
+        _ => false,
+    }
+}
+
+/// Whether an answer is this page.
+fn is_part(rows: &Seq<PageRow>, room: PageRoom, stopped: bool, answer: &CatalogAnswer) -> bool
+    ensures { IsTrue result ↔ (CatalogAnswer.Part rows.now room stopped ≡ answer.now) }
+{
+    match answer {
+        CatalogAnswer::Part {
+            rows: others,
+            room: left_over,
+            stopped: ended,
+        } => {
+            are_equal_lists(rows.as_slice(), others.as_slice())
+                && are_equal_rooms(room, *left_over)
+                && stopped == *ended
+        }
+        _ => false,
+    }
+}
+
 /// Whether both are the same answer.
 pub(crate) fn are_equal_told(left: &CatalogAnswer, right: &CatalogAnswer) -> bool
     ensures { IsTrue result ↔ (left.now ≡ right.now) }
@@ -96,39 +146,17 @@ pub(crate) fn are_equal_told(left: &CatalogAnswer, right: &CatalogAnswer) -> boo
                 schema,
                 indexes,
             },
-            CatalogAnswer::Table {
-                table: other,
-                schema: another,
-                indexes: numbers,
-            },
-        ) => {
-            *table == *other
-                && are_equal_schemas(schema, another)
-                && are_equal_numbers(indexes, numbers)
-        }
-        (
-            CatalogAnswer::NameList { names, more },
-            CatalogAnswer::NameList {
-                names: others,
-                more: follow,
-            },
-        ) => are_equal_names(names, others) && *more == *follow,
+            _,
+        ) => is_table(*table, schema, indexes, right),
+        (CatalogAnswer::NameList { names, more }, _) => is_name_list(names, *more, right),
         (
             CatalogAnswer::Part {
                 rows,
                 room,
                 stopped,
             },
-            CatalogAnswer::Part {
-                rows: others,
-                room: left_over,
-                stopped: ended,
-            },
-        ) => {
-            are_equal_lists(rows.as_slice(), others.as_slice())
-                && are_equal_rooms(*room, *left_over)
-                && *stopped == *ended
-        }
+            _,
+        ) => is_part(rows, *room, *stopped, right),
         _ => false,
     }
 }

@@ -11,6 +11,7 @@ mod copies;
 mod equal;
 mod keys;
 mod questions;
+mod removal;
 mod rows;
 mod rules;
 mod told;

@@ -11,6 +11,7 @@ use crate::equal::{
 };
 use crate::keys::{cell_of, item_of};
 use crate::questions::{page_cell, page_index, serves};
+use crate::removal::removal;
 use crate::rows::{indexes_of, row_of};
 use crate::told::told_of;
 use base_types::Seq;
@@ -80,6 +81,14 @@ impl Rules for TableRules {
         item: Option<&SharedItem>,
     ) -> Result<Outcome<SharedItem, EvalFault>, NoMemory> {
         act(alloc, catalog, action, item)
+    }
+
+    fn removal(alloc: Global, key: &CellKey) -> Result<KeyedAction, NoMemory> {
+        removal(alloc, key)
+    }
+
+    fn is_expired(_catalog: &Catalog, _key: &CellKey, _item: &SharedItem, _moment: u64) -> bool {
+        false
     }
 
     fn no_table(alloc: Global) -> Result<Catalog, NoMemory> {

@@ -1,7 +1,6 @@
 //! A cell's floor and numbers.
 
 ghost use Rattle.std.specs.Prelude.{◌≡◌, ◌+◌, ◌<◌, ◌^◌};
-ghost use Rattle.txn_core.specs.Stamps.{later};
 ghost use Rattle.item_store.specs.Counts.{fresh, tally};
 ghost use Rattle.item_store.specs.Slots.{left_absent};
 
@@ -41,22 +40,9 @@ impl Counts {
     {
         let count = self.count + 1;
         Counts {
-            floor: later(later(self.floor, last), own),
+            floor: self.floor.later(last).later(own),
             count,
             gone: count,
         }
     }
-}
-
-/// The later of two stamps.
-pub(crate) fn later(one: Stamp, other: Stamp) -> Stamp
-    ensures { result ≡ later one other }
-{
-    if one.moment < other.moment {
-        return other;
-    }
-    if one.moment == other.moment && one.number < other.number {
-        return other;
-    }
-    one
 }

@@ -7,7 +7,7 @@ ghost use Rattle.std.specs.Ordering.{nat_cmp};
 ghost use Rattle.std.specs.BTreeMap.{get};
 ghost use Rattle.item_store.specs.Tables.{has_table, held_of, held_under};
 
-use crate::counts::{Counts, later};
+use crate::counts::Counts;
 use crate::slot::{Committed, Pending, holder, item_in, last, row, version};
 use crate::table::TableItems;
 use crate::tables::{
@@ -97,7 +97,7 @@ impl<K: Ord, V> ItemStore<K, V> {
         ensures err { OnErr result (Unchanged self.old self.new) }
     {
         let version = self.next_number()?;
-        let stamp = later(self.last_change(table, &key), stamp);
+        let stamp = self.last_change(table, &key).later(stamp);
         let committed = Committed {
             item,
             stamp,

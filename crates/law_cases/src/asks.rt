@@ -3,7 +3,7 @@
 use crate::replies::{Reply, actions, reasons, stamp};
 use crate::shop::{Act, Change, Place, Stock, View, action, command, key, maybe, page};
 use base_types::{Seq, Text};
-use case_rules::{Action, Command, Fault, Item, Key, Name, Question};
+use case_rules::{Name, Question, Shop};
 use std::alloc::{AllocError as NoMemory, Global};
 use txn_core::Message;
 
@@ -35,7 +35,7 @@ pub(crate) enum Ask {
     Ack(u64),
 }
 
-type Asked = Message<Key, Item, Action, Fault, Command, Question>;
+type Asked = txn_core::Asked<Shop>;
 
 fn begin(alloc: Global, token: Option<&str>, acts: &[Act]) -> Result<Asked, NoMemory> {
     let token = match token {

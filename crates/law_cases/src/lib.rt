@@ -6,6 +6,8 @@ mod asks;
 #[cfg(test)]
 mod courses;
 #[cfg(test)]
+mod expiry;
+#[cfg(test)]
 mod judged;
 #[cfg(test)]
 mod laws;

@@ -2,7 +2,7 @@
 
 use crate::shop::{Act, Place, Stock, action, item, key, maybe};
 use base_types::Seq;
-use case_rules::{Action, Fault, Item, Key, Told};
+use case_rules::{Action, Fault, Item, Shop, Told};
 use std::alloc::{AllocError as NoMemory, Global};
 use txn_core::{Answer, Fate, HeldItem, Reason, Stamp};
 
@@ -11,7 +11,7 @@ use txn_core::{Answer, Fate, HeldItem, Reason, Stamp};
 pub(crate) enum Reply {
     Stale,
     Row(Option<Stock>),
-    Versioned(Option<Stock>, u64),
+    Versioned(Option<Stock>, u64, Option<u64>),
     Written(Option<Stock>, Option<Stock>),
     Accepted,
     Unmet(Option<Stock>),
@@ -48,7 +48,7 @@ pub(crate) enum Reply {
     Full,
 }
 
-type Replied = Answer<Key, Item, Action, Fault, Told>;
+type Replied = txn_core::Reply<Shop>;
 
 /// The stamp of this number, of the moment 7.
 pub(crate) fn stamp(number: u64) -> Stamp {
@@ -141,10 +141,10 @@ fn on_item(reply: Reply) -> Replied {
     match reply {
         Reply::Stale => Answer::Stale,
         Reply::Row(stock) => Answer::Row { item: maybe(stock) },
-        Reply::Versioned(stock, version) => Answer::Version {
+        Reply::Versioned(stock, version, held) => Answer::Version {
             item: maybe(stock),
             version,
-            held: None,
+            held,
         },
         Reply::Written(old, new) => Answer::Written {
             old: maybe(old),

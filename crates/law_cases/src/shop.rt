@@ -94,6 +94,7 @@ fn owned(customer: u64, amount: u64) -> Item {
     Item {
         customer: Some(customer),
         amount,
+        expires: None,
     }
 }
 

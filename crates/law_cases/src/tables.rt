@@ -50,7 +50,7 @@ static LEGAL: &[Case] = &[
             Over(Change(MakeOrders), InUse),
             Over(Change(MakePayments), Changed(2)),
             At(0, Get(Payment), Row(Some(Five))),
-            At(0, Version(Payment), Versioned(Some(Five), 2)),
+            At(0, Version(Payment), Versioned(Some(Five), 2, None)),
             At(0, Query(Payments0), Part(&[(Payment, Five)])),
             At(0, Scan(Orders0), Part(&[])),
             Over(Change(MakeIndex), Changed(3)),
@@ -255,7 +255,12 @@ static BROKEN: &[Case] = &[
         ],
         Some((3, WrongAnswer)),
     ),
-    // A change that waits isn't shown, shown with another row, or under another number.
+    // A change is shown that nobody queued; one that waits isn't shown, is shown with another row, or
+    // under another number.
+    (
+        &[Orders, Index, At(1, Peek, Out(1, 4, RowOfA, Some(Eight)))],
+        Some((2, WrongAnswer)),
+    ),
     (
         &[
             Orders,

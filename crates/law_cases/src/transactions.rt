@@ -2,13 +2,14 @@
 
 use crate::asks::Ask::{
     Apply, Begin, Cancel, Change, Commit, Done, Fate, Forget, Get, Pendings, Prepare, Recall,
-    Release, Unfinished, Write,
+    Release, Unfinished, Version, Write,
 };
 use crate::judged::{Case, judge};
 use crate::lines::Line::{At, Moment, Orders, Over, Pass};
 use crate::replies::Reply::{
     Accepted, Applied, Begun, Changed, Decided, Finished, Forgotten, Held, Holds, Invalid, Is,
     Known, Late, Mismatch, Nothing, Number, Released, Repeat, Row, Running, Stale, Unknown, Unmet,
+    Versioned,
 };
 use crate::shop::Act::{CheckB, DeleteA, NewB, PutA, PutB, TakeThreeOfA};
 use crate::shop::Change::{DropOrders, MakeOrders};
@@ -20,13 +21,13 @@ use txn_core::BreakKind::{
     AllCells, CauselessCancel, EarlyApply, EarlyCommit, EarlyDone, EarlyForget, EarlyRelease,
     NotBegun,
 };
-use txn_core::Fate::{Cancelled, Committed, Gone};
+use txn_core::Fate::{Cancelled, Committed, Gone, Undecided};
 
 /// Transactions to their ends.
 static LEGAL: &[Case] = &[
     // Under a token: the same actions are the same transaction, until it is over for 600 seconds
     // after its Done, and others are a mismatch, also where a condition alone is another. What is
-    // held isn't shown, and is written by nobody else.
+    // held isn't shown, and is written by nobody else. What is committed is shown where it was applied.
     (
         &[
             Orders,
@@ -34,15 +35,20 @@ static LEGAL: &[Case] = &[
             At(16, Begin(Some("t"), &[PutA, PutB]), Running(1)),
             At(1, Prepare(1, PutA), Accepted),
             At(1, Get(A), Row(None)),
+            At(1, Version(A), Versioned(None, 0, Some(1))),
             At(1, Write(TakeThreeOfA), Held(1)),
             At(1, Pendings(1), Holds(A, 1)),
             At(2, Prepare(1, PutB), Accepted),
             At(16, Unfinished, Number(1)),
+            At(16, Fate(1), Is(Undecided)),
+            At(16, Recall(1), Known(1, Undecided, &[PutA, PutB], &[])),
             At(16, Commit(1), Decided(Committed, true)),
             At(16, Commit(1), Decided(Committed, false)),
             At(1, Apply(1, A), Applied),
             At(1, Apply(1, A), Nothing),
+            At(2, Get(B), Row(None)),
             At(2, Apply(1, B), Applied),
+            At(2, Get(B), Row(Some(Five))),
             At(16, Recall(1), Known(1, Committed, &[PutA, PutB], &[])),
             At(16, Done(1), Finished),
             At(16, Begin(Some("t"), &[PutA, PutB]), Repeat(1)),

@@ -2,7 +2,6 @@
 ghost use Rattle.std.specs.Prelude.{◌≡◌, ◌<◌, ◌+◌, ◌^◌, ℕ, IfOk};
 ghost use Rattle.std.specs.Option.{option_copied};
 ghost use Rattle.txn_core.specs.Protocol.{after};
-ghost use Rattle.txn_core.specs.Stamps.{later};
 ghost use Rattle.txn_core.specs.State.{image_or, stamp_or};
 ghost use Rattle.replay_state.specs.Items.{pending, item_in, tally_in, last_in, tally_put, prepared, applied, released, item_wrote, cell_wrote, item_prepared, cell_applied};
 
@@ -21,19 +20,6 @@ pub struct Change<V> {
     pub cell: Counters,
 }
 
-/// The later of two stamps, the first where they are equal.
-pub fn later(one: Stamp, other: Stamp) -> Stamp
-    ensures { result ≡ later one other }
-{
-    if one.moment < other.moment {
-        return other;
-    }
-    if one.moment == other.moment && one.number < other.number {
-        return other;
-    }
-    one
-}
-
 /// The counters of a cell after an item of it was changed to this row, at a stamp.
 fn count_change<V>(cell: Counters, item: &ItemState<V>, row: &Option<V>, own: Stamp) -> Counters
     requires { cell.count + 1 < 2 ^ 64 }
@@ -48,7 +34,7 @@ fn count_change<V>(cell: Counters, item: &ItemState<V>, row: &Option<V>, own: St
         };
     }
     Counters {
-        floor: later(later(cell.floor, item.last(cell)), own),
+        floor: cell.floor.later(item.last(cell)).later(own),
         count,
         gone: count,
     }
@@ -89,7 +75,7 @@ pub fn write<R: Rules>(
     Ok(Change {
         item: ItemState {
             row,
-            stamp: later(item.last(tracked.cell), own),
+            stamp: item.last(tracked.cell).later(own),
             version: tracked.cell.count + 1,
             hold,
         },

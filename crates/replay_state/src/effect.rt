@@ -5,9 +5,8 @@ ghost use Rattle.replay_state.specs.Replica.{IsChangeOf};
 
 use crate::change::{Change, apply, prepare, release, write};
 use crate::tracked::Tracked;
-use answer_check::Reply;
 use std::alloc::{AllocError as NoMemory, Global};
-use txn_core::{Answer, Event, Message, Rules};
+use txn_core::{Answer, Event, Message, Reply, Rules};
 
 /// Whether a write was carried out.
 pub fn is_written<R: Rules>(answer: &Reply<R>) -> bool

@@ -1,7 +1,6 @@
 //! What is kept of transactions, number by number.
-ghost use Rattle.std.specs.Prelude.{◌≡◌, ℕ, ◌+◌, ◌≤◌, ◌&&◌, not, nat_le, nat_lt, [], reverse};
+ghost use Rattle.std.specs.Prelude.{◌≡◌, ℕ, ◌+◌, ◌≤◌, ◌&&◌, not, nat_le, nat_lt, []};
 ghost use Rattle.txn_core.specs.Answers.{has_record};
-ghost use Rattle.txn_core.specs.History.{reasons_of};
 ghost use Rattle.txn_core.specs.Stamps.{single};
 ghost use Rattle.txn_core.specs.declared.fate.Fate.TheVariants.{Undecided};
 ghost use Rattle.replay_state.specs.Ledger.{stamp_in, stamp_after, actions_in, actions_after, fate_in, fate_after, TellsLedger, IsLedgerOf};
@@ -9,7 +8,7 @@ ghost use Rattle.replay_state.specs.Ledger.{stamp_in, stamp_after, actions_in, a
 use base_types::Seq;
 use feed_replay::is_one_of;
 use std::alloc::Global;
-use txn_core::{Event, Fate, Reason, Rules, Stamp};
+use txn_core::{Fate, Rules, Stamp};
 
 /// A transaction as it was begun.
 #[derive(Drop)]
@@ -183,15 +182,4 @@ fn is_recorded(number: u64, next: u64, gone: bool) -> bool
     ensures { result ≡ nat_le 1 number && (nat_lt number next && not gone) }
 {
     1 <= number && number < next && !gone
-}
-
-/// The reasons that the number's decision carried, read off the entries before.
-pub fn reasons_of<R: Rules>(past: &[Event<R>], number: u64) -> &[Reason<R::Value, R::Fault>]
-    ensures { result.now ≡ reasons_of (reverse past.now) number }
-{
-    let mut found: &[Reason<R::Value, R::Fault>] = &[];
-    for entry in past {
-        found = entry.reasons_or(number, found);
-    }
-    found
 }

@@ -4,8 +4,8 @@
 //! stamp, its version, who holds it, and what its cell counts; and of the feed of indexes what
 //! [`feed_replay`] makes of it; and of each transaction its stamp, its actions, its fate and whether it
 //! is done or forgotten. [`begin`] makes it before the first entry, and [`step`] takes one more. What a
-//! token is kept with, and the reasons of a decision, are read off the entries before, which are given
-//! in order of time.
+//! token is kept with is read off the entries before, which are given in order of time; so are the
+//! reasons of a decision, by `past` of [`txn_core`].
 //!
 //! A step takes the entry as it stands, with the answer that it has: whether that answer is the one
 //! that the cells give is asked elsewhere.
@@ -30,9 +30,9 @@ pub use feed_steps::Fed;
 pub use feeding::Feeding;
 pub use ledger::{
     Decision, LedgerOf, Transaction, Transactions, actions_of, fate_of, has_record, is_finished,
-    next_of, reasons_of, stamp_of,
+    next_of, stamp_of,
 };
 pub use replica::{Replica, ReplicaOf, begin, step};
-pub use slots::{Asked, Slot};
+pub use slots::Slot;
 pub use token::found_kept;
 pub use tracked::{Counters, Hold, ItemState, Tracked};

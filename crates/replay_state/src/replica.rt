@@ -11,10 +11,9 @@ use crate::ledger::{Transactions, no_transactions};
 use crate::ledger_steps::enter;
 use crate::slots::{move_rows, put, slots_of};
 use crate::tracked::Tracked;
-use answer_check::Reply;
 use feed_replay::{FeedState, no_feed};
 use std::alloc::{AllocError as NoMemory, Global};
-use txn_core::{Event, Message, Rules};
+use txn_core::{Event, Message, Reply, Rules};
 
 /// The state after the entries so far.
 #[derive(Drop)]

@@ -4,20 +4,10 @@ ghost use Rattle.std.specs.Option.{option_copied};
 ghost use Rattle.txn_core.specs.State.{state_after};
 ghost use Rattle.replay_state.specs.Replica.{key_in, IsShown, FitsFirst, FitFirst, put_in, moved_in, HasRoom, HaveRoom};
 
-use crate::change::{Change, later};
+use crate::change::Change;
 use crate::tracked::{Counters, ItemState, Tracked, copy_of_item};
 use std::alloc::{AllocError as NoMemory, Global};
-use txn_core::{Event, Message, Rules, Stamp};
-
-/// A message under these rules.
-pub type Asked<R> = Message<
-    <R as Rules>::Key,
-    <R as Rules>::Value,
-    <R as Rules>::Action,
-    <R as Rules>::Fault,
-    <R as Rules>::Command,
-    <R as Rules>::Question,
->;
+use txn_core::{Asked, Event, Message, Rules, Stamp};
 
 /// The item that an entry names, if its message names one.
 pub type Slot<R> = Option<Tracked<<R as Rules>::Key, <R as Rules>::Value>>;
@@ -156,7 +146,7 @@ fn row_moved<R: Rules>(
     let count = tracked.cell.count + 1;
     if !R::is_there(catalog, &tracked.key) {
         tracked.item.row = R::adds(alloc, command, catalog, &tracked.key)?;
-        tracked.item.stamp = later(tracked.cell.floor, Stamp { moment, number: 0 });
+        tracked.item.stamp = tracked.cell.floor.later(Stamp { moment, number: 0 });
         tracked.item.version = count;
     }
     if !R::is_there(next, &tracked.key) {

@@ -3,9 +3,9 @@ ghost use Rattle.std.specs.Prelude.{◌≡◌, ℕ, reverse};
 ghost use Rattle.txn_core.specs.History.{is_over, unless_over, completed, freed, begun_with, kept_after, kept, found_kept};
 ghost use Rattle.answer_check.specs.Kept.{kept_in};
 
-use answer_check::{Kept, Reply};
+use answer_check::Kept;
 use base_types::Text;
-use txn_core::{Answer, Event, Fate, Message, Rules};
+use txn_core::{Answer, Event, Fate, Message, Reply, Rules};
 
 /// How long a token lives after its transaction's first Done, in microseconds.
 const TOKEN_LIFE: u64 = 600_000_000;

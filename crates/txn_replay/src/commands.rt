@@ -5,10 +5,10 @@ ghost use Rattle.txn_core.specs.declared.answer.Answer.{Answer};
 ghost use Rattle.txn_replay.specs.Ways.{is_before, first_of_two, obstacle_in, IsFirstOf};
 ghost use Rattle.txn_replay.specs.Judging.{ruled_answer, JudgesRuling, JudgesCommand};
 
-use answer_check::{Reply, is_held};
+use answer_check::is_held;
 use replay_state::Slot;
 use std::alloc::{AllocError as NoMemory, Global};
-use txn_core::{Answer, Rules, Ruling};
+use txn_core::{Answer, Reply, Rules, Ruling};
 
 /// An item that is held in a command's way.
 #[derive(Clone, Copy, Drop)]

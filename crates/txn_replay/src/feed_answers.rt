@@ -5,12 +5,12 @@ ghost use Rattle.txn_core.specs.declared.answer.Answer.{Answer};
 ghost use Rattle.txn_replay.specs.Judging.{OfFeed, page_rows, JudgesPage, ShownAs, JudgesFirst, IsOutAnswer, IsPeekAnswer, JudgesFeed, IsFirstAcked, IsAckAnswer, JudgesIndexes};
 
 use crate::routes::is_partition;
-use answer_check::{Reply, are_equal_rows, is_stale};
+use answer_check::{are_equal_rows, is_stale};
 use feed_replay::{first_change, has_first, is_fed, items_in, rows_in};
 use index_feed::Change;
 use replay_state::{Fed, Feeding};
 use std::alloc::{AllocError as NoMemory, Global};
-use txn_core::{Answer, Event, Message, Rules};
+use txn_core::{Answer, Event, Message, Reply, Rules};
 
 /// Whether the answer is a page that tells this.
 fn is_part<R: Rules>(told: &R::Told, answer: &Reply<R>) -> bool

@@ -7,9 +7,9 @@ use crate::feed_answers::indexes_are_right;
 use crate::pendings::are_pendings_right;
 use crate::records::ledger_is_right;
 use crate::routes::is_ask;
-use replay_state::{Asked, ReplicaOf};
+use replay_state::ReplicaOf;
 use std::alloc::{AllocError as NoMemory, Global};
-use txn_core::{Event, Message, Rules};
+use txn_core::{Asked, Event, Message, Rules};
 
 /// Whether a message is about transactions.
 fn is_of_ledger<R: Rules>(message: &Asked<R>) -> bool

@@ -4,10 +4,10 @@ ghost use Rattle.txn_core.specs.Answers.{get_answer};
 ghost use Rattle.replay_state.specs.Items.{item_in};
 ghost use Rattle.txn_replay.specs.Judging.{write_of, prepare_of, version_of, JudgesItem};
 
-use answer_check::{Reply, is_apply, is_get, is_prepare, is_release, is_version, is_write};
+use answer_check::{is_apply, is_get, is_prepare, is_release, is_version, is_write};
 use replay_state::Tracked;
 use std::alloc::{AllocError as NoMemory, Global};
-use txn_core::{Event, Message, Rules, Stamp};
+use txn_core::{Event, Message, Reply, Rules, Stamp};
 
 fn get_is_right<R: Rules>(
     catalog: &R::Catalog,

@@ -6,9 +6,8 @@ ghost use Rattle.txn_core.specs.Legal.{ArePendings, IsPendingList};
 ghost use Rattle.txn_replay.specs.Held.{held_as, untold, are_once, OfSlots, IsHeldIn, IsPendingAnswer};
 
 use crate::routes::is_partition;
-use answer_check::Reply;
 use replay_state::Slot;
-use txn_core::{Answer, HeldItem, Rules};
+use txn_core::{Answer, HeldItem, Reply, Rules};
 
 /// The number of the transaction that holds the item, where this is the item's slot.
 fn held_as<R: Rules>(slot: &Slot<R>, key: &R::Key) -> Option<u64>

@@ -7,14 +7,15 @@ ghost use Rattle.txn_core.specs.declared.message.Message.{Message};
 ghost use Rattle.replay_state.specs.Ledger.{TellsLedger};
 ghost use Rattle.txn_replay.specs.Judging.{Judges, JudgesDecide, JudgesRecall, JudgesBegin, JudgesLedger};
 
-use answer_check::{Reply, is_begin, is_decide, is_done, is_fate, is_forget, is_recall, is_stale};
+use answer_check::{is_begin, is_decide, is_done, is_fate, is_forget, is_recall, is_stale};
 use base_types::Text;
 use replay_state::{
     LedgerOf, Transactions, actions_of, fate_of, found_kept, has_record, is_finished, next_of,
-    reasons_of, stamp_of,
+    stamp_of,
 };
 use std::alloc::{AllocError as NoMemory, Global};
-use txn_core::{Answer, Event, Message, Rules, Stamp};
+use txn_core::past::reasons_of;
+use txn_core::{Answer, Event, Message, Reply, Rules, Stamp};
 
 /// Whether the catalog has the table of each action.
 fn are_there<R: Rules>(catalog: &R::Catalog, actions: &[R::Action]) -> bool

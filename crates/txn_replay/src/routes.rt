@@ -4,10 +4,8 @@ ghost use Rattle.txn_core.specs.Legal.{sent_to};
 ghost use Rattle.txn_core.specs.Breaks.{IsAt};
 ghost use Rattle.txn_core.specs.declared.answer.Answer.{Answer};
 
-use answer_check::Reply;
-use replay_state::Asked;
 use std::alloc::{AllocError as NoMemory, Global};
-use txn_core::{Answer, Message, Rules};
+use txn_core::{Answer, Asked, Message, Reply, Rules};
 
 fn is_told<R: Rules>(told: &R::Told, answer: &Reply<R>) -> bool
     ensures { IsTrue result ↔ (answer.now ≡ Answer.Told told.now) }
