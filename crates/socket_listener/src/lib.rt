@@ -17,6 +17,7 @@
 mod connection;
 mod interfaces;
 mod listener;
+mod load;
 mod patience;
 mod places;
 mod sink;

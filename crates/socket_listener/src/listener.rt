@@ -4,13 +4,16 @@ ghost use Rattle.ddb_outside.specs.Causes.{Rose};
 ghost use Rattle.ddb_outside.specs.Listeners.{HangsUp};
 
 use crate::interfaces::{Interfaces, listen, port_of};
+use crate::load::Load;
 use crate::sink::SocketSink;
 use crate::source::SocketSource;
 use crate::waiting_room::{WaitingRoom, wait_a_moment};
 use ddb_outside::{Failed, Joined, Listener, Sink};
 use std::alloc::Global;
+use std::io;
 use std::net::{Net, TcpListener};
 use std::rt::Clock;
+use std::sync::Arc;
 
 /// Connections of the system's TCP sockets, which wait without a thread each. It tells nothing of them, and `accept` never
 /// says that none will come any more.
@@ -26,6 +29,8 @@ pub struct SocketListener<R> {
     listening: Vec<TcpListener>,
     // A share's waiting room, but while a connection is served, which has it meanwhile.
     room: Option<WaitingRoom>,
+    // What is counted of all shares, once it is bound.
+    load: Option<Arc<Load>>,
     faults: u64,
 }
 
@@ -38,6 +43,7 @@ impl<R> SocketListener<R> {
             interfaces,
             listening: Vec::new(alloc),
             room: None,
+            load: None,
             faults: 0,
         }
     }
@@ -66,6 +72,25 @@ impl<R: Net + Copy> SocketListener<R> {
         let _ = wait_a_moment(self.alloc, &self.net);
         self.fault()
     }
+
+    // Listens at a port.
+    fn listen(&mut self, port: u16) -> io::Result<()>
+        ensures { self.new.faults ≡ self.old.faults }
+    {
+        let load = Arc::new(self.alloc, Load::new())?;
+        self.listening = listen(self.alloc, &self.net, self.interfaces, port)?;
+        self.load = Some(load);
+        Ok(())
+    }
+
+    // The waiting room of a further share.
+    fn open_room(&self) -> io::Result<WaitingRoom> {
+        let load = match &self.load {
+            Some(load) => load.clone()?,
+            None => Arc::new(self.alloc, Load::new())?,
+        };
+        WaitingRoom::open(self.alloc, &self.net, &self.listening, load)
+    }
 }
 
 impl<R: Net + Clock + Copy + Drop + Send> Listener for SocketListener<R> {
@@ -81,23 +106,21 @@ impl<R: Net + Clock + Copy + Drop + Send> Listener for SocketListener<R> {
     ghost ends = { λ l. 0 };
 
     fn bind(&mut self, port: u16) -> Result<(), Failed> {
-        match listen(self.alloc, &self.net, self.interfaces, port) {
-            Ok(listening) => {
-                self.listening = listening;
-                Ok(())
-            }
+        match self.listen(port) {
+            Ok(()) => Ok(()),
             Err(_) => Err(self.fault()),
         }
     }
 
     fn share(&mut self) -> Result<SocketListener<R>, Failed> {
-        match WaitingRoom::open(self.alloc, &self.net, &self.listening) {
+        match self.open_room() {
             Ok(room) => Ok(SocketListener {
                 alloc: self.alloc,
                 net: self.net,
                 interfaces: self.interfaces,
                 listening: Vec::new(self.alloc),
                 room: Some(room),
+                load: None,
                 faults: 0,
             }),
             Err(_) => Err(self.fault()),
@@ -128,6 +151,9 @@ impl<R: Net + Clock + Copy + Drop + Send> Listener for SocketListener<R> {
     }
 
     fn absorb(&mut self, share: SocketListener<R>) {
+        if let Some(room) = &share.room {
+            room.close();
+        }
         if 0 < share.faults {
             let _ = self.fault();
         }

@@ -1,10 +1,12 @@
 // The connections of a share, each at a place of its own, and which of them have something to read.
 
 use crate::connection::{Socket, Waiting, what_waits};
+use crate::load::Load;
 use slab::Slab;
 use std::alloc::Global;
 use std::collections::VecDeque;
 use std::io;
+use std::sync::Arc;
 
 // A connection's place.
 #[derive(Drop)]
@@ -32,27 +34,42 @@ pub(crate) struct Places {
     places: Slab<Place>,
     // Those that have something to read, in the order in which they called. Each stands here once.
     called: VecDeque<usize>,
+    // What is counted of all shares.
+    load: Arc<Load>,
 }
 
 impl Places {
-    pub(crate) fn new(alloc: Global) -> Places {
+    // No place, of a share more.
+    pub(crate) fn new(alloc: Global, load: Arc<Load>) -> Places {
+        load.add_share();
         Places {
             places: Slab::new(alloc),
             called: VecDeque::new(alloc),
+            load,
         }
+    }
+
+    // Whether the share has more connections than its part of all.
+    pub(crate) fn are_above_part(&self) -> bool {
+        self.load.is_above_part(self.places.len())
+    }
+
+    // The share is gone.
+    pub(crate) fn close(&self) {
+        self.load.remove_share(self.places.len());
     }
 
     // A place for one connection more, and room for its call.
     pub(crate) fn add(&mut self) -> io::Result<usize> {
         let all = self.places.len().saturating_add(1);
         self.called.reserve(all.saturating_sub(self.called.len()))?;
-        Ok(
-            self.places.insert(Place {
-                parked: None,
-                called: false,
-                closing: false,
-            })?,
-        )
+        let place = self.places.insert(Place {
+            parked: None,
+            called: false,
+            closing: false,
+        })?;
+        self.load.add_connection();
+        Ok(place)
     }
 
     // Notes that a connection has something to read, and whether its client will send no more.
@@ -126,6 +143,9 @@ impl Places {
 
     // Gives up the place of a connection that is closed.
     pub(crate) fn remove(&mut self, place: usize) {
-        drop(self.places.try_remove(place));
+        if let Some(gone) = self.places.try_remove(place) {
+            drop(gone);
+            self.load.remove_connection();
+        }
     }
 }

@@ -1,5 +1,5 @@
 // What a connection does next, by what is known of it.
-ghost use Rattle.std.specs.Prelude.{◌≡◌, ◌↔◌, ◌≤◌, ◌<◌, ◌⊎◌, IsTrue, IsFalse};
+ghost use Rattle.std.specs.Prelude.{◌≡◌, ◌↔◌, ◌≤◌, ◌<◌, ◌*◌, ◌⊎◌, IsTrue, IsFalse};
 ghost use Rattle.socket_listener.specs.Turns.{GivesWay, ReadsAtOnce};
 
 // How many messages a connection may send in a row while others wait.
@@ -57,21 +57,37 @@ pub(crate) enum Pause {
     Skip,
     // For a moment: a newcomer was refused and is to be tried again.
     Short,
+    // For as long as another share takes to let a newcomer in.
+    Brief,
     // Until there is one.
     Long,
 }
 
-// How long to wait where somebody has `called`, or a newcomer was `refused` for want of something that may come back.
-pub(crate) fn how_long(called: bool, refused: bool) -> Pause
+// How long to wait where somebody has `called`, where a newcomer was `refused` for want of something that may come back, or
+// where one is `left` to shares with fewer connections.
+pub(crate) fn how_long(called: bool, refused: bool, left: bool) -> Pause
     ensures skips { result ≡ Pause.Skip ↔ IsTrue called }
     ensures short { result ≡ Pause.Short ↔ (IsFalse called × IsTrue refused) }
-    ensures long { result ≡ Pause.Long ↔ (IsFalse called × IsFalse refused) }
+    ensures brief { result ≡ Pause.Brief ↔ (IsFalse called × IsFalse refused × IsTrue left) }
+    ensures long { result ≡ Pause.Long ↔ (IsFalse called × IsFalse refused × IsFalse left) }
 {
     if called {
         Pause::Skip
     } else if refused {
         Pause::Short
+    } else if left {
+        Pause::Brief
     } else {
         Pause::Long
+    }
+}
+
+// Whether a share with its `own` connections has more than its part of `all`, which `shares` divide.
+pub(crate) fn has_more(own: u64, shares: u64, all: u64) -> bool
+    ensures { IsTrue result ↔ all < own * shares }
+{
+    match own.checked_mul(shares) {
+        Some(part) => all < part,
+        None => true,
     }
 }

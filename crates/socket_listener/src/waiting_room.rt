@@ -1,6 +1,7 @@
 // Where the connections of a share wait, and where newcomers are let in.
 
 use crate::connection::{Socket, prepare};
+use crate::load::Load;
 use crate::places::{Caller, Places};
 use crate::turn::{Pause, how_long};
 use mio::unix::SourceFd;
@@ -10,6 +11,7 @@ use std::io;
 use std::io::ErrorKind;
 use std::net::{Net, TcpListener, TcpStream};
 use std::os::fd::AsRawFd;
+use std::sync::Arc;
 use std::time::Duration;
 
 // What a knock at a door is called; an event of a connection is called by its place.
@@ -18,8 +20,15 @@ const KNOCK: usize = usize::MAX;
 // How many events are taken in at once.
 const EVENTS: usize = 64;
 
-// How many newcomers are let in at once at a door, so that they hold nobody up, and other shares let some of them in.
+// How many newcomers are let in at once at a door, so that they hold nobody up.
 const NEWCOMERS: u32 = 4;
+
+// How many looks a share that has more connections than its part leaves a newcomer to the others. It lets one in at the
+// latest then, since the others may be busy with something that takes long.
+const COURTESY: u32 = 64;
+
+// How long, in milliseconds, a share with nothing else to do leaves a newcomer to the others.
+const LEFT: u64 = 1;
 
 // How long to wait, in milliseconds, where a newcomer was refused.
 const REFUSED: u64 = 200;
@@ -41,6 +50,8 @@ pub(crate) struct WaitingRoom {
     doors: Vec<TcpListener>,
     // Whether somebody may stand at a door.
     knocked: bool,
+    // For how many looks more that one is left to shares with fewer connections.
+    courtesy: u32,
     places: Places,
 }
 
@@ -50,6 +61,7 @@ impl WaitingRoom {
         alloc: Global,
         net: &impl Net,
         listening: &[TcpListener],
+        load: Arc<Load>,
     ) -> io::Result<WaitingRoom> {
         let poll = Poll::new(net)?;
         let mut doors = Vec::with_capacity(alloc, listening.len())?;
@@ -64,13 +76,19 @@ impl WaitingRoom {
             events: Events::with_capacity(alloc, EVENTS)?,
             doors,
             knocked: true,
-            places: Places::new(alloc),
+            courtesy: COURTESY,
+            places: Places::new(alloc, load),
         })
     }
 
     // Whether a connection waits that has something to read.
     pub(crate) fn has_others(&self) -> bool {
         self.places.has_called()
+    }
+
+    // The share is gone.
+    pub(crate) fn close(&self) {
+        self.places.close();
     }
 
     // Whether nobody waits, nor stands at a door.
@@ -82,7 +100,7 @@ impl WaitingRoom {
     // let in, and may have something to say already. What was seen of the connection at `served`.
     pub(crate) fn look(&mut self, served: Option<usize>, wait: bool) -> io::Result<Seen> {
         let seen = self.take_in(served, wait)?;
-        if !self.knocked {
+        if !self.knocked || self.leaves_newcomers() {
             return Ok(seen);
         }
         let more = self.take_in(served, false)?;
@@ -95,8 +113,12 @@ impl WaitingRoom {
     // Lets newcomers in, and takes in what has happened.
     fn take_in(&mut self, served: Option<usize>, wait: bool) -> io::Result<Seen> {
         let refused = self.let_in();
-        let pause = how_long(!wait || self.has_others(), refused);
+        let left = self.leaves_newcomers();
+        let pause = how_long(!wait || self.has_others(), refused, left);
         self.poll.poll(&mut self.events, duration(pause))?;
+        if left {
+            self.spend_courtesy(pause);
+        }
         let mut seen = Seen {
             readable: false,
             closing: false,
@@ -127,9 +149,23 @@ impl WaitingRoom {
         Err(io::Error::from(ErrorKind::TimedOut))
     }
 
+    // Whether somebody may stand at a door who is left to shares with fewer connections.
+    fn leaves_newcomers(&self) -> bool {
+        self.knocked && 0 < self.courtesy && self.places.are_above_part()
+    }
+
+    // Takes a look off for which a newcomer was left to others, and all where a pause for them went by without an event.
+    fn spend_courtesy(&mut self, pause: Pause) {
+        self.courtesy = if pause == Pause::Brief && self.events.is_empty() {
+            0
+        } else {
+            self.courtesy.saturating_sub(1)
+        };
+    }
+
     // Lets those in who stand at the doors. Whether one was refused for want of something that may come back.
     fn let_in(&mut self) -> bool {
-        if !self.knocked {
+        if !self.knocked || self.leaves_newcomers() {
             return false;
         }
         self.knocked = false;
@@ -147,19 +183,26 @@ impl WaitingRoom {
         refused
     }
 
-    // Lets those in who stand at one door.
+    // Lets those in who stand at one door, until the share has more connections than its part.
     fn let_in_at(&mut self, door: usize) -> AtDoor {
         let Some(listener) = self.doors.get(door) else {
             return AtDoor::Nobody;
         };
         for _ in 0..NEWCOMERS {
+            if 0 < self.courtesy && self.places.are_above_part() {
+                return AtDoor::Others;
+            }
             match listener.accept() {
                 Ok((stream, _)) => {
+                    self.courtesy = COURTESY;
                     // One for whom there is no memory is turned away.
                     let _ = admit(self.alloc, &self.poll, &mut self.places, stream);
                 }
                 Err(error) => match error.kind() {
-                    ErrorKind::WouldBlock => return AtDoor::Nobody,
+                    ErrorKind::WouldBlock => {
+                        self.courtesy = COURTESY;
+                        return AtDoor::Nobody;
+                    }
                     ErrorKind::Interrupted | ErrorKind::ConnectionAborted => {}
                     _ => return AtDoor::Refused,
                 },
@@ -224,6 +267,7 @@ fn duration(pause: Pause) -> Option<Duration> {
     match pause {
         Pause::Skip => Some(Duration::ZERO),
         Pause::Short => Some(Duration::from_millis(REFUSED)),
+        Pause::Brief => Some(Duration::from_millis(LEFT)),
         Pause::Long => None,
     }
 }
