@@ -3,7 +3,7 @@ ghost use Rattle.std.specs.Io.{ReadsAtMost, WritesAtMost};
 
 use std::alloc::Global;
 use std::io;
-use std::io::{ErrorKind, Read, Write};
+use std::io::{Read, Write};
 use std::net::{Shutdown, TcpStream};
 use std::sync::Arc;
 use std::time::Duration;
@@ -55,24 +55,6 @@ pub(crate) fn write_within(stream: &TcpStream, piece: &[u8], time: Duration) -> 
     let taken = write(stream, piece);
     stream.set_nonblocking(true)?;
     taken
-}
-
-// Whether something is there to be read, which may be the end.
-pub(crate) enum Waiting {
-    Bytes,
-    End,
-    Nothing,
-}
-
-// What waits to be read, which stays there.
-pub(crate) fn what_waits(stream: &TcpStream) -> Waiting {
-    match stream.peek(&mut [0u8; 1]) {
-        Ok(0) => Waiting::End,
-        Ok(_) => Waiting::Bytes,
-        Err(error) if error.kind() == ErrorKind::WouldBlock => Waiting::Nothing,
-        Err(error) if error.kind() == ErrorKind::Interrupted => Waiting::Bytes,
-        Err(_) => Waiting::End,
-    }
 }
 
 // Tells the client that nothing more will come. What it has sent and nobody read is taken first, since else the system

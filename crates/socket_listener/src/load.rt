@@ -27,7 +27,8 @@ impl Load {
     // A share is gone, with the connections that it had.
     pub(crate) fn remove_share(&self, connections: usize) {
         self.shares.fetch_sub(1, Ordering::SeqCst);
-        self.connections.fetch_sub(connections as u64, Ordering::SeqCst);
+        self.connections
+            .fetch_sub(connections as u64, Ordering::SeqCst);
     }
 
     // Counts a connection more.

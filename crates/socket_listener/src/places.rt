@@ -1,6 +1,6 @@
 // The connections of a share, each at a place of its own, and which of them have something to read.
 
-use crate::connection::{Socket, Waiting, what_waits};
+use crate::connection::Socket;
 use crate::load::Load;
 use slab::Slab;
 use std::alloc::Global;
@@ -94,6 +94,11 @@ impl Places {
         !self.called.is_empty()
     }
 
+    // How many connections have something to read.
+    pub(crate) fn count_called(&self) -> usize {
+        self.called.len()
+    }
+
     // The next connection that has something to read. Those that were closed in the meantime are let go.
     pub(crate) fn next_caller(&mut self) -> Option<Caller> {
         for _ in 0..self.called.len() {
@@ -111,17 +116,6 @@ impl Places {
         spot.called = false;
         let closing = spot.closing;
         let source = spot.parked.take()?;
-        match what_waits(&source) {
-            Waiting::Bytes => {}
-            Waiting::Nothing => {
-                self.park(place, source);
-                return None;
-            }
-            Waiting::End => {
-                self.remove(place);
-                return None;
-            }
-        }
         let Ok(sink) = source.clone() else {
             self.remove(place);
             return None;

@@ -52,6 +52,8 @@ pub(crate) struct WaitingRoom {
     knocked: bool,
     // For how many looks more that one is left to shares with fewer connections.
     courtesy: u32,
+    // How many connections are served before it is seen again what has happened.
+    round: usize,
     places: Places,
 }
 
@@ -77,6 +79,7 @@ impl WaitingRoom {
             doors,
             knocked: true,
             courtesy: COURTESY,
+            round: 0,
             places: Places::new(alloc, load),
         })
     }
@@ -138,10 +141,14 @@ impl WaitingRoom {
         Ok(seen)
     }
 
-    // Waits for the next connection that has something to read.
+    // Waits for the next connection that has something to read. Those that had at the last look come first, each once.
     pub(crate) fn next(&mut self) -> io::Result<Caller> {
         for _ in 0..u64::MAX {
-            self.look(None, true)?;
+            if self.round == 0 {
+                self.look(None, true)?;
+                self.round = self.places.count_called();
+            }
+            self.round = self.round.saturating_sub(1);
             if let Some(caller) = self.places.next_caller() {
                 return Ok(caller);
             }
