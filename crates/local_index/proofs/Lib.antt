@@ -1,0 +1,4 @@
+pub mod Claims
+pub mod Alike
+pub mod Changed
+pub mod Kept

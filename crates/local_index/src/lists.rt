@@ -1,0 +1,112 @@
+//! Changes of several entries of a table.
+
+ghost use Rattle.std.specs.Prelude.{◌≡◌, [], Some, is_some, IsTrue, OnOk, OnErr};
+ghost use Rattle.local_index.specs.declared.claim.Claim.TheVariants.{Committed};
+ghost use Rattle.std.specs.BTreeMap.{get};
+ghost use Rattle.local_index.specs.Claims.{is_committed, is_held, joined, without};
+ghost use Rattle.local_index.specs.Entries.{changed, held_too, is_among, let_go, noted, settled, Gives, SameClaims};
+
+use crate::claim::Claim;
+use crate::entries::{add, set, take};
+use std::alloc::AllocError as NoMemory;
+use std::collections::BTreeMap;
+
+/// Whether an entry is one of these. It costs a comparison with each.
+fn is_among<E: Ord>(entries: &[E], entry: &E) -> bool
+    ensures { result ≡ is_among E.cmp entries.now entry.now }
+{
+    entries.contains(entry)
+}
+
+/// Gives entries that are not among others this claim too. Where memory is refused each has its own claim.
+fn add_all<E: Ord + Clone>(
+    entries: &mut BTreeMap<E, Claim>,
+    come: &[E],
+    others: &[E],
+    claim: Claim,
+) -> Result<(), NoMemory>
+    requires copies { (x copy : E) → E.is_clone x copy → copy ≡ x }
+    ensures ok { OnOk result (Gives E.cmp (changed E.cmp come.now others.now (joined claim)) entries.old entries.new) }
+    ensures err { OnErr result (SameClaims E.cmp entries.old entries.new) }
+{
+    let Some((first, rest)) = come.split_first() else {
+        return Ok(());
+    };
+    if is_among(others, first) {
+        return add_all(entries, rest, others, claim);
+    }
+    let old = add(entries, first, claim)?;
+    match add_all(entries, rest, others, claim) {
+        Ok(()) => Ok(()),
+        Err(refused) => {
+            set(entries, first, old);
+            Err(refused)
+        }
+    }
+}
+
+/// Takes this claim from entries that are not among others. It takes no memory.
+fn take_all<E: Ord + Drop>(entries: &mut BTreeMap<E, Claim>, gone: &[E], others: &[E], claim: Claim)
+    ensures { Gives E.cmp (changed E.cmp gone.now others.now (without claim)) entries.old entries.new }
+{
+    for entry in gone {
+        if is_among(others, entry) {
+            continue;
+        }
+        take(entries, entry, claim);
+    }
+}
+
+/// Commits entries that are there and holds them no longer. It takes no memory.
+fn commit_all<E: Ord + Drop>(entries: &mut BTreeMap<E, Claim>, image: &[E])
+    requires { (q : E) → IsTrue (is_among E.cmp image.now q) → IsTrue (is_some (get E.cmp entries.old q)) }
+    ensures { Gives E.cmp (changed E.cmp image.now [] (λ _. Some Committed)) entries.old entries.new }
+{
+    for entry in image {
+        set(entries, entry, Some(Claim::Committed));
+    }
+}
+
+/// Commits the new entries in place of the old ones. Where memory is refused each entry has its own claim.
+pub(crate) fn note_in<E: Ord + Clone>(
+    entries: &mut BTreeMap<E, Claim>,
+    old: &[E],
+    new: &[E],
+) -> Result<(), NoMemory>
+    requires copies { (x copy : E) → E.is_clone x copy → copy ≡ x }
+    requires old { (q : E) → IsTrue (is_among E.cmp old.now q) → IsTrue (is_committed (get E.cmp entries.old q)) }
+    ensures ok { OnOk result (Gives E.cmp (noted E.cmp old.now new.now) entries.old entries.new) }
+    ensures err { OnErr result (SameClaims E.cmp entries.old entries.new) }
+{
+    add_all(entries, new, old, Claim::Committed)?;
+    take_all(entries, old, new, Claim::Committed);
+    Ok(())
+}
+
+/// Holds the entries of an image. Where memory is refused each entry has its own claim.
+pub(crate) fn hold_in<E: Ord + Clone>(
+    entries: &mut BTreeMap<E, Claim>,
+    image: &[E],
+) -> Result<(), NoMemory>
+    requires copies { (x copy : E) → E.is_clone x copy → copy ≡ x }
+    ensures ok { OnOk result (Gives E.cmp (held_too E.cmp image.now) entries.old entries.new) }
+    ensures err { OnErr result (SameClaims E.cmp entries.old entries.new) }
+{
+    add_all(entries, image, &[], Claim::Held)
+}
+
+/// Commits the entries of an image that are held, in place of the old ones. It takes no memory.
+pub(crate) fn settle_in<E: Ord + Drop>(entries: &mut BTreeMap<E, Claim>, old: &[E], image: &[E])
+    requires { (q : E) → IsTrue (is_among E.cmp image.now q) → IsTrue (is_held (get E.cmp entries.old q)) }
+    ensures { Gives E.cmp (settled E.cmp old.now image.now) entries.old entries.new }
+{
+    take_all(entries, old, image, Claim::Committed);
+    commit_all(entries, image);
+}
+
+/// Holds the entries of an image no longer. It takes no memory.
+pub(crate) fn let_go_in<E: Ord + Drop>(entries: &mut BTreeMap<E, Claim>, image: &[E])
+    ensures { Gives E.cmp (let_go E.cmp image.now) entries.old entries.new }
+{
+    take_all(entries, image, &[], Claim::Held);
+}
