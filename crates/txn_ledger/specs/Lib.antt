@@ -3,3 +3,4 @@ pub mod Records
 pub mod Changes
 pub mod Ledgers
 pub mod Unchanged
+pub mod Contents

@@ -3,7 +3,7 @@
 ghost use Rattle.std.specs.Prelude.{◌≡◌, ◌+◌, ◌<◌, ℕ, List, None, Some, is_some, IfOk, IfSome, OnOk, OnErr, option_map, option_and_then, if◌then◌else◌};
 ghost use Rattle.std.specs.Option.{option_copied};
 ghost use Rattle.std.specs.Ordering.{nat_cmp};
-ghost use Rattle.std.specs.BTreeMap.{get, IsEmpty};
+ghost use Rattle.std.specs.BTreeMap.{get, IsEmpty, IsOrdered};
 ghost use Rattle.std.specs.FinMap as map;
 ghost use Rattle.txn_ledger.specs.Ledgers.{AreDrawn, AreLinked};
 ghost use Rattle.txn_ledger.specs.Records.{answer_to, begun, cancels, decided, fate_of, finished, unfinished_in};
@@ -115,7 +115,8 @@ impl<A: Drop, Q: Drop> TxnLedger<A, Q> {
 
     /// The numbers of the transactions that are not done, ascending. It costs a look at each record.
     pub fn unfinished(&self, alloc: Global) -> Result<Seq<u64>, NoMemory>
-        ensures { IfOk result (λ numbers. numbers ≡ unfinished_in self.now.records.entries) }
+        ensures numbers { IfOk result (λ numbers. numbers ≡ unfinished_in self.now.records.entries) }
+        ensures ordered { IsOrdered nat_cmp self.now.records }
     {
         let mut numbers = Seq::new(alloc);
         for (number, found) in self.records.iter() {

@@ -1,0 +1,4 @@
+pub mod Keeping
+pub mod Begins
+pub mod Holding
+pub mod Plans

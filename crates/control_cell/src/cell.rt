@@ -1,0 +1,36 @@
+//! What the control cell holds.
+
+ghost use Rattle.std.specs.Prelude.{◌≡◌, ℕ, [], IfOk};
+
+use std::alloc::{AllocError as NoMemory, Global};
+use txn_core::{Answer, Reason, Rules};
+use txn_ledger::TxnLedger;
+
+/// What is answered under these rules.
+pub type Reply<R> = Answer<
+    <R as Rules>::Key,
+    <R as Rules>::Value,
+    <R as Rules>::Action,
+    <R as Rules>::Fault,
+    <R as Rules>::Told,
+>;
+
+/// The catalog, the transactions that were begun and not forgotten, and the tokens that stand for transactions.
+#[derive(Drop)]
+pub struct ControlCell<R: Rules> {
+    pub(crate) catalog: R::Catalog,
+    pub(crate) ledger: TxnLedger<R::Action, Reason<R::Value, R::Fault>>,
+}
+
+impl<R: Rules> ControlCell<R> {
+    ghost use Rattle.control_cell.specs.Holding.{Holds};
+
+    /// No table, no transaction and no token.
+    pub fn new(alloc: Global) -> Result<ControlCell<R>, NoMemory>
+        ensures { IfOk result (λ cell. (n : ℕ) → Holds (R.protocol n) [] cell) }
+    {
+        let catalog = R::no_table(alloc)?;
+        let ledger = TxnLedger::new(alloc)?;
+        Ok(ControlCell { catalog, ledger })
+    }
+}

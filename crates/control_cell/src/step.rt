@@ -1,0 +1,52 @@
+//! One step of the control cell.
+
+ghost use Rattle.std.specs.Prelude.{◌≡◌, ℕ, true, IfOk, OnErr};
+ghost use Rattle.control_cell.specs.Holding.{Answers, TakesAllowed, Unchanged, goes_to_control};
+
+use crate::cell::{ControlCell, Reply};
+use std::alloc::{AllocError as NoMemory, Global};
+use txn_core::{Message, Rules};
+
+/// What is asked under these rules.
+pub type Asked<R> = Message<
+    <R as Rules>::Key,
+    <R as Rules>::Value,
+    <R as Rules>::Action,
+    <R as Rules>::Fault,
+    <R as Rules>::Command,
+    <R as Rules>::Question,
+>;
+
+impl<R: Rules> ControlCell<R>
+where
+    R::Fault: Copy,
+{
+    /// Answers a message that goes to the control cell alone, at a moment.
+    pub fn step(
+        &mut self,
+        alloc: Global,
+        message: Asked<R>,
+        moment: u64,
+    ) -> Result<Reply<R>, NoMemory>
+        requires goes { (n : ℕ) → goes_to_control (R.protocol n) message ≡ true }
+        ensures answers { IfOk result (λ a. (n : ℕ) → Answers (R.protocol n) self.old moment message a) }
+        ensures takes { IfOk result (λ a. (n : ℕ) → TakesAllowed (R.protocol n) self.old self.new moment message a) }
+        ensures err { OnErr result (Unchanged self.old self.new) }
+    {
+        match message {
+            Message::Begin { token, actions } => self.begin(alloc, token, actions, moment),
+            Message::Decide {
+                number,
+                commit,
+                reasons,
+            } => Ok(self.decide(number, commit, reasons)),
+            Message::Done { number } => Ok(self.finish(number, moment)),
+            Message::Forget { number } => Ok(self.forget(number)),
+            Message::FateOf { number } => Ok(self.fate_of(number)),
+            Message::Recall { number } => self.recall(alloc, number),
+            Message::Unfinished => self.unfinished(alloc),
+            Message::Ask { question } => self.ask(alloc, &question),
+            _ => unreachable!(),
+        }
+    }
+}
