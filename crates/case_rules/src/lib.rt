@@ -8,9 +8,11 @@
 
 mod action;
 mod catalog;
+mod cells;
 mod equality;
 mod item;
 mod key;
+mod key_order;
 mod question;
 mod rules;
 

@@ -5,10 +5,10 @@ ghost use Rattle.control_cell.specs.Holding.{Answers};
 ghost use Rattle.txn_core.specs.declared.message.Message.{Message};
 ghost use Rattle.txn_core.specs.declared.answer.Answer.{Answer};
 
-use crate::cell::{ControlCell, Reply};
+use crate::cell::ControlCell;
 use base_types::Seq;
 use std::alloc::{AllocError as NoMemory, Global};
-use txn_core::{Answer, Reason, Rules};
+use txn_core::{Answer, Reason, Reply, Rules};
 use txn_ledger::Record;
 
 /// A copy of actions.

@@ -3,17 +3,8 @@
 ghost use Rattle.std.specs.Prelude.{◌≡◌, ℕ, [], IfOk};
 
 use std::alloc::{AllocError as NoMemory, Global};
-use txn_core::{Answer, Reason, Rules};
+use txn_core::{Reason, Rules};
 use txn_ledger::TxnLedger;
-
-/// What is answered under these rules.
-pub type Reply<R> = Answer<
-    <R as Rules>::Key,
-    <R as Rules>::Value,
-    <R as Rules>::Action,
-    <R as Rules>::Fault,
-    <R as Rules>::Told,
->;
 
 /// The catalog, the transactions that were begun and not forgotten, and the tokens that stand for transactions.
 #[derive(Drop)]

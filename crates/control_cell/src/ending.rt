@@ -4,9 +4,9 @@ ghost use Rattle.std.specs.Prelude.{◌≡◌, ℕ, List, ◌∷◌};
 ghost use Rattle.control_cell.specs.Holding.{Answers, Holds, IsEntry, Takes, TakesAllowed};
 ghost use Rattle.txn_core.specs.declared.message.Message.{Message};
 
-use crate::cell::{ControlCell, Reply};
+use crate::cell::ControlCell;
 use base_types::Seq;
-use txn_core::{Answer, Reason, Rules};
+use txn_core::{Answer, Reason, Reply, Rules};
 
 impl<R: Rules> ControlCell<R> {
     /// A Decide: sets the fate of a transaction that is not decided yet, with its reasons. The token of one that it cancels is

@@ -19,7 +19,6 @@ mod ending;
 mod laws;
 mod step;
 
-pub use cell::{ControlCell, Reply};
+pub use cell::ControlCell;
 pub use commands::CatalogPlan;
 pub use laws::{others_leave_it, own_entries_tell_it, unchanged_holds};
-pub use step::Asked;

@@ -3,19 +3,9 @@
 ghost use Rattle.std.specs.Prelude.{◌≡◌, ℕ, true, IfOk, OnErr};
 ghost use Rattle.control_cell.specs.Holding.{Answers, TakesAllowed, Unchanged, goes_to_control};
 
-use crate::cell::{ControlCell, Reply};
+use crate::cell::ControlCell;
 use std::alloc::{AllocError as NoMemory, Global};
-use txn_core::{Message, Rules};
-
-/// What is asked under these rules.
-pub type Asked<R> = Message<
-    <R as Rules>::Key,
-    <R as Rules>::Value,
-    <R as Rules>::Action,
-    <R as Rules>::Fault,
-    <R as Rules>::Command,
-    <R as Rules>::Question,
->;
+use txn_core::{Asked, Message, Reply, Rules};
 
 impl<R: Rules> ControlCell<R>
 where

@@ -97,6 +97,8 @@ module _ {K V A F C D : Type 0} (P : Protocol K V A F C D) (slots : List (Option
         cell_of = P.cell_of;
         key_of = λ p. p.key;
         act = λ c a v. Unmet;
+        removal = λ k. record { key = k; number = 0 };
+        expired = P.expired;
         empty = P.empty;
         there = P.there;
         table = P.table;

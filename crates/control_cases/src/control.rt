@@ -2,11 +2,11 @@
 
 use base_types::{Seq, Text};
 use case_rules::{Action, Command, Condition, Deed, Key, Name, Question, Shop};
-use control_cell::{CatalogPlan, ControlCell, Reply};
+use control_cell::{CatalogPlan, ControlCell};
 use std::alloc::{AllocError as NoMemory, Global};
 use std::process::Abort;
 use std::test::Fail;
-use txn_core::{Answer, Fate, Message, Reason};
+use txn_core::{Answer, Fate, Message, Reason, Reply};
 
 /// What is asked. A Begin is to delete the order of this number, under the token or without one.
 #[derive(Clone, Copy)]

@@ -1,0 +1,9 @@
+pub mod Adding
+pub mod Holding
+pub mod Moved
+pub mod Keeping
+pub mod Changing
+pub mod Stepping
+pub mod Fed
+pub mod Entries
+pub mod Starting

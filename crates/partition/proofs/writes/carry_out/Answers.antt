@@ -1,0 +1,43 @@
+use Rattle.std.proofs.Common.{◌≡◌, sym, ap, ◌∙◌}
+use Rattle.index_feed.specs.Feed.{changes}
+use Rattle.txn_core.specs.Indexing.{indexed}
+use Rattle.txn_core.specs.Protocol.{after}
+use Rattle.txn_core.specs.Stamps.{single}
+use Rattle.item_store.specs.Slots.{holder_of, pending_of, row_of}
+use Rattle.item_store.specs.Changes.{slot_at}
+use Rattle.item_store.specs.Counts.{tally}
+use Rattle.partition.specs.Knows.{kept_at, outcome_at}
+use Rattle.partition.proofs.Holding.{written_so}
+use Rattle.partition.proofs.Stepping.{free_slot}
+use Rattle.partition.proofs.writes.carry_out.Goals as goal
+
+pub put-requires : goal.put-requires
+put-requires g c =
+    let S = g.R.Rules.protocol 0 in
+    record {
+      free = free_slot (pending_of (slot_at c.args.cell.now.items c.table_of-table.result c.into_key-key.result))
+          ((λ j. holder_of (slot_at c.args.cell.now.items ((c.table_of-table.ensures 0 ∙ ap (λ k. S.core.table k) (c.key_of-key.ensures 0)) j) (c.into_key-key.ensures 0 j))) ∙ c.requires.free 0);
+    }
+
+pub returns-clause-left : goal.returns-clause-left
+returns-clause-left g c = λ n.
+    let S = g.R.Rules.protocol n in
+    let k = S.core.key_of c.args.action in
+    let row = row_of (kept_at S c.args.cell.now k) in
+    let made : c.args.item ≡ after (outcome_at S c.args.cell.now c.args.action) row = sym (ap (λ o. after o row) (c.requires.new n)) in
+    let xs = changes (indexed S.core S.index) c.args.cell.now.catalog k row c.args.item in
+    let same : c.in_ok-changes.changes.items ≡ xs = cc (c.in_ok-changes.ensures n, c.key_of-key.ensures n, c.table_of-table.ensures n, c.committed-old.ensures, c.as_ref-2.ensures.value) in
+    let h = c.in_ok-old.ensures.ok in (
+      free_slot (pending_of (kept_at S c.args.cell.now k)) (c.requires.free n),
+      written_so c.args.cell.now c.put.new.self (tally c.args.cell.now.items.counts) c.table_of-table.result (S.core.table k) c.into_key-key.result k
+          (c.table_of-table.ensures n ∙ ap (λ y. S.core.table y) (c.key_of-key.ensures n)) (c.into_key-key.ensures n) (single c.args.moment) c.args.item (after (outcome_at S c.args.cell.now c.args.action) row) made
+          c.in_ok-changes.changes.items (changes (indexed S.core S.index) c.args.cell.now.catalog k row (after (outcome_at S c.args.cell.now c.args.action) row))
+          (same ∙ ap (λ v. changes (indexed S.core S.index) c.args.cell.now.catalog k row v) made)
+          (record {
+            slots = h.slots;
+            numbers_are = h.numbers_are;
+            prepared_are = h.prepared_are;
+            waiting = h.waiting;
+            beside = record { partitions = h.beside.partitions; catalog = h.beside.catalog; sent = h.beside.sent; marks = h.beside.marks; rows = h.beside.rows };
+          }),
+    )

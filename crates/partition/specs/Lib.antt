@@ -1,0 +1,7 @@
+pub mod Index
+pub mod Stores
+pub mod Holds
+pub mod Says
+pub mod Changes
+pub mod Knows
+pub mod Steps

@@ -1,0 +1,68 @@
+//! The messages that end a transaction on an item. They take no memory.
+
+ghost use Rattle.std.specs.Prelude.{◌≡◌, ℕ};
+ghost use Rattle.txn_core.specs.Answers.{is_holder};
+ghost use Rattle.txn_core.specs.declared.message.Message.{Message};
+ghost use Rattle.txn_core.specs.History.{is_applied, is_released};
+ghost use Rattle.partition.specs.Knows.{LeftByApply, LeftByRelease, applied, released};
+ghost use Rattle.partition.specs.Says.{Leaves, Says, apply_says, release_says};
+
+use crate::cell::PartitionOf;
+use crate::rules::CellRules;
+use txn_core::{Answer, Reply};
+
+/// Whether the transaction of this number holds the item.
+fn is_holder(holding: Option<u64>, number: u64) -> bool
+    ensures { result ≡ is_holder holding number }
+{
+    match holding {
+        Some(holder) => holder == number,
+        None => false,
+    }
+}
+
+/// Makes an item that the transaction holds what it is to be.
+fn settle<R: CellRules>(cell: &mut PartitionOf<R>, number: u64, key: &R::Key) -> Reply<R>
+    ensures says { (n : ℕ) → result ≡ applied (R.protocol n) cell.old number key.now }
+    ensures left { (n : ℕ) → LeftByApply (R.protocol n) cell.old cell.new key.now (is_applied result) }
+{
+    let table = R::table_of(key);
+    if !is_holder(cell.items.pending_at(table, key), number) {
+        return Answer::Nothing;
+    }
+    cell.settle(table, key);
+    Answer::Applied
+}
+
+/// Lets an item go that the transaction holds.
+fn let_go<R: CellRules>(cell: &mut PartitionOf<R>, number: u64, key: &R::Key) -> Reply<R>
+    ensures says { (n : ℕ) → result ≡ released (R.protocol n) cell.old number key.now }
+    ensures left { (n : ℕ) → LeftByRelease (R.protocol n) cell.old cell.new key.now (is_released result) }
+{
+    let table = R::table_of(key);
+    if !is_holder(cell.items.pending_at(table, key), number) {
+        return Answer::Nothing;
+    }
+    cell.let_go(table, key);
+    Answer::Released
+}
+
+/// An Apply: makes an item that the transaction holds what it is to be, and queues the changes of its index rows.
+pub fn apply<R: CellRules>(cell: &mut PartitionOf<R>, number: u64, key: &R::Key) -> Reply<R>
+    ensures says { (n : ℕ) → Says (R.protocol n) ((R.protocol n).core.cell_of key.now) cell.old
+        (λ w f. apply_says (R.protocol n) w number key.now) result }
+    ensures leaves { (n moment : ℕ) → Leaves (R.protocol n) ((R.protocol n).core.cell_of key.now) cell.old cell.new moment
+        (Message.Apply number key.now) result }
+{
+    settle::<R>(cell, number, key)
+}
+
+/// A Release: lets an item go that the transaction holds.
+pub fn release<R: CellRules>(cell: &mut PartitionOf<R>, number: u64, key: &R::Key) -> Reply<R>
+    ensures says { (n : ℕ) → Says (R.protocol n) ((R.protocol n).core.cell_of key.now) cell.old
+        (λ w f. release_says (R.protocol n) w number key.now) result }
+    ensures leaves { (n moment : ℕ) → Leaves (R.protocol n) ((R.protocol n).core.cell_of key.now) cell.old cell.new moment
+        (Message.Release number key.now) result }
+{
+    let_go::<R>(cell, number, key)
+}

@@ -1,0 +1,134 @@
+//! A transaction's action on an item.
+
+ghost use Rattle.std.specs.Prelude.{◌≡◌, ℕ, true, None, IfOk, OnOk, OnErr};
+ghost use Rattle.std.specs.Option.{option_copied};
+ghost use Rattle.txn_core.specs.History.{is_accepted};
+ghost use Rattle.txn_core.specs.declared.message.Message.{Message};
+ghost use Rattle.txn_core.specs.declared.outcome.Outcome.TheVariants.{New};
+ghost use Rattle.item_store.specs.Slots.{holder_of};
+ghost use Rattle.partition.specs.Changes.{IsUnprepared, Unchanged};
+ghost use Rattle.partition.specs.Knows.{HeldFor, LeftByPrepare, kept_at, outcome_at, prepared};
+ghost use Rattle.partition.specs.Says.{Keeps, Leaves, Says, prepare_says};
+
+use crate::cell::PartitionOf;
+use crate::changes::changes_of;
+use crate::reads::copy_of_row;
+use crate::rules::CellRules;
+use item_store::Pending;
+use std::alloc::{AllocError as NoMemory, Global};
+use txn_core::{Answer, Outcome, Reply, Stamp};
+
+/// Holds an item that no transaction holds, and takes all that the end of this one needs.
+fn hold<R: CellRules>(
+    alloc: Global,
+    cell: &mut PartitionOf<R>,
+    action: R::Action,
+    pending: Pending<R::Value>,
+) -> Result<(), NoMemory>
+    requires free { (n : ℕ) → holder_of (kept_at (R.protocol n) cell.old ((R.protocol n).core.key_of action)) ≡ None }
+    ensures left { OnOk result ((n : ℕ) →
+        IsUnprepared cell.old ((R.protocol n).core.key_of action)
+        → HeldFor (R.protocol n) cell.old cell.new ((R.protocol n).core.key_of action) pending.number pending.stamp pending.image) }
+    ensures err { OnErr result ((n : ℕ) →
+        IsUnprepared cell.old ((R.protocol n).core.key_of action) → Unchanged cell.old cell.new) }
+{
+    let key = R::key_of(&action);
+    let table = R::table_of(key);
+    let old = cell.items.committed(table, key);
+    let changes = changes_of::<R>(alloc, &cell.catalog, key, old, pending.image.as_ref())?;
+    if changes.is_empty() {
+        return cell.hold(alloc, table, R::into_key(action), pending);
+    }
+    let held = R::copy_of_key(alloc, key)?;
+    let kept = R::copy_of_key(alloc, key)?;
+    cell.hold_with(alloc, table, key, held, kept, pending, changes)
+}
+
+/// Answers a Prepare of an item that no transaction holds, whose table is there.
+fn claim<R: CellRules>(
+    alloc: Global,
+    cell: &mut PartitionOf<R>,
+    number: u64,
+    stamp: Stamp,
+    action: R::Action,
+) -> Result<Reply<R>, NoMemory>
+    requires free { (n : ℕ) → holder_of (kept_at (R.protocol n) cell.old ((R.protocol n).core.key_of action)) ≡ None }
+    ensures says { IfOk result (λ a. (n : ℕ) → (R.protocol n).core.there cell.old.catalog ((R.protocol n).core.key_of action) ≡ true
+        → a ≡ prepared (R.protocol n) cell.old number stamp action) }
+    ensures left { IfOk result (λ a. (n : ℕ) →
+        IsUnprepared cell.old ((R.protocol n).core.key_of action)
+        → LeftByPrepare (R.protocol n) cell.old cell.new action number stamp (is_accepted a)) }
+    ensures err { OnErr result ((n : ℕ) →
+        IsUnprepared cell.old ((R.protocol n).core.key_of action) → Unchanged cell.old cell.new) }
+{
+    let key = R::key_of(&action);
+    let table = R::table_of(key);
+    let last = cell.items.last_change(table, key);
+    if !last.is_earlier(stamp) {
+        return Ok(Answer::Late { stamp: last });
+    }
+    let old = cell.items.committed(table, key);
+    match R::act(alloc, &cell.catalog, &action, old)? {
+        Outcome::New { item } => {
+            let pending = Pending {
+                number,
+                stamp,
+                image: item,
+            };
+            hold::<R>(alloc, cell, action, pending)?;
+            Ok(Answer::Accepted)
+        }
+        Outcome::Unmet => Ok(Answer::CondFalse {
+            old: copy_of_row::<R>(alloc, old)?,
+        }),
+        Outcome::Fails { fault } => Ok(Answer::Invalid { fault }),
+    }
+}
+
+/// Answers a Prepare by what the cell keeps of its item.
+fn attempt<R: CellRules>(
+    alloc: Global,
+    cell: &mut PartitionOf<R>,
+    number: u64,
+    stamp: Stamp,
+    action: R::Action,
+) -> Result<Reply<R>, NoMemory>
+    ensures says { IfOk result (λ a. (n : ℕ) → a ≡ prepared (R.protocol n) cell.old number stamp action) }
+    ensures left { IfOk result (λ a. (n : ℕ) →
+        (holder_of (kept_at (R.protocol n) cell.old ((R.protocol n).core.key_of action)) ≡ None
+        → IsUnprepared cell.old ((R.protocol n).core.key_of action))
+        → LeftByPrepare (R.protocol n) cell.old cell.new action number stamp (is_accepted a)) }
+    ensures err { OnErr result ((n : ℕ) →
+        (holder_of (kept_at (R.protocol n) cell.old ((R.protocol n).core.key_of action)) ≡ None
+        → IsUnprepared cell.old ((R.protocol n).core.key_of action)) → Unchanged cell.old cell.new) }
+{
+    let key = R::key_of(&action);
+    if !R::is_there(&cell.catalog, key) {
+        return Ok(Answer::Stale);
+    }
+    match cell.items.pending_at(R::table_of(key), key) {
+        None => claim::<R>(alloc, cell, number, stamp, action),
+        Some(holder) if holder == number => Ok(Answer::Accepted),
+        Some(holder) => Ok(Answer::Held { number: holder }),
+    }
+}
+
+/// A Prepare: holds the action's item for a transaction, where the action can be carried out and the item was not changed at
+/// this stamp or later. It takes all that [`apply`](crate::apply) and [`release`](crate::release) need.
+pub fn prepare<R: CellRules>(
+    alloc: Global,
+    cell: &mut PartitionOf<R>,
+    number: u64,
+    stamp: Stamp,
+    action: R::Action,
+) -> Result<Reply<R>, NoMemory>
+    ensures says { IfOk result (λ a. (n : ℕ) → Says (R.protocol n) ((R.protocol n).core.cell_of ((R.protocol n).core.key_of action))
+        cell.old (λ w f. prepare_says (R.protocol n) w number stamp action) a) }
+    ensures leaves { IfOk result (λ a. (n moment : ℕ) → Leaves (R.protocol n)
+        ((R.protocol n).core.cell_of ((R.protocol n).core.key_of action)) cell.old cell.new moment (Message.Prepare number stamp action)
+        a) }
+    ensures err { OnErr result ((n : ℕ) → Keeps (R.protocol n) ((R.protocol n).core.cell_of ((R.protocol n).core.key_of action))
+        cell.old cell.new) }
+{
+    attempt::<R>(alloc, cell, number, stamp, action)
+}

@@ -1,0 +1,66 @@
+//! One message of those that a cell answers by itself.
+
+ghost use Rattle.std.specs.Prelude.{◌≡◌, ℕ, true, IfOk, OnErr};
+ghost use Rattle.partition.specs.Steps.{StepAnswers, StepKeeps, StepStands, is_served};
+
+use crate::cell::PartitionOf;
+use crate::ends::{apply, release};
+use crate::feeds::{acknowledge, apply_index, peek_out};
+use crate::prepares::prepare;
+use crate::reads::{get, read_version};
+use crate::rules::CellRules;
+use crate::writes::write;
+use std::alloc::{AllocError as NoMemory, Global};
+use txn_core::{Asked, Message, Reply};
+
+/// Whether [`step`] serves a message: it is on an item or of the feed, and the cell that it names, if any, is there.
+pub fn is_served<R: CellRules>(cell: &PartitionOf<R>, message: &Asked<R>) -> bool
+    ensures { result ≡ is_served cell.now.partitions message.now }
+{
+    match message {
+        Message::Get { .. } | Message::ReadVersion { .. } => true,
+        Message::Write { .. } | Message::Prepare { .. } => true,
+        Message::Apply { .. } | Message::Release { .. } => true,
+        Message::PeekOut { source } => *source < cell.partitions,
+        Message::ApplyIndex { source, .. } => *source < cell.partitions,
+        Message::Ack { source, .. } => *source < cell.partitions,
+        _ => false,
+    }
+}
+
+/// Answers a message on an item or of the feed that goes to this cell. Of every list of entries for which the cell stands, the
+/// answer is the one that legal histories have, and the cell stands for the list with the message's entry.
+pub fn step<R: CellRules>(
+    alloc: Global,
+    cell: &mut PartitionOf<R>,
+    message: Asked<R>,
+    moment: u64,
+) -> Result<Reply<R>, NoMemory>
+    requires { is_served cell.old.partitions message ≡ true }
+    ensures answers { IfOk result (λ a. (n : ℕ) → StepAnswers (R.protocol n) cell.old message moment a) }
+    ensures stands { IfOk result (λ a. (n : ℕ) → StepStands (R.protocol n) cell.old cell.new message moment a) }
+    ensures err { OnErr result ((n : ℕ) → StepKeeps (R.protocol n) cell.old cell.new message) }
+{
+    match message {
+        Message::Get { key } => get::<R>(alloc, cell, &key),
+        Message::Write { action } => write::<R>(alloc, cell, action, moment),
+        Message::Prepare {
+            number,
+            stamp,
+            action,
+        } => prepare::<R>(alloc, cell, number, stamp, action),
+        Message::Apply { number, key } => Ok(apply::<R>(cell, number, &key)),
+        Message::Release { number, key } => Ok(release::<R>(cell, number, &key)),
+        Message::ReadVersion { key } => read_version::<R>(alloc, cell, &key),
+        Message::PeekOut { .. } => peek_out::<R>(alloc, cell),
+        Message::ApplyIndex {
+            source,
+            sequence,
+            index,
+            row_key,
+            after,
+        } => apply_index::<R>(alloc, cell, source, sequence, index, row_key, after),
+        Message::Ack { sequence, .. } => Ok(acknowledge::<R>(cell, sequence)),
+        _ => unreachable!(),
+    }
+}

@@ -1,0 +1,89 @@
+//! A single write.
+
+ghost use Rattle.std.specs.Prelude.{◌≡◌, ℕ, true, None, IfOk, OnErr};
+ghost use Rattle.std.specs.Option.{option_copied};
+ghost use Rattle.txn_core.specs.History.{is_written};
+ghost use Rattle.txn_core.specs.declared.message.Message.{Message};
+ghost use Rattle.txn_core.specs.declared.outcome.Outcome.TheVariants.{New};
+ghost use Rattle.item_store.specs.Slots.{holder_of};
+ghost use Rattle.partition.specs.Changes.{Unchanged};
+ghost use Rattle.partition.specs.Knows.{LeftByWrite, kept_at, outcome_at, wrote};
+ghost use Rattle.partition.specs.Says.{Keeps, Leaves, Says, write_says};
+
+use crate::cell::PartitionOf;
+use crate::changes::changes_of;
+use crate::reads::copy_of_row;
+use crate::rules::CellRules;
+use std::alloc::{AllocError as NoMemory, Global};
+use txn_core::{Answer, Outcome, Reply, Stamp};
+
+/// Carries out a write of an item that no transaction holds, which makes it this.
+fn carry_out<R: CellRules>(
+    alloc: Global,
+    cell: &mut PartitionOf<R>,
+    action: R::Action,
+    item: Option<R::Value>,
+    moment: u64,
+) -> Result<Reply<R>, NoMemory>
+    requires free { (n : ℕ) → holder_of (kept_at (R.protocol n) cell.old ((R.protocol n).core.key_of action)) ≡ None }
+    requires new { (n : ℕ) → outcome_at (R.protocol n) cell.old action ≡ New item }
+    ensures says { IfOk result (λ a. (n : ℕ) → (R.protocol n).core.there cell.old.catalog ((R.protocol n).core.key_of action) ≡ true
+        → a ≡ wrote (R.protocol n) cell.old action) }
+    ensures left { IfOk result (λ a. (n : ℕ) → LeftByWrite (R.protocol n) cell.old cell.new action moment (is_written a)) }
+    ensures err { OnErr result (Unchanged cell.old cell.new) }
+{
+    let new = copy_of_row::<R>(alloc, item.as_ref())?;
+    let key = R::key_of(&action);
+    let table = R::table_of(key);
+    let old = cell.items.committed(table, key);
+    let changes = changes_of::<R>(alloc, &cell.catalog, key, old, item.as_ref())?;
+    let key = R::into_key(action);
+    let stamp = Stamp { moment, number: 0 };
+    let old = cell.put(alloc, table, key, item, stamp, changes)?;
+    Ok(Answer::Written { old, new })
+}
+
+/// Carries out an action on its item, where no transaction holds it.
+fn attempt<R: CellRules>(
+    alloc: Global,
+    cell: &mut PartitionOf<R>,
+    action: R::Action,
+    moment: u64,
+) -> Result<Reply<R>, NoMemory>
+    ensures says { IfOk result (λ a. (n : ℕ) → a ≡ wrote (R.protocol n) cell.old action) }
+    ensures left { IfOk result (λ a. (n : ℕ) → LeftByWrite (R.protocol n) cell.old cell.new action moment (is_written a)) }
+    ensures err { OnErr result (Unchanged cell.old cell.new) }
+{
+    let key = R::key_of(&action);
+    if !R::is_there(&cell.catalog, key) {
+        return Ok(Answer::Stale);
+    }
+    let table = R::table_of(key);
+    if let Some(number) = cell.items.pending_at(table, key) {
+        return Ok(Answer::Held { number });
+    }
+    let old = cell.items.committed(table, key);
+    match R::act(alloc, &cell.catalog, &action, old)? {
+        Outcome::New { item } => carry_out::<R>(alloc, cell, action, item, moment),
+        Outcome::Unmet => Ok(Answer::CondFalse {
+            old: copy_of_row::<R>(alloc, old)?,
+        }),
+        Outcome::Fails { fault } => Ok(Answer::Invalid { fault }),
+    }
+}
+
+/// A Write: carries out an action on its item, where no transaction holds it.
+pub fn write<R: CellRules>(
+    alloc: Global,
+    cell: &mut PartitionOf<R>,
+    action: R::Action,
+    moment: u64,
+) -> Result<Reply<R>, NoMemory>
+    ensures says { IfOk result (λ a. (n : ℕ) → Says (R.protocol n) ((R.protocol n).core.cell_of ((R.protocol n).core.key_of action))
+        cell.old (λ w f. write_says (R.protocol n) w action) a) }
+    ensures leaves { IfOk result (λ a. (n : ℕ) → Leaves (R.protocol n)
+        ((R.protocol n).core.cell_of ((R.protocol n).core.key_of action)) cell.old cell.new moment (Message.Write action) a) }
+    ensures err { OnErr result ((n i : ℕ) → Keeps (R.protocol n) i cell.old cell.new) }
+{
+    attempt::<R>(alloc, cell, action, moment)
+}
