@@ -32,7 +32,9 @@ module _ {K V C : Type 0} {O : ord.Ghosts K} {E : eq.Ghosts K} {P : partial.Ghos
 
   -- an item has this slot afterwards, each other one its own; this is set aside for each; floor and numbers are these; and these
   -- changes wait behind the others
-  pub record Changes (c d : Partition K V C O E P) (u : ℕ) (k : K) (new : Option (Slot V)) (numbers : Tally) (ready : K → List (Change K V)) (queued : List (Change K V)) : Type 0 where
+  pub record Changes
+      (c d : Partition K V C O E P) (u : ℕ) (k : K) (new : Option (Slot V)) (numbers : Tally)
+      (ready : K → List (Change K V)) (queued : List (Change K V)) : Type 0 where
     pub slots :
         (v : ℕ) (q : K) → slot_at d.items v q ≡ (if is_at (nat_cmp u) v && is_at (O.cmp k) q then new else slot_at c.items v q)
     pub numbers_are : tally d.items.counts ≡ numbers
