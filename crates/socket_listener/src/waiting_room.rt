@@ -176,6 +176,7 @@ impl WaitingRoom {
             return false;
         }
         self.knocked = false;
+        self.courtesy = COURTESY;
         let mut refused = false;
         for door in 0..self.doors.len() {
             match self.let_in_at(door) {
@@ -196,20 +197,16 @@ impl WaitingRoom {
             return AtDoor::Nobody;
         };
         for _ in 0..NEWCOMERS {
-            if 0 < self.courtesy && self.places.are_above_part() {
-                return AtDoor::Others;
-            }
             match listener.accept() {
                 Ok((stream, _)) => {
-                    self.courtesy = COURTESY;
                     // One for whom there is no memory is turned away.
                     let _ = admit(self.alloc, &self.poll, &mut self.places, stream);
+                    if self.places.are_above_part() {
+                        break;
+                    }
                 }
                 Err(error) => match error.kind() {
-                    ErrorKind::WouldBlock => {
-                        self.courtesy = COURTESY;
-                        return AtDoor::Nobody;
-                    }
+                    ErrorKind::WouldBlock => return AtDoor::Nobody,
                     ErrorKind::Interrupted | ErrorKind::ConnectionAborted => {}
                     _ => return AtDoor::Refused,
                 },
