@@ -5,3 +5,4 @@ pub mod Members
 pub mod Loops
 pub mod Writing
 pub mod ReadBack
+pub mod Faults

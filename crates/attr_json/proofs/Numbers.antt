@@ -1,5 +1,5 @@
 -- The number of a text, as a function of the text.
-use Rattle.std.proofs.Common.{◌≡◌, ℕ, ℤ, ◌⊎◌, inl, inr, List, Option, Some, None, Result, Ok, Err, refl, sym, ap, ◌∙◌}
+use Rattle.std.proofs.Common.{◌≡◌, ℕ, ℤ, ◌⊎◌, inl, inr, List, Option, Some, None, Result, refl, sym, ap, ◌∙◌}
 use Rattle.std.specs.Prelude.{IsErrOf}
 use Rattle.number38.specs.Text.{Numeral, IsTextOf, denoted}
 use Rattle.number38.specs.Reading.{Pieces, pieces_at, answer_to}

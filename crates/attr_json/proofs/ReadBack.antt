@@ -1,5 +1,5 @@
 -- What is written is read back as the same value.
-use Rattle.std.proofs.Common.{◌≡◌, ℕ, zero, suc, ℤ, ◌<◌, ◌≤◌, Bool, true, List, [], ◌∷◌, length, map, Result, Ok, Err, cond, codes, nat_cmp, Ordering, refl, sym, ap, ◌∙◌, arith}
+use Rattle.std.proofs.Common.{◌≡◌, ℕ, zero, suc, ℤ, ◌<◌, true, List, [], ◌∷◌, length, map, Result, Ok, Err, cond, codes, nat_cmp, Ordering, refl, ap, ◌∙◌, arith}
 use Rattle.std.proofs.lemmas.Cmp.{nat_list_cmp_total, int_cmp_total}
 use Rattle.std.proofs.lemmas.List.{map-id}
 use Rattle.std.proofs.lemmas.List.Sorted.{IsPermutation-refl}
@@ -10,18 +10,17 @@ use Rattle.std.specs.Cmp.Lexicographic.{slice_cmp}
 use Rattle.std.specs.List.Sorted.{IsStrictlySortedBy}
 use Rattle.std.specs.Ordering.{int_cmp}
 use Rattle.number38.specs.Printed.{printed}
-use Rattle.number38.specs.Reading.{pieces_at, answer_to}
-use Rattle.number38.specs.Text.{Denotes, denoted}
+use Rattle.number38.specs.Reading.{pieces_at}
+use Rattle.number38.specs.Text.{Denotes}
 use Rattle.number38.proofs.ReadingLaws.{complete, answer_to-pieces_of}
-use Rattle.attr_value.specs.Tree.{Tree, Trees, Attributes, no_trees, no_attributes, tree, attribute, list, map as map_tree, number, binary, text_set, number_set, binary_set}
-use Rattle.attr_value.specs.Sizes.{depth, elements_depth, item_depth}
+use Rattle.attr_value.specs.Tree.{Tree, Trees, Attributes, no_trees, no_attributes, tree, attribute, list, map as map_tree, text_set, number_set, binary_set}
 use Rattle.attr_json.specs.declared.fault.JsonFault.{JsonFault}
 use Rattle.attr_json.specs.declared.fault.JsonFault.TheVariants.{UnknownType}
 use Rattle.attr_json.specs.Steps.{and_then, mapped}
 use Rattle.attr_json.specs.Sets.{set_of, IsExact}
 use Rattle.attr_json.specs.Scalars.{number_in, or_bad_number, number_of, bytes_of}
-use Rattle.attr_json.specs.Values.{are_strings, strings_in, each, set_value, value_of, elements_of, attributes_of}
-use Rattle.attr_json.specs.Written.{strings, base64_of, data_of, items_of, members_of}
+use Rattle.attr_json.specs.Values.{are_strings, strings_in, each, set_value, elements_of, attributes_of}
+use Rattle.attr_json.specs.Written.{strings, base64_of, items_of, members_of}
 use Rattle.attr_json.specs.ReadBack.{ReadsBack, ElementsReadBack, AttributesReadBack}
 use Rattle.attr_json.proofs.Gathering.{set_is}
 

@@ -1,7 +1,7 @@
 -- Lists that are read element by element: what was read, and what the rest comes to.
-use Rattle.std.proofs.Common.{◌≡◌, ℕ, List, [], ◌∷◌, ◌++◌, map, Result, Ok, Err, refl, sym, ap, ◌∙◌, append_assoc, append-nil}
-use Rattle.serde_json.specs.Data.{Data, Items, no_items, item}
-use Rattle.attr_value.specs.Tree.{Tree, Trees, no_trees, tree}
+use Rattle.std.proofs.Common.{◌≡◌, ℕ, List, [], ◌∷◌, ◌++◌, Result, Ok, Err, refl, sym, ap, ◌∙◌, append_assoc}
+use Rattle.serde_json.specs.Data.{Data, Items, item}
+use Rattle.attr_value.specs.Tree.{Trees, no_trees, tree}
 use Rattle.attr_value.specs.View.{tree_of, trees_of}
 use Rattle.attr_value.specs.declared.value.Value.{Value}
 use Rattle.attr_json.specs.declared.fault.JsonFault.{JsonFault}

@@ -15,6 +15,7 @@
 //!   write it among other tokens. They make no tree.
 #![tactic(auto)]
 
+mod check;
 mod fault;
 mod plain;
 mod read;
@@ -23,7 +24,8 @@ mod set;
 mod text;
 mod write;
 
+pub use check::value_fault;
 pub use fault::{JsonEnd, JsonFault};
-pub use read::{item_from, value_fault, value_from};
+pub use read::{item_from, value_from};
 pub use text::{push_item, push_value, write_item, write_value};
 pub use write::{item_to, value_to};

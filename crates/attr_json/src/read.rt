@@ -1,11 +1,10 @@
 //! Values and items, level by level.
 
-ghost use Rattle.std.specs.Prelude.{◌≡◌, IfOk};
 ghost use Rattle.serde_json.specs.View.{view, items_view, members_view};
 ghost use Rattle.attr_value.specs.Sizes.{most_levels};
 ghost use Rattle.attr_value.specs.View.{tree_of, trees_of};
 ghost use Rattle.attr_json.specs.Answers.{IsAnswer, IsOneLess};
-ghost use Rattle.attr_json.specs.Values.{value_of, only_of, typed, array_value, object_value, elements_of, attributes_of, item_of, value_fault};
+ghost use Rattle.attr_json.specs.Values.{value_of, only_of, typed, array_value, object_value, elements_of, attributes_of, item_of};
 
 use crate::fault::{JsonEnd, JsonFault};
 use crate::scalar::{flag_value, text_value};
@@ -13,7 +12,7 @@ use crate::set::{are_strings, set_value};
 use attr_value::{Elements, Item, MAX_DEPTH, Value};
 use base_types::{Seq, Text};
 use serde_json::{Map, Value as Json};
-use std::alloc::{AllocError as NoMemory, Global};
+use std::alloc::Global;
 
 /// The attribute value that the JSON states, or its first fault.
 pub fn value_from(alloc: Global, json: &Json) -> Result<Value, JsonEnd>
@@ -30,17 +29,6 @@ pub fn item_from(alloc: Global, json: &Json) -> Result<Item, JsonEnd>
     match json {
         Json::Object(members) => item_in(alloc, members, MAX_DEPTH),
         _ => Err(JsonEnd::Fault(JsonFault::UnknownType)),
-    }
-}
-
-/// The first fault of the attribute value that the JSON states; None where it states one.
-pub fn value_fault(alloc: Global, json: &Json) -> Result<Option<JsonFault>, NoMemory>
-    ensures { IfOk result (λ fault. fault ≡ value_fault (view json.now)) }
-{
-    match value_from(alloc, json) {
-        Ok(_) => Ok(None),
-        Err(JsonEnd::Fault(fault)) => Ok(Some(fault)),
-        Err(JsonEnd::NoMemory) => Err(NoMemory),
     }
 }
 

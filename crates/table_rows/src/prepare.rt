@@ -28,7 +28,7 @@ fn hold(slots: &mut Slots, pending: &mut Seq<Change>, change: Change) -> Result<
     ensures err { OnErr result (pending.new ≡ pending.old) }
     ensures err_slot { OnErr result (has_slot slots.new change.key ≡ has_slot slots.old change.key) }
 {
-    slots.reserve(change.key.try_clone()?)?;
+    slots.reserve(&change.key)?;
     match pending.push(change) {
         Ok(()) => Ok(()),
         Err(refused) => {

@@ -81,17 +81,28 @@ impl Slots {
         self.slots.iter()
     }
 
-    /// Makes a slot for a key, where it has none. Where memory is refused nothing changes.
-    pub fn reserve(&mut self, key: RowKey) -> Result<(), NoMemory>
+    /// Makes a slot for a key, where it has none. The key is copied only then. Where memory is refused nothing changes.
+    pub fn reserve(&mut self, key: &RowKey) -> Result<(), NoMemory>
+        ensures rows { rows_of self.new ≡ rows_of self.old }
+        ensures slot { OnOk result (has_slot self.new key.now ≡ true) }
+        ensures err { OnErr result (self.new ≡ self.old) }
+        ensures others { KeepsOtherSlots key.now self.old self.new }
+    {
+        if self.slots.contains_key(key) {
+            return Ok(());
+        }
+        let copy = key.try_clone()?;
+        self.add(copy)
+    }
+
+    /// Makes a slot for a key that has none. Where memory is refused nothing changes.
+    fn add(&mut self, key: RowKey) -> Result<(), NoMemory>
+        requires { has_slot self.old key ≡ false }
         ensures rows { rows_of self.new ≡ rows_of self.old }
         ensures slot { OnOk result (has_slot self.new key ≡ true) }
         ensures err { OnErr result (self.new ≡ self.old) }
         ensures others { KeepsOtherSlots key self.old self.new }
     {
-        if self.slots.contains_key(&key) {
-            drop(key);
-            return Ok(());
-        }
         match self.slots.insert(key, None) {
             Ok(_) => Ok(()),
             Err(refused) => {

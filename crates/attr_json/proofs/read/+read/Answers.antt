@@ -1,4 +1,4 @@
-use Rattle.std.proofs.Common.{◌≡◌, [], ◌∷◌, ◌++◌, drop, suc, Ok, sym, ap, ◌∙◌, subst, arith, add-one, append_assoc, string_bytes, string_cmp}
+use Rattle.std.proofs.Common.{◌≡◌, [], ◌∷◌, ◌++◌, drop, suc, Ok, sym, ap, ◌∙◌, subst, add-one, append_assoc, string_cmp}
 use Rattle.std.specs.List.Sorted.{IsStrictlySortedBy}
 use Rattle.std.specs.Map.{keys_of}
 use Rattle.attr_value.specs.Tree.{Attributes}
@@ -7,7 +7,7 @@ use Rattle.std.proofs.lemmas.List.{drop_all}
 use Rattle.std.proofs.lemmas.Result.{err_from_is_err_and}
 use Rattle.serde_json.specs.View.{view, items_view, members_view}
 use Rattle.serde_json.proofs.Views.{view-Array}
-use Rattle.attr_value.specs.View.{tree_of, trees_of}
+use Rattle.attr_value.specs.View.{tree_of}
 use Rattle.attr_value.specs.Paths.{put}
 use Rattle.attr_json.specs.Answers.{IsAnswer}
 use Rattle.attr_json.specs.Steps.{mapped}

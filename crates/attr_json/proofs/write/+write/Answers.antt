@@ -6,7 +6,7 @@ use Rattle.serde_json.proofs.Views.{view-Array}
 use Rattle.attr_value.specs.Tree.{AreInOrder, weight, trees_weight}
 use Rattle.attr_value.specs.View.{tree_of, trees_of, attributes_of}
 use Rattle.attr_json.specs.ReadBack.{ReadsBack, AttributesReadBack}
-use Rattle.attr_json.specs.Written.{data_of, items_of, members_of}
+use Rattle.attr_json.specs.Written.{data_of, items_of}
 use Rattle.attr_value.proofs.PartLaws.{attribute_weight, element_weight}
 use Rattle.attr_value.proofs.Views.{Entry as Attribute}
 use Rattle.attr_json.proofs.Writing.{listed-elements, put_last}
