@@ -1,6 +1,6 @@
 -- Definitions of the laws that no call computes, on a worked history of orders over 16 partitions: a transaction writes the
 -- orders 1 and 2, which lie in the cells 1 and 2, and the control cell is the cell 16.
-use Rattle.std.proofs.Common.{◌≡◌, ℕ, Bool, true, false, List, [], ◌∷◌, Option, None, Some, refl}
+use Rattle.std.proofs.Common.{◌≡◌, ℕ, Bool, true, false, [], ◌∷◌, None, Some, refl}
 use Rattle.txn_core.specs.declared.stamp.Stamp.{Stamp}
 use Rattle.txn_core.specs.declared.fate.Fate.{Fate}
 use Rattle.txn_core.specs.declared.verdict.Verdict.{Verdict}

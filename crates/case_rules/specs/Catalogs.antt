@@ -76,6 +76,12 @@ name_of (Create name first) = name
 name_of (AddIndex name) = name
 name_of (Drop name) = name
 
+-- the table that a command changes or takes away
+abbrev pub subject : Command → Catalog → Option Table
+subject (Create name first) c = None
+subject (AddIndex name) c = table_of c name
+subject (Drop name) c = table_of c name
+
 -- what a command makes of its table, by the number that comes next
 abbrev pub table_after : Command → Option ℕ → Option Table → Option Table
 table_after (Create name first) next old = created next old

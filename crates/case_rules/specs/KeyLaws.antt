@@ -24,7 +24,7 @@ pub same_itself : (x : Key) → same_key x x ≡ true
 same_itself x = (eq_by_cmp_equiv keys_total).refl x
 
 -- what is equal by two orders is equal by each
-both : (o p : Ordering) → is_eq (ordering_then o p) ≡ true → (is_eq o ≡ true) × (is_eq p ≡ true)
+pub both : (o p : Ordering) → is_eq (ordering_then o p) ≡ true → (is_eq o ≡ true) × (is_eq p ≡ true)
 both Less p e = absurd (cc)
 both Equal p e = (refl, e)
 both Greater p e = absurd (cc)

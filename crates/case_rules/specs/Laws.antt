@@ -1,6 +1,7 @@
 -- The shop keeps the laws that are asked of tables.
-use Rattle.std.specs.Prelude.{◌≡◌, ℕ, ◌%◌, Option, None, Some, is_some, refl, if◌then◌else◌}
-use Rattle.std.proofs.Common.{sym, ap, ◌∙◌, arith}
+use Rattle.std.specs.Prelude.{◌≡◌, ℕ, ◌%◌, true, false, Option, None, Some, is_some, refl, if◌then◌else◌}
+use Rattle.std.proofs.Common.{inl, inr, sym, ap, ◌∙◌, arith}
+use Rattle.std.proofs.lemmas.Bool.{cases_Bool}
 use Rattle.std.proofs.Math.Nat.{le-max_left}
 use Rattle.std.proofs.lemmas.Nat.{mod_below}
 use Rattle.index_feed.specs.declared.change.Row.{Row}
@@ -12,13 +13,18 @@ use Rattle.txn_core.specs.State.{on_item}
 use Rattle.case_rules.specs.declared.key.Key.{Key}
 use Rattle.case_rules.specs.declared.item.Item.{Item}
 use Rattle.case_rules.specs.Keys.{same_key, same_name, place_of}
-use Rattle.case_rules.specs.KeyLaws.{keys_total, same_itself, same_is}
-use Rattle.case_rules.specs.Catalogs.{table_of, drawn, has_table, is_numbered, index_of, name_of, first_of, item_in}
+use Rattle.case_rules.specs.KeyLaws.{keys_total, same_itself, same_is, name_is}
+use Rattle.case_rules.specs.declared.key.Name.{Name}
+use Rattle.case_rules.specs.declared.catalog.Table.{Table}
+use Rattle.case_rules.specs.declared.catalog.Catalog.{Catalog}
+use Rattle.case_rules.specs.declared.catalog.Command.{Command}
+use Rattle.case_rules.specs.declared.catalog.Command.TheVariants.{Create, AddIndex, Drop}
+use Rattle.case_rules.specs.Catalogs.{table_of, drawn, has_table, is_numbered, index_of, name_of, subject, first_of, item_in}
 use Rattle.case_rules.specs.TableLaws.{has_index, left_alone, index_is, table_drawn, index_drawn, indexes_rise, table_comes, index_comes_new, listed_first}
 use Rattle.case_rules.specs.Actions.{meets, done}
 use Rattle.case_rules.specs.Rows.{item_of, row_under, page_place}
 use Rattle.case_rules.specs.ParameterLaws.{item_itself, item_is, actions_equiv, actions_are}
-use Rattle.case_rules.specs.Shop.{protocol, indexing, service}
+use Rattle.case_rules.specs.Shop.{refusal, protocol, indexing, service}
 
 pub protocol_lawful : (n : ℕ) → IsLawful (protocol n)
 protocol_lawful n =
@@ -68,6 +74,30 @@ indexing_lawful n =
       brings = λ d c k e. listed_first (first_of d c) k e;
     }
 
+-- an item of a table that is there and not the command's is of another name
+pub apart_name :
+    (d : Command) (c : Catalog) (name : Name) (n : ℕ) → refusal d (table_of c (name_of d)) ≡ None → is_numbered (subject d c) n ≡ false
+    → is_numbered (table_of c name) n ≡ true → same_name (name_of d) name ≡ false
+apart_name d c name n kept away there = elim (cases_Bool (same_name (name_of d) name)) [
+  | inl one ↦ absurd (same_table d (table_of c name) kept away (ap (λ m. table_of c m) (name_is (name_of d) name one)) there)
+  | inr other ↦ other
+]
+  where
+    no_table_of : (o : Option Table) (m : Name) (first : Option Item) → refusal (Create m first) o ≡ None → o ≡ None
+    no_table_of None m first e = refl
+    no_table_of (Some t) m first e = absurd (cc)
+
+    same_table :
+        (d2 : Command) (t : Option Table) → refusal d2 (table_of c (name_of d2)) ≡ None → is_numbered (subject d2 c) n ≡ false
+        → table_of c (name_of d2) ≡ t → is_numbered t n ≡ true → ⊥
+    same_table (Create m first) t kept away is there =
+        let none : t ≡ None = sym is ∙ no_table_of (table_of c m) m first kept in
+        let no' : false ≡ true = sym (ap (λ o. is_numbered o n) none) ∙ there in absurd (cc)
+    same_table (AddIndex m) t kept away is there =
+        let no' : false ≡ true = sym away ∙ ap (λ o. is_numbered o n) is ∙ there in absurd (cc)
+    same_table (Drop m) t kept away is there =
+        let no' : false ≡ true = sym away ∙ ap (λ o. is_numbered o n) is ∙ there in absurd (cc)
+
 pub service_lawful : (n : ℕ) → IsServiceLawful (service n)
 service_lawful n =
     record {
@@ -77,12 +107,13 @@ service_lawful n =
       index = indexing_lawful n;
       cell_below = λ some k. mod_below (place_of k.customer k.number) n (omega (arith, some));
       page_below = λ some q. mod_below (page_place q) n (omega (arith, some));
-      one_concern = λ d c x y e. ap (λ k. same_name (name_of d) k.name) (same_is x y e);
-      spares = λ d moment c q named away h. ap (λ t. is_numbered t q.table) (left_alone d c q.name away) ∙ h;
+      one_concern = λ d c x y e. ap (λ k. is_numbered (subject d c) k.table) (same_is x y e);
+      spares = λ d moment c q named away h.
+          ap (λ t. is_numbered t q.table) (left_alone d c q.name (apart_name d c q.name q.table named away h)) ∙ h;
       acts_alike = λ d moment c q a v named away h same.
           let key = ap (λ k. same_name (name_of d) k.name) (same_is a.key q same) in
           ap (λ t. if meets a.condition v then done (is_some (index_of t)) a.deed v else Unmet)
-          (left_alone d c a.key.name (key ∙ away));
+          (left_alone d c a.key.name (key ∙ apart_name d c q.name q.table named away h));
       spares_indexes = λ d moment c q g named away h now.
-          ap (λ t. has_index t q.table g) (sym (left_alone d c q.name away)) ∙ now;
+          ap (λ t. has_index t q.table g) (sym (left_alone d c q.name (apart_name d c q.name q.table named away h))) ∙ now;
     }

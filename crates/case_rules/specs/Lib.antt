@@ -8,3 +8,8 @@ pub mod Parameters
 pub mod ParameterLaws
 pub mod Shop
 pub mod Laws
+pub mod PageLaws
+pub mod Entries
+pub mod EntryLaws
+pub mod Targets
+pub mod TargetLaws

@@ -46,6 +46,11 @@ abbrev pub page_index : Question → Option ℕ
 page_index (Number name) = None
 page_index (Page name table index place) = index
 
+-- the number of the table that a page is of
+abbrev pub page_table : Question → ℕ
+page_table (Number name) = 0
+page_table (Page name table index place) = table
+
 -- a page of items has what it needs, and one of an index, where it is the table's
 abbrev pub is_index : Option ℕ → Option ℕ → Bool
 is_index None index = true

@@ -16,8 +16,8 @@ use Rattle.case_rules.specs.declared.catalog.Command.TheVariants.{Create, AddInd
 use Rattle.case_rules.specs.declared.question.Question.{Question}
 use Rattle.case_rules.specs.declared.question.Told.{Told}
 use Rattle.case_rules.specs.declared.question.Told.TheVariants.{Numbered, NoTable, InUse, HasIndex, Full}
-use Rattle.case_rules.specs.Keys.{key_cmp, same_key, same_name, place_of}
-use Rattle.case_rules.specs.Catalogs.{no_table, table_of, drawn, number_after, has_table, indexes, index_of, name_of, catalog_after, first_of, key_in, item_in}
+use Rattle.case_rules.specs.Keys.{key_cmp, same_key, place_of}
+use Rattle.case_rules.specs.Catalogs.{no_table, table_of, drawn, number_after, subject, is_numbered, has_table, indexes, index_of, name_of, catalog_after, first_of, key_in, item_in}
 use Rattle.case_rules.specs.Actions.{act, removal, has_come}
 use Rattle.case_rules.specs.Rows.{item_of, row_of, number_told, told, page_place, page_index, serves, page}
 use Rattle.case_rules.specs.Parameters.{same_item, same_actions}
@@ -81,6 +81,6 @@ service partitions =
       page_index = page_index;
       page = λ c rows q. page rows q;
       refuses = λ d c. refusal d (table_of c (name_of d));
-      concerns = λ d c k. same_name (name_of d) k.name;
+      concerns = λ d c k. is_numbered (subject d c) k.table;
       rules = λ d moment c. ruling d (number_after (drawn c)) (table_of c (name_of d));
     }

@@ -1,5 +1,5 @@
 ghost use Rattle.std.specs.Prelude.{◌≡◌, IfOk};
-ghost use Rattle.case_rules.specs.Rows.{number_told, name_asked, page_place, page_index, is_index, serves, is_of, page};
+ghost use Rattle.case_rules.specs.Rows.{number_told, name_asked, page_place, page_index, page_table, is_index, serves, is_of, page};
 ghost use Rattle.case_rules.specs.Shop.{drawing};
 
 use crate::catalog::{Catalog, Table, index_of, is_numbered};
@@ -116,6 +116,16 @@ impl Question {
         }
     }
 
+    /// The number of the table that a page is of.
+    pub(crate) fn table(&self) -> u64
+        ensures { result ≡ page_table self.now }
+    {
+        match self {
+            Question::Number { .. } => 0,
+            Question::Page { table, .. } => *table,
+        }
+    }
+
     /// Whether the catalog has the table and the index of a page.
     pub(crate) fn is_served(&self, catalog: &Catalog) -> bool
         ensures { result ≡ serves catalog.now self.now }
@@ -135,7 +145,7 @@ impl Question {
     }
 
     /// Whether a row is of the page's table.
-    fn is_of(&self, key: &Key) -> bool
+    pub(crate) fn is_of(&self, key: &Key) -> bool
         ensures { result ≡ is_of self.now key.now }
     {
         match self {

@@ -3,7 +3,7 @@ ghost use Rattle.case_rules.specs.Shop.{service};
 ghost use Rattle.case_rules.specs.Laws.{service_lawful};
 
 use crate::action::{Action, Fault};
-use crate::catalog::{Catalog, Command, index_of};
+use crate::catalog::{Catalog, Command, index_of, is_numbered};
 use crate::equality::{
     are_equal_actions, are_equal_faults, are_equal_items, are_equal_keys, are_equal_told,
     are_same_actions,
@@ -181,8 +181,8 @@ impl Rules for Shop {
         })
     }
 
-    fn concerns(command: &Command, _catalog: &Catalog, key: &Key) -> bool {
-        command.name().is(key.name)
+    fn concerns(command: &Command, catalog: &Catalog, key: &Key) -> bool {
+        is_numbered(command.subject(catalog), key.table)
     }
 
     fn rule(

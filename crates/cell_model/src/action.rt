@@ -42,6 +42,15 @@ impl KeyedAction {
         &self.key
     }
 
+    /// The same. What is done to the item is let go.
+    pub fn into_key(self) -> CellKey
+        ensures { result ≡ self.key }
+    {
+        let KeyedAction { key, action } = self;
+        drop(action);
+        key
+    }
+
     /// What is done to the item.
     pub fn action(&self) -> &TransactAction
         ensures { self.now ≡ stated_action self.now.key result.now }

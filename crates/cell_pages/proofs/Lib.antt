@@ -1,2 +1,5 @@
 pub mod Picked
 pub mod Takes
+pub mod Walks
+pub mod Entering
+pub mod Sources

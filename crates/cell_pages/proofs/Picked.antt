@@ -6,10 +6,9 @@ use Rattle.attr_value.specs.Tree.{Attributes}
 use Rattle.table_schema.specs.declared.keys.KeyNames.{KeyNames}
 use Rattle.table_schema.specs.declared.schema.Schema.{Schema}
 use Rattle.row_keys.specs.declared.row_key.RowKey.{RowKey}
-use Rattle.row_keys.specs.Rows.{Entries, Rows, position, table_entries, index_of}
+use Rattle.row_keys.specs.Rows.{Entries, Rows, index_of}
 use Rattle.cell_model.specs.declared.key.CellKey.{CellKey}
-use Rattle.cell_model.specs.declared.answer.PageRow.{PageRow}
-use Rattle.cell_model.specs.Pages.{CellRows, page_row, item_in, items_of, entry_in}
+use Rattle.cell_model.specs.Pages.{CellRows, item_in, items_of}
 use Rattle.cell_pages.specs.Entered.{entered_if}
 
 -- what one more element adds
@@ -36,7 +35,7 @@ next_picked h xs i x old new within is before after =
 
 -- a list that is picked and mapped is picked as mapped
 module _ {X Y Z : Type 0} (g : Y → Z) (h : X → Option Y) where
-  picked_as : (xs : List X) → map g (filter_map h xs) ≡ filter_map (λ x. option_map g (h x)) xs
+  pub picked_as : (xs : List X) → map g (filter_map h xs) ≡ filter_map (λ x. option_map g (h x)) xs
   picked_as [] = refl
   picked_as (x ∷ xs) = go (h x) (picked_as xs)
     where
@@ -44,22 +43,6 @@ module _ {X Y Z : Type 0} (g : Y → Z) (h : X → Option Y) where
           → map g (cons_option o (filter_map h xs)) ≡ cons_option (option_map g o) (filter_map (λ x. option_map g (h x)) xs)
       go None rest = rest
       go (Some y) rest = ap (λ l. g y ∷ l) rest
-
-mapped_twice : {X Y Z : Type 0} (f : Y → Z) (g : X → Y) (xs : List X) → map f (map g xs) ≡ map (λ x. f (g x)) xs
-mapped_twice f g [] = refl
-mapped_twice f g (x ∷ xs) = ap (λ l. f (g x) ∷ l) (mapped_twice f g xs)
-
--- the rows of a table, picked out of what is kept
-abbrev pub own : ℕ → CellKey × Attributes → Option PageRow
-own table kept = option_map (λ r. page_row (position r.0 r.0, r.1)) (item_in table kept)
-
-pub own_picked : (table : ℕ) (kept : CellRows) → map page_row (table_entries (items_of table kept)) ≡ filter_map (own table) kept
-own_picked table kept =
-    mapped_twice page_row (λ row. (position row.0 row.0, row.1)) (items_of table kept)
-    ∙ picked_as (λ r. page_row (position r.0 r.0, r.1)) (item_in table) kept
-
-pub indexed_picked : (table index : ℕ) (kept : CellRows) → map page_row (filter_map (entry_in table index) kept) ≡ filter_map (λ one. option_map page_row (entry_in table index one)) kept
-indexed_picked table index kept = picked_as page_row (entry_in table index) kept
 
 -- an index of the items behind a place, with the item there
 pub one_entered : (schema : Schema) (keys : KeyNames) (table : ℕ) (kept : CellRows) (i : ℕ) (x : CellKey × Attributes) (old new : Entries) → i < length kept → x ≡ get_or kept i x

@@ -21,7 +21,7 @@ use Rattle.std.proofs.lemmas.List.Sums.{fold-append}
 use Rattle.cell_pages.specs.Asked.{is_behind, is_asked, entry_of, left, left_with}
 
 -- a page that is over takes nothing
-over_takes : (room : PageRoom) (es : Entries) → is_over room ≡ true → taken room es ≡ []
+pub over_takes : (room : PageRoom) (es : Entries) → is_over room ≡ true → taken room es ≡ []
 over_takes room [] over = refl
 over_takes room (e ∷ es) over = cond-true (is_over room) [] _ over
 
@@ -53,7 +53,7 @@ kept_twice p q (x ∷ xs) = go (p x) (kept_twice p q xs)
     go true rest = ap (λ l. if q x then x ∷ l else l) rest
     go false rest = rest
 
-kept_reversed : {X : Type 0} (p : X → Bool) (xs : List X) → filter p (reverse xs) ≡ reverse (filter p xs)
+pub kept_reversed : {X : Type 0} (p : X → Bool) (xs : List X) → filter p (reverse xs) ≡ reverse (filter p xs)
 kept_reversed p [] = refl
 kept_reversed p (x ∷ xs) =
     ap (filter p) (reverse_cons x xs) ∙ filter-append p (reverse xs) (x ∷ []) ∙ ap (λ l. l ++ filter p (x ∷ [])) (kept_reversed p xs) ∙ go (p x)
@@ -109,26 +109,26 @@ one_passed page room rows rest more row all passed before met =
     before ∙ ap (λ l. map entry_of rows ++ l) (met ∙ cond-false (is_asked page row.at) _ _ passed)
 
 -- where nothing is left, what was taken is the page
-pub ended : (page : PageQuestion) (room : PageRoom) (rows rest : List PageRow) (stopped : Bool) (all : Entries)
-    → all ≡ map entry_of rows ++ left page room rest → room ≡ room_after page.room (map entry_of rows) → left page room rest ≡ [] → stopped ≡ is_over room
+pub ended : (page : PageQuestion) (room : PageRoom) (rows : List PageRow) (more : Entries) (stopped : Bool) (all : Entries)
+    → all ≡ map entry_of rows ++ more → room ≡ room_after page.room (map entry_of rows) → more ≡ [] → stopped ≡ is_over room
     → ◌≡◌ {A = CatalogAnswer} (answer.Part rows room stopped) (part_of page.room all)
-ended page room rows rest stopped all taken left_is none stops =
+ended page room rows more stopped all taken left_is none stops =
     let es : all ≡ map entry_of rows = taken ∙ ap (λ l. map entry_of rows ++ l) none ∙ append-nil (map entry_of rows) in
     let room_is : room ≡ room_after page.room all = left_is ∙ ap (room_after page.room) (sym es) in
     let rows_are : rows ≡ map page_row all = sym (ap (map page_row) es ∙ as_rows rows) in
     let over : stopped ≡ is_over (room_after page.room all) = stops ∙ ap is_over room_is in
     λ i. answer.Part (rows_are i) (room_is i) (over i)
 
-abbrev inside : PageQuestion → Position × Attributes → Bool
+abbrev pub inside : PageQuestion → Position × Attributes → Bool
 inside page e = is_inside page.span e.0.read
 
 -- the rows behind a place, among those inside, are those that are asked for
-forward_asked : (page : PageQuestion) (after : Option Position) (es : Entries)
+pub forward_asked : (page : PageQuestion) (after : Option Position) (es : Entries)
     → filter (λ e. inside page e && is_behind true after e.0) es ≡ rows_after position_order true after (filter (inside page) es)
 forward_asked page None es = all_kept (inside page) es
 forward_asked page (Some place) es = sym (kept_twice (inside page) (λ e. is_behind true (Some place) e.0) es)
 
-backward_asked : (page : PageQuestion) (after : Option Position) (es : Entries)
+pub backward_asked : (page : PageQuestion) (after : Option Position) (es : Entries)
     → filter (λ e. inside page e && is_behind false after e.0) (reverse es) ≡ rows_after position_order false after (filter (inside page) es)
 backward_asked page None es = all_kept (inside page) (reverse es) ∙ kept_reversed (inside page) es
 backward_asked page (Some place) es =

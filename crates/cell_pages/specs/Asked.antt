@@ -34,9 +34,12 @@ left page room rows = taken room (filter (λ entry. is_asked page entry.0) (map 
 abbrev pub left_with : PageQuestion → PageRoom → PageRow → List PageRow → Entries
 left_with page room row rows = if is_asked page row.at then entry_of row ∷ left page (room_behind room row.item) rows else left page room rows
 
+-- the page of these rows, which are in order
+abbrev pub part_of_rows : PageQuestion → Entries → CatalogAnswer
+part_of_rows page entries =
+    part_of page.room
+    (taken page.room (rows_after position_order page.forward page.after (filter (λ entry. is_inside page.span entry.0.read) entries)))
+
 -- a page of the rows of a table that may not be there
 abbrev pub part_in : Option CatalogTable → CellRows → PageQuestion → CatalogAnswer
-part_in table rows page =
-    part_of page.room
-    (taken page.room
-    (rows_after position_order page.forward page.after (filter (λ entry. is_inside page.span entry.0.read) (rows_in table page.source rows))))
+part_in table rows page = part_of_rows page (rows_in table page.source rows)

@@ -1,3 +1,4 @@
--- An item entered into an index, and the rows that a page is asked for.
+-- An item entered into an index, the rows that a page is asked for, and those of an ordered map.
 pub mod Entered
 pub mod Asked
+pub mod Walked

@@ -1,12 +1,18 @@
-//! Pages of the rows of one cell, from a list of all that the cell keeps.
+//! Pages of the rows of one cell, from a list of all that the cell keeps, or from an ordered map.
 //!
 //! A cell lists what it keeps in the order of keys: the items of all tables, or the rows of an index. [`page_part`] picks
-//! the rows that a page is asked for, and takes them until the page is over. `specs/Pages.antt` of `cell_model` says what
-//! it answers. API Reference: Query, Scan.
+//! the rows that a page is asked for, and takes them until the page is over. [`map_page`] answers the same from the map of a
+//! table's items, or of an index's rows, and goes along it from where the page goes on. `specs/Pages.antt` of `cell_model` says
+//! what they answer. API Reference: Query, Scan.
 #![tactic(auto)]
 
+mod ends;
 mod local;
+mod maps;
 mod part;
 mod rows;
+mod walk;
 
+pub use maps::map_page;
 pub use part::page_part;
+pub use walk::Keeps;

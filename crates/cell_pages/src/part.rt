@@ -7,10 +7,11 @@ ghost use Rattle.row_keys.specs.Keys.{row_order};
 ghost use Rattle.page_ranges.specs.Span.{is_inside, low_end, high_end};
 ghost use Rattle.cell_model.specs.declared.question.PageSource.TheVariants.{Local};
 ghost use Rattle.cell_model.specs.Pages.{page_row, source_rows, rows_in, is_over, room_behind, part_of};
-ghost use Rattle.cell_pages.specs.Asked.{is_behind, is_asked, left, left_with, part_in};
+ghost use Rattle.cell_pages.specs.Asked.{is_behind, is_asked, left, left_with, part_in, part_of_rows};
+ghost use Rattle.row_keys.specs.Rows.{Entries};
 
 use crate::local::local_rows;
-use crate::rows::{Kept, index_rows, own_rows};
+use crate::rows::{Kept, kept_rows};
 use base_types::Seq;
 use cell_model::{CatalogAnswer, CatalogTable, PageQuestion, PageRoom, PageRow, PageSource};
 use page_ranges::Span;
@@ -28,8 +29,8 @@ fn source_rows(
     ensures { IfOk result (λ list. list ≡ map page_row (source_rows table.now source kept.now)) }
 {
     match source {
-        PageSource::Table => own_rows(alloc, table.number, kept),
-        PageSource::Global { number } => index_rows(alloc, table.number, number, kept),
+        PageSource::Table => kept_rows(alloc, table.number, source, kept),
+        PageSource::Global { .. } => kept_rows(alloc, table.number, source, kept),
         PageSource::Local { place } => local_source_rows(alloc, table, place, kept),
     }
 }
@@ -65,14 +66,14 @@ fn rows_in(
 }
 
 /// Whether the page has as many rows or bytes as it may.
-fn is_over(room: PageRoom) -> bool
+pub(crate) fn is_over(room: PageRoom) -> bool
     ensures { result ≡ is_over room }
 {
     room.rows == Some(0) || room.bytes == 0
 }
 
 /// What a page may still take after one more row.
-fn room_behind(room: PageRoom, item: &SharedItem) -> PageRoom
+pub(crate) fn room_behind(room: PageRoom, item: &SharedItem) -> PageRoom
     ensures { result ≡ room_behind room item.now }
 {
     PageRoom {
@@ -123,7 +124,7 @@ fn is_behind(forward: bool, after: Option<&Position>, at: &Position) -> bool
 }
 
 /// Whether a page is asked for the row at the position.
-fn is_asked(page: &PageQuestion, at: &Position) -> bool
+pub(crate) fn is_asked(page: &PageQuestion, at: &Position) -> bool
     ensures { result ≡ is_asked page.now at.now }
 {
     is_inside(&page.span, &at.read) && is_behind(page.forward, page.after.as_ref(), at)
@@ -178,6 +179,31 @@ fn part(
     })
 }
 
+/// A page that has no row.
+pub(crate) fn no_row(alloc: Global, page: &PageQuestion) -> CatalogAnswer
+    ensures { result ≡ part_of page.now.room [] }
+{
+    CatalogAnswer::Part {
+        rows: Seq::new(alloc),
+        room: page.room,
+        stopped: is_over(page.room),
+    }
+}
+
+/// The page of these rows, which are in order.
+pub(crate) fn part_in_order(
+    alloc: Global,
+    page: &PageQuestion,
+    rows: Seq<PageRow>,
+) -> Result<CatalogAnswer, NoMemory>
+    ensures { IfOk result (λ answer. (entries : Entries) → rows ≡ map page_row entries → answer ≡ part_of_rows page.now entries) }
+{
+    if page.forward {
+        return part(alloc, page, reversed(alloc, rows)?);
+    }
+    part(alloc, page, rows)
+}
+
 /// A page of the rows of one cell, which are all that it keeps, in the order of keys: the items, or for a page of a global
 /// index the rows of that index. Where the table is not there the page has no row.
 ///
@@ -191,8 +217,5 @@ pub fn page_part(
     ensures { IfOk result (λ answer. answer ≡ part_in (option_copied table.entry) kept.now page.now) }
 {
     let rows = rows_in(alloc, table, page.source, kept)?;
-    if page.forward {
-        return part(alloc, page, reversed(alloc, rows)?);
-    }
-    part(alloc, page, rows)
+    part_in_order(alloc, page, rows)
 }

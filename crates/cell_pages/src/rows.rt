@@ -1,12 +1,11 @@
-//! The rows of a table or of an index, among all that a cell keeps.
+//! The rows of a table or of a global index, among all that a cell keeps.
 
 ghost use Rattle.std.specs.Prelude.{◌≡◌, ◌++◌, map, option_map, filter_map, option_to_list, IfOk, OnOk};
-ghost use Rattle.row_keys.specs.Rows.{position};
-ghost use Rattle.cell_model.specs.Pages.{page_row, item_in, items_of, entry_in};
-ghost use Rattle.row_keys.specs.Rows.{table_entries};
+ghost use Rattle.cell_model.specs.Pages.{page_row};
+ghost use Rattle.cell_pages.specs.Walked.{position_under, row_under};
 
 use base_types::Seq;
-use cell_model::{CellKey, PageRow};
+use cell_model::{CellKey, IndexRowKey, ItemKey, PageRow, PageSource};
 use row_keys::Position;
 use shared_item::SharedItem;
 use std::alloc::{AllocError as NoMemory, Global};
@@ -14,39 +13,65 @@ use std::alloc::{AllocError as NoMemory, Global};
 /// What a cell keeps, at one key.
 pub(crate) type Kept = (CellKey, SharedItem);
 
-/// The kept item as a row of the table, where it is an item of it.
-fn own_row(table: u64, kept: &Kept) -> Result<Option<PageRow>, NoMemory>
-    ensures { IfOk result (λ row. row ≡ option_map (λ r. page_row (position r.0 r.0, r.1)) (item_in table kept.now)) }
+/// Where an item of the table stands, where that is what is read.
+fn position_of_item(
+    table: u64,
+    source: PageSource,
+    key: &ItemKey,
+) -> Result<Option<Position>, NoMemory>
+    ensures { IfOk result (λ at. at ≡ position_under table source (CellKey.Item key.now)) }
 {
-    let (key, item) = kept;
-    match key {
-        CellKey::Item(key) if key.table == table => {
-            Ok(Some(PageRow {
-                at: Position {
-                    read: key.key.try_clone()?,
-                    item: key.key.try_clone()?,
-                },
-                item: item.share()?,
-            }))
+    match source {
+        PageSource::Table if key.table == table => Ok(Some(Position {
+            read: key.key.try_clone()?,
+            item: key.key.try_clone()?,
+        })),
+        _ => Ok(None),
+    }
+}
+
+/// Where a row of the index stands, where that is what is read.
+fn position_of_row(
+    table: u64,
+    source: PageSource,
+    key: &IndexRowKey,
+) -> Result<Option<Position>, NoMemory>
+    ensures { IfOk result (λ at. at ≡ position_under table source (CellKey.Row key.now)) }
+{
+    match source {
+        PageSource::Global { number } if key.table == table && key.index == number => {
+            Ok(Some(key.at.try_clone()?))
         }
         _ => Ok(None),
     }
 }
 
-/// The kept row as a row of the index, where it is one.
-fn index_row(table: u64, index: u64, kept: &Kept) -> Result<Option<PageRow>, NoMemory>
-    ensures { IfOk result (λ row. row ≡ option_map page_row (entry_in table index kept.now)) }
+/// Where a row of the source stands that is kept under a key, if it is one.
+pub(crate) fn position_under(
+    table: u64,
+    source: PageSource,
+    key: &CellKey,
+) -> Result<Option<Position>, NoMemory>
+    ensures { IfOk result (λ at. at ≡ position_under table source key.now) }
+{
+    match key {
+        CellKey::Item(key) => position_of_item(table, source, key),
+        CellKey::Row(key) => position_of_row(table, source, key),
+    }
+}
+
+/// The kept one as a row of the source, where it is one.
+fn kept_row(table: u64, source: PageSource, kept: &Kept) -> Result<Option<PageRow>, NoMemory>
+    ensures { IfOk result (λ row. row ≡ option_map page_row (row_under table source kept.now)) }
 {
     let (key, item) = kept;
-    match key {
-        CellKey::Row(key) if key.table == table && key.index == index => {
-            Ok(Some(PageRow {
-                at: key.at.try_clone()?,
-                item: item.share()?,
-            }))
-        }
-        _ => Ok(None),
-    }
+    let Some(at) = position_under(table, source, key)? else {
+        return Ok(None);
+    };
+    Ok(Some(PageRow {
+        at,
+        item: item.share()?,
+    }))
 }
 
 /// Adds a row, where there is one.
@@ -59,29 +84,18 @@ fn add(list: &mut Seq<PageRow>, row: Option<PageRow>) -> Result<(), NoMemory>
     Ok(())
 }
 
-/// The rows of a table, in the order in which they are kept.
-pub(crate) fn own_rows(alloc: Global, table: u64, kept: &[Kept]) -> Result<Seq<PageRow>, NoMemory>
-    ensures { IfOk result (λ list. list ≡ map page_row (table_entries (items_of table kept.now))) }
-{
-    let mut list = Seq::new(alloc);
-    for one in kept {
-        add(&mut list, own_row(table, one)?)?;
-    }
-    Ok(list)
-}
-
-/// The rows of a global index, in the order in which they are kept.
-pub(crate) fn index_rows(
+/// The rows of a table or of a global index, in the order in which they are kept.
+pub(crate) fn kept_rows(
     alloc: Global,
     table: u64,
-    index: u64,
+    source: PageSource,
     kept: &[Kept],
 ) -> Result<Seq<PageRow>, NoMemory>
-    ensures { IfOk result (λ list. list ≡ map page_row (filter_map (entry_in table index) kept.now)) }
+    ensures { IfOk result (λ list. list ≡ map page_row (filter_map (row_under table source) kept.now)) }
 {
     let mut list = Seq::new(alloc);
     for one in kept {
-        add(&mut list, index_row(table, index, one)?)?;
+        add(&mut list, kept_row(table, source, one)?)?;
     }
     Ok(list)
 }

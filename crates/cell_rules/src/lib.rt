@@ -2,11 +2,13 @@
 //!
 //! [`TableRules`] is the type: its keys are [`CellKey`](cell_model::CellKey)s, an item is shared, an action is one of a
 //! TransactWriteItems with its key, and the catalog is that of `cell_model`. What each call answers is what the definitions
-//! there say, for every number of partitions, so that a history of the cells can be replayed.
+//! there say, for every number of partitions, so that a history of the cells can be replayed. A cell of `partition` can keep
+//! them: keys are compared as the rules compare them.
 #![tactic(auto)]
 
 mod act;
 mod answers;
+mod cells;
 mod copies;
 mod equal;
 mod keys;

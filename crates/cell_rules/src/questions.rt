@@ -5,6 +5,7 @@ ghost use Rattle.std.specs.List.{list_any};
 ghost use Rattle.std.specs.Option.{option_copied};
 ghost use Rattle.cell_model.specs.Catalogs.{index_numbers};
 ghost use Rattle.cell_model.specs.Pages.{place_or, page_cell, index_number, page_index, has_source, has_source_in, serves};
+ghost use Rattle.cell_rules.specs.PageLaws.{read_table};
 
 use crate::keys::cell_at;
 use cell_catalog::{index_numbered, table_numbered};
@@ -52,6 +53,17 @@ pub(crate) fn page_index(question: &CatalogQuestion) -> Option<u64>
         CatalogQuestion::Page(page) => index_number(page.source),
         CatalogQuestion::Look { .. } => None,
         CatalogQuestion::Names { .. } => None,
+    }
+}
+
+/// The number of the table that a page is of.
+pub(crate) fn page_table(question: &CatalogQuestion) -> u64
+    ensures { result ≡ read_table question.now }
+{
+    match question {
+        CatalogQuestion::Page(page) => page.table,
+        CatalogQuestion::Look { .. } => 0,
+        CatalogQuestion::Names { .. } => 0,
     }
 }
 

@@ -48,8 +48,8 @@ module _ {K V : Type 0} {O : ord.Ghosts K} {E : eq.Ghosts K} {P : partial.Ghosts
 
   pub closed :
       (m n : BTreeMap ℕ (TableItems K V O E P)) (u : ℕ) → n.entries ≡ remove_entry (is_at (nat_cmp u)) m.entries
-      → held_of (get nat_cmp m u) ≡ 0 → held_under n ≡ held_under m
-  closed m n u e free =
+      → held_under n + held_of (get nat_cmp m u) ≡ held_under m
+  closed m n u e =
       let sum = without (λ (items : TableItems K V O E P). items.held) nat_cmp m n u e in
       let same = held_or (get nat_cmp m u) in
       omega arith

@@ -1,7 +1,7 @@
 -- What a call changes in a store.
 use Rattle.std.specs.Prelude.{◌≡◌, ◌+◌, ℕ, not, ◌&&◌, ◌||◌, Option, None, if◌then◌else◌}
 use Rattle.std.specs.Ordering.{nat_cmp}
-use Rattle.std.specs.BTreeMap.{is_at}
+use Rattle.std.specs.BTreeMap.{BTreeMap, get, is_at}
 use Rattle.std.specs.declared.cmp.Ord as ord
 use Rattle.std.specs.declared.cmp.PartialEq as eq
 use Rattle.std.specs.declared.cmp.PartialOrd as partial
@@ -11,7 +11,7 @@ use Rattle.txn_core.specs.State.{Tally}
 use Rattle.item_store.specs.declared.slot.Slot.{Slot}
 use Rattle.item_store.specs.declared.store.ItemStore.{ItemStore}
 use Rattle.item_store.specs.Slots.{image_of, pending_of, committed_at, counted, last_of, stamp_of, slot_of}
-use Rattle.item_store.specs.Tables.{PlacesUnder, Same, has_table, slot_under}
+use Rattle.item_store.specs.Tables.{PlacesUnder, Same, has_table, held_of, slot_under}
 use Rattle.item_store.specs.Counts.{tally}
 
 module _ {K V : Type 0} {O : ord.Ghosts K} {E : eq.Ghosts K} {P : partial.Ghosts K} where
@@ -54,12 +54,18 @@ module _ {K V : Type 0} {O : ord.Ghosts K} {E : eq.Ghosts K} {P : partial.Ghosts
     pub counts : tally t.counts ≡ tally s.counts
     pub held : t.held ≡ s.held
 
-  -- a table is gone with its items, and all else is as it was
+  -- a table is gone with its items, also those that were held, and all else is as it was
   pub record Closes (s t : ItemStore K V O E P) (u : ℕ) : Type 0 where
     pub slots : (v : ℕ) (q : K) → slot_at t v q ≡ (if is_at (nat_cmp u) v then None else slot_at s v q)
     pub tables : (v : ℕ) → has_table t.tables v ≡ (not (is_at (nat_cmp u) v) && has_table s.tables v)
     pub counts : tally t.counts ≡ tally s.counts
-    pub held : t.held ≡ s.held
+    pub held : t.held + held_of (get nat_cmp s.tables u) ≡ s.held
+
+  -- a table has these items in place of those that it had, and all else is as it was
+  pub record Fills (s t : ItemStore K V O E P) (u : ℕ) (slots : BTreeMap K (Slot V)) : Type 0 where
+    pub slots_are : (v : ℕ) (q : K) → slot_at t v q ≡ (if is_at (nat_cmp u) v then get O.cmp slots q else slot_at s v q)
+    pub tables : (v : ℕ) → has_table t.tables v ≡ has_table s.tables v
+    pub counts : tally t.counts ≡ tally s.counts
 
   -- one change more is counted, and all else is as it was
   pub record CountsOne (s t : ItemStore K V O E P) : Type 0 where

@@ -11,8 +11,8 @@ use crate::counts::Counts;
 use crate::slot::{Committed, Pending, holder, item_in, last, row, version};
 use crate::table::TableItems;
 use crate::tables::{
-    close_table, hold_under, open_table, put_under, remove_under, replace_under, slot_under,
-    take_pending_under,
+    close_table, fill_table, hold_under, open_table, put_under, remove_under, replace_under,
+    slot_under, take_pending_under,
 };
 use std::alloc::{AllocError as NoMemory, Global};
 use std::collections::BTreeMap;
@@ -34,7 +34,7 @@ pub struct ItemStore<K: Ord, V> {
 
 impl<K: Ord, V> ItemStore<K, V> {
     ghost use Rattle.item_store.specs.Counts.{fresh, tally};
-    ghost use Rattle.item_store.specs.Changes.{Changes, Closes, Commits, CountsOne, Opens, Settles, Unchanged, slot_at};
+    ghost use Rattle.item_store.specs.Changes.{Changes, Closes, Commits, CountsOne, Fills, Opens, Settles, Unchanged, slot_at};
 
     /// No table.
     pub fn new(alloc: Global) -> ItemStore<K, V>
@@ -217,24 +217,50 @@ impl<K: Ord, V> ItemStore<K, V> {
         open_table(alloc, &mut self.tables, table)
     }
 
-    /// Drops a table of which no item is held, with its items. It costs no walk over other tables, and takes no memory.
+    /// Drops a table with its items, also those that are held. It costs no walk over other tables, and takes no memory.
     pub fn close_table(&mut self, table: u64)
     where
         K: Drop,
         V: Drop,
-        requires free { held_of (get nat_cmp self.old.tables table) ≡ 0 }
         ensures closed { Closes self.old self.new table }
     {
-        close_table(&mut self.tables, table);
+        self.held -= close_table(&mut self.tables, table);
+    }
+
+    /// Puts items of which none is held in place of those of a table that is there. It takes no memory.
+    pub fn fill_table(&mut self, table: u64, items: TableItems<K, V>)
+    where
+        K: Drop,
+        V: Drop,
+        requires there { IsTrue (has_table self.old.tables table) }
+        requires none { items.held ≡ 0 }
+        ensures filled { Fills self.old self.new table items.slots }
+    {
+        self.held -= fill_table(&mut self.tables, table, items);
     }
 
     /// Counts a change of the catalog, which is one in each cell. `NoMemory` where no number is left for it.
     pub fn count_change(&mut self) -> Result<(), NoMemory>
         ensures counted { OnOk result (CountsOne self.old self.new) }
+        ensures left { OnErr result (self.old.counts.count + self.old.held + 1 ≡ 2 ^ 64) }
         ensures err { OnErr result (Unchanged self.old self.new) }
     {
         self.counts.count = self.next_number()?;
         Ok(())
+    }
+
+    /// The latest stamp at which an item of the cell became absent.
+    pub fn floor(&self) -> Stamp
+        ensures { result ≡ self.now.counts.floor }
+    {
+        self.counts.floor
+    }
+
+    /// The tables under their numbers.
+    pub fn tables(&self) -> &BTreeMap<u64, TableItems<K, V>>
+        ensures { result.now ≡ self.now.tables }
+    {
+        &self.tables
     }
 
     /// The items of a table.
@@ -245,9 +271,10 @@ impl<K: Ord, V> ItemStore<K, V> {
     }
 
     /// The number of the next change, where one is left beside those that are set aside.
-    fn next_number(&self) -> Result<u64, NoMemory>
+    pub fn next_number(&self) -> Result<u64, NoMemory>
         ensures next { IfOk result (λ number. number ≡ self.now.counts.count + 1) }
         ensures left { OnOk result (self.now.counts.count + self.now.held + 1 < 2 ^ 64) }
+        ensures none { OnErr result (self.now.counts.count + self.now.held + 1 ≡ 2 ^ 64) }
     {
         let Some(taken) = self.counts.count.checked_add(self.held) else {
             unreachable!()

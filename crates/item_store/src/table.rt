@@ -2,7 +2,7 @@
 
 ghost use Rattle.std.specs.Prelude.{◌≡◌, ◌+◌, ◌<◌, ◌^◌, None, Some, IsSome, IfOk, OnOk, OnErr};
 ghost use Rattle.std.specs.Option.{option_copied};
-ghost use Rattle.std.specs.BTreeMap.{get};
+ghost use Rattle.std.specs.BTreeMap.{IsOrdered, get};
 ghost use Rattle.item_store.specs.Slots.{committed_of, pending_of, slot_of, unheld};
 ghost use Rattle.item_store.specs.Maps.{Places, held_among};
 
@@ -21,7 +21,7 @@ pub struct TableItems<K: Ord, V> {
 
 impl<K: Ord, V> TableItems<K, V> {
     /// No item.
-    pub(crate) fn new(alloc: Global) -> TableItems<K, V>
+    pub fn new(alloc: Global) -> TableItems<K, V>
         ensures slots { (q : K) → get K.cmp result.slots q ≡ None }
         ensures held { result.held ≡ 0 }
     {
@@ -45,6 +45,13 @@ impl<K: Ord, V> TableItems<K, V> {
         &self.slots
     }
 
+    /// Tells of the slots that they are in the order of their keys. It costs nothing.
+    pub fn are_in_order(&self)
+        ensures { IsOrdered K.cmp self.now.slots }
+    {
+        let _count = self.slots.len();
+    }
+
     /// How many items are held.
     pub fn held(&self) -> u64
         ensures { result ≡ self.now.held }
@@ -53,11 +60,7 @@ impl<K: Ord, V> TableItems<K, V> {
     }
 
     /// Puts what is committed in the place of a slot that no transaction holds, and hands that one out.
-    pub(crate) fn put(
-        &mut self,
-        key: K,
-        committed: Committed<V>,
-    ) -> Result<Option<Slot<V>>, NoMemory>
+    pub fn put(&mut self, key: K, committed: Committed<V>) -> Result<Option<Slot<V>>, NoMemory>
     where
         K: Drop,
         V: Drop,

@@ -11,6 +11,7 @@ use crate::slot::{Committed, Pending, Slot};
 use crate::table::TableItems;
 use std::alloc::{AllocError as NoMemory, Global};
 use std::collections::BTreeMap;
+use std::mem;
 
 /// What is kept of an item.
 pub(crate) fn slot_under<'t, K: Ord, V>(
@@ -148,15 +149,47 @@ pub(crate) fn open_table<K: Ord + Drop, V: Drop>(
     }
 }
 
-/// Takes out a table of which no item is held, with its items. It takes no memory.
+/// Takes out a table with its items, and tells how many of them were held. It takes no memory.
 pub(crate) fn close_table<K: Ord + Drop, V: Drop>(
     tables: &mut BTreeMap<u64, TableItems<K, V>>,
     table: u64,
-)
-    requires free { held_of (get nat_cmp tables.old table) ≡ 0 }
+) -> u64
+    ensures freed { result ≡ held_of (get nat_cmp tables.old table) }
     ensures slots { (v : _) (q : K) → slot_under tables.new v q ≡ (if is_at (nat_cmp table) v then None else slot_under tables.old v q) }
     ensures tables { (v : _) → has_table tables.new v ≡ (not (is_at (nat_cmp table) v) && has_table tables.old v) }
-    ensures held { held_under tables.new ≡ held_under tables.old }
+    ensures held { held_under tables.new + result ≡ held_under tables.old }
 {
-    drop(tables.remove(&table));
+    match tables.remove(&table) {
+        None => 0,
+        Some(items) => {
+            let held = items.held();
+            drop(items);
+            held
+        }
+    }
+}
+
+/// Puts items of which none is held in place of those of a table that is there, and tells how many of these were held. It takes
+/// no memory.
+pub(crate) fn fill_table<K: Ord + Drop, V: Drop>(
+    tables: &mut BTreeMap<u64, TableItems<K, V>>,
+    table: u64,
+    items: TableItems<K, V>,
+) -> u64
+    requires there { IsTrue (has_table tables.old table) }
+    requires none { items.held ≡ 0 }
+    ensures slots { (v : _) (q : K) → slot_under tables.new v q
+        ≡ (if is_at (nat_cmp table) v then get K.cmp items.slots q else slot_under tables.old v q) }
+    ensures tables { (v : _) → has_table tables.new v ≡ has_table tables.old v }
+    ensures held { held_under tables.new + result ≡ held_under tables.old }
+{
+    match tables.get_mut(&table) {
+        Some(place) => {
+            let old = mem::replace(place, items);
+            let held = old.held();
+            drop(old);
+            held
+        }
+        None => unreachable!(),
+    }
 }

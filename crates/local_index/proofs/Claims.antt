@@ -2,7 +2,7 @@
 use Rattle.std.proofs.Common.{◌≡◌, Option, None, Some, refl}
 use Rattle.local_index.specs.declared.claim.Claim.{Claim}
 use Rattle.local_index.specs.declared.claim.Claim.TheVariants.{Committed, Held, Both}
-use Rattle.local_index.specs.Claims.{joined, without}
+use Rattle.local_index.specs.Claims.{instead, joined, without}
 
 pub joined_again : (k : Claim) (c : Option Claim) → joined k (joined k c) ≡ joined k c
 joined_again Committed None = refl
@@ -17,6 +17,10 @@ joined_again Both None = refl
 joined_again Both (Some Committed) = refl
 joined_again Both (Some Held) = refl
 joined_again Both (Some Both) = refl
+
+pub instead_again : (k : Claim) (c : Option Claim) → instead k (instead k c) ≡ instead k c
+instead_again k None = refl
+instead_again k (Some c) = refl
 
 pub without_again : (k : Claim) (c : Option Claim) → without k (without k c) ≡ without k c
 without_again Committed None = refl

@@ -1,5 +1,5 @@
 -- The entries of a cell keep to its items.
-use Rattle.std.proofs.Common.{◌≡◌, ℕ, Bool, true, false, not, ◌&&◌, ◌||◌, List, [], ◌∷◌, Option, if◌then◌else◌, refl, ap, sym, ◌∙◌}
+use Rattle.std.proofs.Common.{◌≡◌, ℕ, Bool, true, false, not, ◌&&◌, ◌||◌, List, [], ◌∷◌, Option, None, Some, is_some, if◌then◌else◌, refl, ap, sym, ◌∙◌}
 use Rattle.std.proofs.lemmas.Cmp.{ranked, tied_itself}
 use Rattle.std.specs.Cmp.{IsTotalOrder}
 use Rattle.std.specs.List.{list_all}
@@ -58,6 +58,21 @@ not_come : (come c : Bool) → come ≡ false → (c || come) ≡ c
 not_come false true e = refl
 not_come false false e = refl
 not_come true c e = absurd (cc)
+
+-- what is there, where each that is among some is there
+there_among : (there among : Bool) → (among ≡ true → there ≡ true) → (there && among) ≡ among
+there_among true among e = refl
+there_among false true e = e refl
+there_among false false e = refl
+
+held_is_there : (c : Option Claim) → is_held c ≡ true → is_some c ≡ true
+held_is_there None e = absurd (cc)
+held_is_there (Some c) e = refl
+
+-- what differs only where the test passes
+same_where : {X : Type 0} (w : Bool) (x y z : X) → (w ≡ true → x ≡ y) → (if w then x else z) ≡ (if w then y else z)
+same_where true x y z e = e refl
+same_where false x y z e = refl
 
 or_true : (a b : Bool) → b ≡ true → (a || b) ≡ true
 or_true true b e = refl
@@ -121,28 +136,33 @@ module _ {E I : Type 0} (cmp : E → E → Ordering) (same : I → I → Bool) (
       let old = λ (q : E). is_among cmp (rows u k) q in
       let image = λ (q : E). is_among cmp (images u k) q in
       let not_old = λ (q : E) (foreign : same k (item_of q) ≡ false). apart k (rows u k) (fair_rows.named u k) q foreign in
+      let is_there = λ (v : ℕ) (q : E) (at : is_at (nat_cmp u) v ≡ true).
+      let here : u ≡ v = ranked u v Equal (sym (equal_from (nat_cmp u v) at)) in
+      there_among (is_some (claim_under cmp s v q)) (image q)
+      (λ among. held_is_there (claim_under cmp s v q)
+      (of.held v q ∙ ap (λ xs. is_among cmp xs q) ((λ i. images (sym here i) (item_of q)) ∙ sym (fair_images.alike u k (item_of q) (fair_images.named u k q among))) ∙ among)) in
       let not_image = λ (q : E) (foreign : same k (item_of q) ≡ false). apart k (images u k) (fair_images.named u k) q foreign in
       record {
         note = λ new named given. record {
           committed =
               moved rows fair_rows u k new committed_s committed_t (λ q c. is_among cmp new q || (c && not (old q))) of.committed
-              (λ v q. ap is_committed (given.claims v q)
+              (λ v q. ap is_committed (given v q)
               ∙ committed_if (is_at (nat_cmp u) v) (is_among cmp new q || (committed_s v q && not (old q))) (held_s v q) (claim_under cmp s v q))
               (λ q. replaced (is_among cmp new q) (old q))
               (λ q foreign c. neither (is_among cmp new q) (old q) c (apart k new named q foreign) (not_old q foreign));
-          held = λ v q. ap is_held (given.claims v q)
+          held = λ v q. ap is_held (given v q)
               ∙ held_if (is_at (nat_cmp u) v) (is_among cmp new q || (committed_s v q && not (old q))) (held_s v q) (claim_under cmp s v q)
               ∙ either_way (is_at (nat_cmp u) v) (held_s v q)
               ∙ of.held v q;
         };
         hold = λ come named none given. record {
-          committed = λ v q. ap is_committed (given.claims v q)
+          committed = λ v q. ap is_committed (given v q)
               ∙ committed_if (is_at (nat_cmp u) v) (committed_s v q) (held_s v q || is_among cmp come q) (claim_under cmp s v q)
               ∙ either_way (is_at (nat_cmp u) v) (committed_s v q)
               ∙ of.committed v q;
           held =
               moved images fair_images u k come held_s held_t (λ q c. c || is_among cmp come q) of.held
-              (λ v q. ap is_held (given.claims v q)
+              (λ v q. ap is_held (given v q)
               ∙ held_if (is_at (nat_cmp u) v) (committed_s v q) (held_s v q || is_among cmp come q) (claim_under cmp s v q))
               (λ q. ap (λ xs. is_among cmp xs q || is_among cmp come q) none)
               (λ q foreign c. not_come (is_among cmp come q) c (apart k come named q foreign));
@@ -150,31 +170,31 @@ module _ {E I : Type 0} (cmp : E → E → Ordering) (same : I → I → Bool) (
         settle = λ given. record {
           committed =
               moved rows fair_rows u k (images u k) committed_s committed_t (λ q c. image q || (c && not (old q))) of.committed
-              (λ v q. ap is_committed (given.claims v q)
-              ∙ committed_if (is_at (nat_cmp u) v) (image q || (committed_s v q && not (old q))) (held_s v q && not (image q)) (claim_under cmp s v q))
+              (λ v q. ap is_committed (given v q)
+              ∙ committed_if (is_at (nat_cmp u) v) ((is_some (claim_under cmp s v q) && image q) || (committed_s v q && not (old q))) (held_s v q && not (image q)) (claim_under cmp s v q)
+              ∙ same_where (is_at (nat_cmp u) v) ((is_some (claim_under cmp s v q) && image q) || (committed_s v q && not (old q))) (image q || (committed_s v q && not (old q))) (committed_s v q)
+              (λ at. ap (λ b. b || (committed_s v q && not (old q))) (is_there v q at)))
               (λ q. replaced (image q) (old q))
               (λ q foreign c. neither (image q) (old q) c (not_image q foreign) (not_old q foreign));
           held =
               moved images fair_images u k [] held_s held_t (λ q c. c && not (image q)) of.held
-              (λ v q. ap is_held (given.claims v q)
-              ∙ held_if (is_at (nat_cmp u) v) (image q || (committed_s v q && not (old q))) (held_s v q && not (image q)) (claim_under cmp s v q))
+              (λ v q. ap is_held (given v q)
+              ∙ held_if (is_at (nat_cmp u) v) ((is_some (claim_under cmp s v q) && image q) || (committed_s v q && not (old q))) (held_s v q && not (image q)) (claim_under cmp s v q))
               (λ q. none_left (image q))
               (λ q foreign c. not_gone (image q) c (not_image q foreign));
         };
         let_go = λ given. record {
-          committed = λ v q. ap is_committed (given.claims v q)
+          committed = λ v q. ap is_committed (given v q)
               ∙ committed_if (is_at (nat_cmp u) v) (committed_s v q) (held_s v q && not (image q)) (claim_under cmp s v q)
               ∙ either_way (is_at (nat_cmp u) v) (committed_s v q)
               ∙ of.committed v q;
           held =
               moved images fair_images u k [] held_s held_t (λ q c. c && not (image q)) of.held
-              (λ v q. ap is_held (given.claims v q)
+              (λ v q. ap is_held (given v q)
               ∙ held_if (is_at (nat_cmp u) v) (committed_s v q) (held_s v q && not (image q)) (claim_under cmp s v q))
               (λ q. none_left (image q))
               (λ q foreign c. not_gone (image q) c (not_image q foreign));
         };
         old = all_pass total (λ e. is_committed (claim_under cmp s u e)) (rows u k)
             (λ q among. of.committed u q ∙ ap (λ xs. is_among cmp xs q) (sym (fair_rows.alike u k (item_of q) (fair_rows.named u k q among))) ∙ among);
-        image = all_pass total (λ e. is_held (claim_under cmp s u e)) (images u k)
-            (λ q among. of.held u q ∙ ap (λ xs. is_among cmp xs q) (sym (fair_images.alike u k (item_of q) (fair_images.named u k q among))) ∙ among);
       }

@@ -30,3 +30,8 @@ joined more c = claim_of (is_committed c || is_committed (Some more)) (is_held c
 
 abbrev pub without : Claim → Option Claim → Option Claim
 without less c = claim_of (is_committed c && not (is_committed (Some less))) (is_held c && not (is_held (Some less)))
+
+-- this claim, where the entry is there
+abbrev pub instead : Claim → Option Claim → Option Claim
+instead new None = None
+instead new (Some c) = Some new

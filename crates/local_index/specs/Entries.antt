@@ -1,5 +1,5 @@
 -- What the entries of a table are, and what a change makes of each.
-use Rattle.std.specs.Prelude.{◌≡◌, Bool, not, ◌&&◌, ◌||◌, List, Option, None, if◌then◌else◌}
+use Rattle.std.specs.Prelude.{◌≡◌, Bool, not, ◌&&◌, ◌||◌, List, Option, None, is_some, if◌then◌else◌}
 use Rattle.std.specs.Borrow.{Bor}
 use Rattle.std.specs.Range.Bound.{bound_map}
 use Rattle.std.specs.List.{list_any}
@@ -27,10 +27,11 @@ module _ {E : Type 0} (cmp : E → E → Ordering) where
   abbrev pub held_too : List E → E → Option Claim → Option Claim
   held_too image q c = claim_of (is_committed c) (is_held c || is_among image q)
 
-  -- it ends, and its image is in place: the image's entries are committed in place of the old ones, and no longer held
+  -- it ends, and its image is in place: the image's entries, which are there, are committed in place of the old ones, and no
+  -- longer held
   abbrev pub settled : List E → List E → E → Option Claim → Option Claim
   settled old image q c =
-      claim_of (is_among image q || (is_committed c && not (is_among old q))) (is_held c && not (is_among image q))
+      claim_of ((is_some c && is_among image q) || (is_committed c && not (is_among old q))) (is_held c && not (is_among image q))
 
   -- it ends, and the item is as it was: the image's entries are no longer held
   abbrev pub let_go : List E → E → Option Claim → Option Claim

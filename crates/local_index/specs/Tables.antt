@@ -5,7 +5,7 @@ use Rattle.std.specs.Ordering.{nat_cmp}
 use Rattle.std.specs.BTreeMap.{BTreeMap, get, is_at}
 use Rattle.std.specs.declared.cmp.Ordering.{Ordering}
 use Rattle.local_index.specs.declared.claim.Claim.{Claim}
-use Rattle.local_index.specs.Claims.{is_committed, is_held}
+use Rattle.local_index.specs.Claims.{is_committed}
 
 module _ {E : Type 0} where
   -- the table is there
@@ -22,18 +22,18 @@ module _ {E : Type 0} (cmp : E → E → Ordering) where
   abbrev pub claim_under : BTreeMap ℕ (BTreeMap E Claim) → ℕ → E → Option Claim
   claim_under tables u q = claim_in (get nat_cmp tables u) q
 
-  -- these entries of the table are all committed; they are all held
+  -- these entries of the table are all committed
   abbrev pub are_committed : BTreeMap ℕ (BTreeMap E Claim) → ℕ → List E → Bool
   are_committed tables u es = list_all (λ e. is_committed (claim_under tables u e)) es
 
-  abbrev pub are_held : BTreeMap ℕ (BTreeMap E Claim) → ℕ → List E → Bool
-  are_held tables u es = list_all (λ e. is_held (claim_under tables u e)) es
+  -- each entry of the table has the claim that this gives, of the entry and its old claim; each other one has its own
+  abbrev pub ClaimsUnder : (E → Option Claim → Option Claim) → BTreeMap ℕ (BTreeMap E Claim) → BTreeMap ℕ (BTreeMap E Claim) → ℕ → Type 0
+  ClaimsUnder change s t u =
+      (v : ℕ) (q : E) → claim_under t v q ≡ (if is_at (nat_cmp u) v then change q (claim_under s v q) else claim_under s v q)
 
-  -- each entry of the table has the claim that this gives, of the entry and its old claim; each other one has its own, and the
-  -- same tables are there
+  -- that is so, and the same tables are there
   pub record GivesUnder (change : E → Option Claim → Option Claim) (s t : BTreeMap ℕ (BTreeMap E Claim)) (u : ℕ) : Type 0 where
-    pub claims : (v : ℕ) (q : E) → claim_under t v q
-        ≡ (if is_at (nat_cmp u) v then change q (claim_under s v q) else claim_under s v q)
+    pub claims : ClaimsUnder change s t u
     pub tables : (v : ℕ) → has_table t v ≡ has_table s v
 
   -- each entry has its own claim, and the same tables are there

@@ -74,13 +74,3 @@ pub(crate) fn is_committed(claim: Option<Claim>) -> bool
         None => false,
     }
 }
-
-/// Whether an entry is one of an image that a transaction holds.
-pub(crate) fn is_held(claim: Option<Claim>) -> bool
-    ensures { result ≡ is_held claim }
-{
-    match claim {
-        Some(claim) => claim.is_held(),
-        None => false,
-    }
-}

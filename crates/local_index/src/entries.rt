@@ -2,7 +2,8 @@
 
 ghost use Rattle.std.specs.Prelude.{◌≡◌, IsSome, IfOk, OnOk, OnErr};
 ghost use Rattle.std.specs.BTreeMap.{get};
-ghost use Rattle.local_index.specs.Claims.{joined, without};
+ghost use Rattle.local_index.specs.declared.claim.Claim.TheVariants.{Committed};
+ghost use Rattle.local_index.specs.Claims.{instead, joined, without};
 ghost use Rattle.local_index.specs.Entries.{Places};
 
 use crate::claim::Claim;
@@ -47,6 +48,15 @@ pub(crate) fn take<E: Ord + Drop>(entries: &mut BTreeMap<E, Claim>, entry: &E, c
         None => {
             entries.remove(entry);
         }
+    }
+}
+
+/// Commits an entry, where it is there, and holds it no longer. It takes no memory.
+pub(crate) fn commit<E: Ord>(entries: &mut BTreeMap<E, Claim>, entry: &E)
+    ensures { Places E.cmp entries.old entries.new entry.now (instead Committed (get E.cmp entries.old entry.now)) }
+{
+    if let Some(place) = entries.get_mut(entry) {
+        *place = Claim::Committed;
     }
 }
 

@@ -7,9 +7,9 @@ ghost use Rattle.std.specs.Map.{lookup};
 ghost use Rattle.std.specs.BTreeMap.{get, is_at};
 ghost use Rattle.paging.specs.MapRange.{rows_between};
 ghost use Rattle.local_index.specs.Entries.{claim_between, end_of, held_too, let_go, noted, settled};
-ghost use Rattle.local_index.specs.Tables.{are_committed, are_held, claim_under, has_table, Closes, GivesUnder, Opens, Same};
+ghost use Rattle.local_index.specs.Tables.{are_committed, claim_under, has_table, Closes, GivesUnder, Opens, Same};
 
-use crate::claim::{Claim, is_committed, is_held};
+use crate::claim::{Claim, is_committed};
 use crate::lists::{hold_in, let_go_in, note_in, settle_in};
 use paging::MapRange;
 use std::alloc::{AllocError as NoMemory, Global};
@@ -21,7 +21,7 @@ use std::ops::Bound;
 ///
 /// An entry costs one place of an ordered map, and one copy of it, which is made where it was not there before. A call on
 /// entries costs up to two look-ups for each that comes or goes, and comparisons of each old one with each new one: an item
-/// has at most one entry a local index, and a table at most five of these. Such a call wants the table there.
+/// has at most one entry a local index, and a table at most five of these. A call that lets entries come wants the table there.
 #[derive(Drop)]
 pub struct LocalIndexes<E: Ord> {
     tables: BTreeMap<u64, BTreeMap<E, Claim>>,
@@ -92,18 +92,6 @@ impl<E: Ord> LocalIndexes<E> {
         true
     }
 
-    /// Whether these entries of a table are all held.
-    pub fn are_held(&self, table: u64, entries: &[E]) -> bool
-        ensures { result ≡ are_held E.cmp self.now.tables table entries.now }
-    {
-        for entry in entries {
-            if !is_held(self.claim(table, entry)) {
-                return false;
-            }
-        }
-        true
-    }
-
     /// The entries of a table between two ends, in their order, each with what it stands for: `None` where the table is not
     /// there. A step of a walk over them costs one look-up and takes no memory.
     pub fn between<'a>(
@@ -154,18 +142,15 @@ impl<E: Ord> LocalIndexes<E> {
         }
     }
 
-    /// Commits the entries of an image, which are held, in place of the item's old ones, and holds them no longer. It takes no
-    /// memory.
+    /// Commits the entries of an image, which are held, in place of the item's old ones, and holds them no longer. One that is
+    /// not there stays absent. It takes no memory.
     pub fn settle(&mut self, table: u64, old: &[E], image: &[E])
     where
         E: Drop,
-        requires there { IsTrue (has_table self.old.tables table) }
-        requires held { IsTrue (are_held E.cmp self.old.tables table image.now) }
         ensures { GivesUnder E.cmp (settled E.cmp old.now image.now) self.old.tables self.new.tables table }
     {
-        match self.tables.get_mut(&table) {
-            Some(entries) => settle_in(entries, old, image),
-            None => unreachable!(),
+        if let Some(entries) = self.tables.get_mut(&table) {
+            settle_in(entries, old, image);
         }
     }
 
@@ -173,12 +158,10 @@ impl<E: Ord> LocalIndexes<E> {
     pub fn let_go(&mut self, table: u64, image: &[E])
     where
         E: Drop,
-        requires there { IsTrue (has_table self.old.tables table) }
         ensures { GivesUnder E.cmp (let_go E.cmp image.now) self.old.tables self.new.tables table }
     {
-        match self.tables.get_mut(&table) {
-            Some(entries) => let_go_in(entries, image),
-            None => unreachable!(),
+        if let Some(entries) = self.tables.get_mut(&table) {
+            let_go_in(entries, image);
         }
     }
 }

@@ -1,13 +1,13 @@
 //! Changes of several entries of a table.
 
-ghost use Rattle.std.specs.Prelude.{◌≡◌, [], Some, is_some, IsTrue, OnOk, OnErr};
+ghost use Rattle.std.specs.Prelude.{◌≡◌, [], IsTrue, OnOk, OnErr};
 ghost use Rattle.local_index.specs.declared.claim.Claim.TheVariants.{Committed};
 ghost use Rattle.std.specs.BTreeMap.{get};
-ghost use Rattle.local_index.specs.Claims.{is_committed, is_held, joined, without};
+ghost use Rattle.local_index.specs.Claims.{instead, is_committed, joined, without};
 ghost use Rattle.local_index.specs.Entries.{changed, held_too, is_among, let_go, noted, settled, Gives, SameClaims};
 
 use crate::claim::Claim;
-use crate::entries::{add, set, take};
+use crate::entries::{add, commit, set, take};
 use std::alloc::AllocError as NoMemory;
 use std::collections::BTreeMap;
 
@@ -57,13 +57,12 @@ fn take_all<E: Ord + Drop>(entries: &mut BTreeMap<E, Claim>, gone: &[E], others:
     }
 }
 
-/// Commits entries that are there and holds them no longer. It takes no memory.
-fn commit_all<E: Ord + Drop>(entries: &mut BTreeMap<E, Claim>, image: &[E])
-    requires { (q : E) → IsTrue (is_among E.cmp image.now q) → IsTrue (is_some (get E.cmp entries.old q)) }
-    ensures { Gives E.cmp (changed E.cmp image.now [] (λ _. Some Committed)) entries.old entries.new }
+/// Commits those of these entries that are there, and holds them no longer. It takes no memory.
+fn commit_all<E: Ord>(entries: &mut BTreeMap<E, Claim>, image: &[E])
+    ensures { Gives E.cmp (changed E.cmp image.now [] (instead Committed)) entries.old entries.new }
 {
     for entry in image {
-        set(entries, entry, Some(Claim::Committed));
+        commit(entries, entry);
     }
 }
 
@@ -95,9 +94,8 @@ pub(crate) fn hold_in<E: Ord + Clone>(
     add_all(entries, image, &[], Claim::Held)
 }
 
-/// Commits the entries of an image that are held, in place of the old ones. It takes no memory.
+/// Commits the entries of an image that are there, in place of the old ones. It takes no memory.
 pub(crate) fn settle_in<E: Ord + Drop>(entries: &mut BTreeMap<E, Claim>, old: &[E], image: &[E])
-    requires { (q : E) → IsTrue (is_among E.cmp image.now q) → IsTrue (is_held (get E.cmp entries.old q)) }
     ensures { Gives E.cmp (settled E.cmp old.now image.now) entries.old entries.new }
 {
     take_all(entries, old, image, Claim::Committed);

@@ -62,7 +62,7 @@ static STEPS: [Row; 8] = [
     (Step::Settle(&[LOW, BESIDE], &[]), [None, None, None]),
 ];
 
-/// Makes a step whose entries are committed or held as the step wants them.
+/// Makes a step whose old entries are committed, as a note wants them.
 fn make(rt: &impl Abort, indexes: &mut LocalIndexes<Entry>, step: Step) -> Result<(), NoMemory> {
     assert!(rt; indexes.has_table(TABLE));
     match step {
@@ -72,7 +72,6 @@ fn make(rt: &impl Abort, indexes: &mut LocalIndexes<Entry>, step: Step) -> Resul
         }
         Step::Hold(image) => indexes.hold(TABLE, image),
         Step::Settle(old, image) => {
-            assert!(rt; indexes.are_held(TABLE, image));
             indexes.settle(TABLE, old, image);
             Ok(())
         }

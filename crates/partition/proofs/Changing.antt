@@ -24,12 +24,12 @@ use Rattle.partition.specs.Holds.{Holds, lives, pending_for, queued_by, slot_for
 use Rattle.partition.specs.Changes.{Changes, Unchanged, set_at}
 
 -- what differs only where the item does not live is the same there
-same_there : {X : Type 0} (a b : Bool) (x y z : X) → (b ≡ true → x ≡ y) → (if a && b then x else z) ≡ (if a && b then y else z)
+pub same_there : {X : Type 0} (a b : Bool) (x y z : X) → (b ≡ true → x ≡ y) → (if a && b then x else z) ≡ (if a && b then y else z)
 same_there false b x y z e = refl
 same_there true false x y z e = refl
 same_there true true x y z e = e refl
 
-same_here : {X : Type 0} (b : Bool) (x y z : X) → (b ≡ true → x ≡ y) → (if b then x else z) ≡ (if b then y else z)
+pub same_here : {X : Type 0} (b : Bool) (x y z : X) → (b ≡ true → x ≡ y) → (if b then x else z) ≡ (if b then y else z)
 same_here false x y z e = refl
 same_here true x y z e = e refl
 
@@ -57,9 +57,11 @@ module _ {K V A F C D Q B : Type 0} (S : Service K V A F C D Q B) where
     pub at_is : {O : ord.Ghosts K} → ((x y : K) → S.index.cmp x y ≡ O.cmp x y) → (k q : K) → is_at (O.cmp k) q ≡ S.core.same k q
     at_is ordered k q = sym (law.index.feed.one k q ∙ ap is_eq (ordered k q))
 
-module _ {K V A F C D Q B : Type 0} (S : Service K V A F C D Q B) {O : ord.Ghosts K} {E : eq.Ghosts K} {P : partial.Ghosts K} where
+module _
+    {K V A F C D Q B : Type 0} (S : Service K V A F C D Q B) {O : ord.Ghosts K} {E : eq.Ghosts K} {P : partial.Ghosts K}
+    {N : Type 0} {X : ord.Ghosts N} {Y : eq.Ghosts N} {Z : partial.Ghosts N} where
   pub unchanged :
-      (i : ℕ) (c d : Partition K V C O E P) (w : State K V A C) (f : Feed K V C) → Unchanged c d → Holds S i c w f → Holds S i d w f
+      (i : ℕ) (c d : Partition K V C N O E P X Y Z) (w : State K V A C) (f : Feed K V C) → Unchanged c d → Holds S i c w f → Holds S i d w f
   unchanged i c d w f u h =
       record {
         partitions = u.beside.partitions ∙ h.partitions;
@@ -77,7 +79,7 @@ module _ {K V A F C D Q B : Type 0} (S : Service K V A F C D Q B) {O : ord.Ghost
 
   -- a cell holds every other state and feed that have the same in it
   pub moved_to :
-      (i : ℕ) (c : Partition K V C O E P) (w v : State K V A C) (f g : Feed K V C)
+      (i : ℕ) (c : Partition K V C N O E P X Y Z) (w v : State K V A C) (f g : Feed K V C)
       → ((q : K) → S.core.cell_of q ≡ i → item (w.spot q) ≡ item (v.spot q)) → w.cell i ≡ v.cell i → w.catalog ≡ v.catalog
       → AlikeAt (indexed S.core S.index) i f g → Holds S i c w f → Holds S i c v g
   moved_to i c w v f g items numbers catalog feed h =
@@ -98,7 +100,7 @@ module _ {K V A F C D Q B : Type 0} (S : Service K V A F C D Q B) {O : ord.Ghost
 
   module _ (law : IsServiceLawful S) (ordered : (x y : K) → S.index.cmp x y ≡ O.cmp x y) where
     module _
-        (k : K) (c d : Partition K V C O E P) (w : State K V A C) (f g : Feed K V C) (here : Holds S (S.core.cell_of k) c w f)
+        (k : K) (c d : Partition K V C N O E P X Y Z) (w : State K V A C) (f g : Feed K V C) (here : Holds S (S.core.cell_of k) c w f)
         (h : Spot V → Spot V) (new : Option (Slot V)) (t s : Tally) (ready : K → List (Change K V)) (queued : List (Change K V))
         (is : Changes c d (S.core.table k) k new t ready queued) (new_is : new ≡ slot_for (h (w.spot k))) (numbers_is : t ≡ s)
         (ready_is :
@@ -156,7 +158,7 @@ module _ {K V A F C D Q B : Type 0} (S : Service K V A F C D Q B) {O : ord.Ghost
 
     -- what is set aside for an item is what its transaction's end queues
     module _
-        (k : K) (c : Partition K V C O E P) (w : State K V A C) (f : Feed K V C) (here : Holds S (S.core.cell_of k) c w f)
+        (k : K) (c : Partition K V C N O E P X Y Z) (w : State K V A C) (f : Feed K V C) (here : Holds S (S.core.cell_of k) c w f)
         (h : Spot V → Spot V) where
       abbrev due_at : K → Bool → List (Change K V)
       due_at q b =

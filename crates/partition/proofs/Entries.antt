@@ -1,7 +1,5 @@
 -- What a cell says of every state is what legal histories ask of its entries.
-use Rattle.std.proofs.Common.{◌≡◌, ℕ, ◌<◌, true, nat_lt, ◌∷◌, Option, Some, Result, Ok, Err, OnErr, refl, sym, ap, ◌∙◌, subst}
-use Rattle.txn_core.specs.declared.message.Message.{Message}
-use Rattle.txn_core.specs.declared.stamp.Stamp.{Stamp}
+use Rattle.std.proofs.Common.{◌≡◌, ℕ, ◌<◌, true, nat_lt, ◌∷◌, Some, Result, Ok, Err, OnErr, sym, ap, ◌∙◌, subst}
 use Rattle.std.proofs.lemmas.Bool.{ltb-true}
 use Rattle.std.specs.declared.cmp.Ord as ord
 use Rattle.std.specs.declared.cmp.PartialEq as eq
@@ -16,14 +14,15 @@ use Rattle.txn_core.specs.Legal.{IsAnswer, sent_to, state}
 use Rattle.partition.specs.declared.cell.Partition.{Partition}
 use Rattle.partition.specs.Holds.{Holds}
 use Rattle.partition.specs.Says.{Keeps, Leaves, Stands}
-use Rattle.partition.specs.Steps.{StepAnswers, StepKeeps, StepStands, is_served}
+use Rattle.partition.specs.Steps.{StepAnswers, StepKeeps, StepStands}
 
 some_is : (i j : ℕ) → Some i ≡ Some j → i ≡ j
 some_is i j e = first_of (cc)
 
 module _
     {K V A F C D Q B : Type 0} (S : Service K V A F C D Q B) {O : ord.Ghosts K} {E : eq.Ghosts K} {P : partial.Ghosts K}
-    (c d : Partition K V C O E P) (m known : Asked S) (is : m ≡ known) (j : ℕ) (to : sent_to S known ≡ Some j) where
+    {N : Type 0} {X : ord.Ghosts N} {Y : eq.Ghosts N} {Z : partial.Ghosts N}
+    (c d : Partition K V C N O E P X Y Z) (m known : Asked S) (is : m ≡ known) (j : ℕ) (to : sent_to S known ≡ Some j) where
   its_cell : (i : ℕ) → sent_to S m ≡ Some i → j ≡ i
   its_cell i sent = some_is j i (sym to ∙ sym (ap (λ y. sent_to S y) is) ∙ sent)
 
@@ -47,24 +46,6 @@ module _
 pub on_err : {X Y Z : Type 0} (r : Result X Y) → Z → OnErr r Z
 on_err (Ok x) z = tt
 on_err (Err y) z = z
-
-module _ {K V A F D Q : Type 0} where
-  -- a message of another kind is not served
-  pub others_not_served :
-      (p : ℕ) (m : Message K V A F D Q) → is_served p m ≡ true → ((k : K) → m ≡ Message.Get k → ⊥) → ((a : A) → m ≡ Message.Write a → ⊥)
-      → ((n : ℕ) (s : Stamp) (a : A) → m ≡ Message.Prepare n s a → ⊥) → ((n : ℕ) (k : K) → m ≡ Message.Apply n k → ⊥)
-      → ((n : ℕ) (k : K) → m ≡ Message.Release n k → ⊥) → ((k : K) → m ≡ Message.ReadVersion k → ⊥) → ((i : ℕ) → m ≡ Message.PeekOut i → ⊥)
-      → ((i s g : ℕ) (k : K) (v : Option V) → m ≡ Message.ApplyIndex i s g k v → ⊥) → ((i s : ℕ) → m ≡ Message.Ack i s → ⊥) → ⊥
-  others_not_served p (Message.Get k) e a1 a2 a3 a4 a5 a6 a7 a8 a9 = a1 k refl
-  others_not_served p (Message.Write a) e a1 a2 a3 a4 a5 a6 a7 a8 a9 = a2 a refl
-  others_not_served p (Message.Prepare n s a) e a1 a2 a3 a4 a5 a6 a7 a8 a9 = a3 n s a refl
-  others_not_served p (Message.Apply n k) e a1 a2 a3 a4 a5 a6 a7 a8 a9 = a4 n k refl
-  others_not_served p (Message.Release n k) e a1 a2 a3 a4 a5 a6 a7 a8 a9 = a5 n k refl
-  others_not_served p (Message.ReadVersion k) e a1 a2 a3 a4 a5 a6 a7 a8 a9 = a6 k refl
-  others_not_served p (Message.PeekOut i) e a1 a2 a3 a4 a5 a6 a7 a8 a9 = a7 i refl
-  others_not_served p (Message.ApplyIndex i s g k v) e a1 a2 a3 a4 a5 a6 a7 a8 a9 = a8 i s g k v refl
-  others_not_served p (Message.Ack i s) e a1 a2 a3 a4 a5 a6 a7 a8 a9 = a9 i s refl
-  others_not_served p _ e a1 a2 a3 a4 a5 a6 a7 a8 a9 = absurd (cc)
 
 pub below : (m n : ℕ) → nat_lt m n ≡ true → m < n
 below m n e = ltb-true m n e

@@ -31,7 +31,8 @@ first_is n (x ∷ xs) s = refl
 
 module _
     {K V A F C D Q B : Type 0} (S : Service K V A F C D Q B) {O : ord.Ghosts K} {E : eq.Ghosts K} {P : partial.Ghosts K}
-    (i : ℕ) (c d : Partition K V C O E P) (w : State K V A C) (f : Feed K V C) (here : Holds S i c w f) where
+    {N : Type 0} {X : ord.Ghosts N} {Y : eq.Ghosts N} {Z : partial.Ghosts N}
+    (i : ℕ) (c d : Partition K V C N O E P X Y Z) (w : State K V A C) (f : Feed K V C) (here : Holds S i c w f) where
   pub out_is : shown_by S c ≡ out_says S f i
   out_is = λ j. out_answer S.core.cell_of (peek (here.sent j) (here.waiting j))
 
@@ -111,7 +112,8 @@ module _
 
 module _
     {K V A F C D Q B : Type 0} (S : Service K V A F C D Q B) {O : ord.Ghosts K} {E : eq.Ghosts K} {P : partial.Ghosts K}
-    (x : Change K V) (c d : Partition K V C O E P) (w : State K V A C) (f : Feed K V C) (here : Holds S (S.core.cell_of x.key) c w f) where
+    {N : Type 0} {X : ord.Ghosts N} {Y : eq.Ghosts N} {Z : partial.Ghosts N}
+    (x : Change K V) (c d : Partition K V C N O E P X Y Z) (w : State K V A C) (f : Feed K V C) (here : Holds S (S.core.cell_of x.key) c w f) where
   pub fed_is : (source s : ℕ) → fed_by S c source s x ≡ is_fed (indexed S.core S.index) f source s x
   fed_is source s = λ j. nat_lt (here.marks source j) s && served (indexed S.core S.index) ((here.catalog ∙ sym here.under) j) x.index (S.index.item_of x.key)
 

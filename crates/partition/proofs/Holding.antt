@@ -1,5 +1,9 @@
 -- What a change leaves, under another name of its table and its key.
-use Rattle.std.specs.BTreeMap.{is_at}
+use Rattle.std.specs.BTreeMap.{BTreeMap, is_at}
+use Rattle.std.specs.Cmp.{IsTotalOrder}
+use Rattle.std.specs.Ordering.{is_eq}
+use Rattle.std.specs.declared.cmp.Ordering.{Ordering}
+use Rattle.std.proofs.lemmas.Cmp.{tied_itself}
 use Rattle.std.proofs.Common.{◌≡◌, ℕ, Bool, true, false, if◌then◌else◌, List, [], Option, refl, sym, ◌∙◌, subst}
 use Rattle.std.specs.declared.cmp.Ord as ord
 use Rattle.std.specs.declared.cmp.PartialEq as eq
@@ -10,13 +14,41 @@ use Rattle.txn_core.specs.State.{Tally}
 use Rattle.item_store.specs.declared.slot.Pending.{Pending}
 use Rattle.item_store.specs.Slots.{counted}
 use Rattle.item_store.specs.Changes.{slot_at}
-use Rattle.prepared_changes.specs.Prepared.{prepared_in}
+use Rattle.prepared_changes.specs.declared.change.IndexChanges.{IndexChanges}
+use Rattle.prepared_changes.specs.Prepared.{Moves, moves_in, no_moves, prepared_in}
 use Rattle.partition.specs.declared.cell.Partition.{Partition}
 use Rattle.partition.specs.Stores.{slot_held, slot_written}
 use Rattle.partition.specs.Changes.{Changes, IsUnprepared, set_at}
 
+-- moves that are prepared for an item and taken back
+module _ {K V N : Type 0} (cmp : K → K → Ordering) where
+  pub moves_there :
+      IsTotalOrder cmp → (lists with_them : BTreeMap K (IndexChanges K V N)) (k kept : K) → kept ≡ k → (m : Moves N)
+      → ((q : K) → moves_in cmp with_them q ≡ (if is_at (cmp kept) q then m else moves_in cmp lists q)) → moves_in cmp with_them k ≡ m
+  moves_there total lists with_them k kept one m set =
+      set k ∙ (λ i. if is_at (cmp (one i)) k then m else moves_in cmp lists k) ∙ (λ i. if is_eq (tied_itself total k i) then m else moves_in cmp lists k)
+
+  pub moves_back :
+      (lists with_them held back : BTreeMap K (IndexChanges K V N)) (k kept : K) → kept ≡ k → (m : Moves N)
+      → ((q : K) → is_at (cmp k) q ≡ true → moves_in cmp lists q ≡ no_moves)
+      → ((q : K) → moves_in cmp with_them q ≡ (if is_at (cmp kept) q then m else moves_in cmp lists q))
+      → ((q : K) → moves_in cmp held q ≡ moves_in cmp with_them q)
+      → ((q : K) → moves_in cmp back q ≡ (if is_at (cmp k) q then no_moves else moves_in cmp held q))
+      → (q : K) → moves_in cmp back q ≡ moves_in cmp lists q
+  moves_back lists with_them held back k kept one m free set same taken q =
+      taken q
+      ∙ (λ i. if is_at (cmp k) q then no_moves else (same q ∙ set q ∙ (λ j. if is_at (cmp (one j)) q then m else moves_in cmp lists q)) i)
+      ∙ by_key (is_at (cmp k) q) refl
+    where
+      by_key :
+          (b : Bool) → is_at (cmp k) q ≡ b
+          → (if b then no_moves else (if b then m else moves_in cmp lists q)) ≡ moves_in cmp lists q
+      by_key true e = sym (free q e)
+      by_key false e = refl
+
 module _
-    {K V C : Type 0} {O : ord.Ghosts K} {E : eq.Ghosts K} {P : partial.Ghosts K} (c d : Partition K V C O E P) (t : Tally)
+    {K V C : Type 0} {O : ord.Ghosts K} {E : eq.Ghosts K} {P : partial.Ghosts K}
+    {N : Type 0} {X : ord.Ghosts N} {Y : eq.Ghosts N} {Z : partial.Ghosts N} (c d : Partition K V C N O E P X Y Z) (t : Tally)
     (u v : ℕ) (x k : K) (table : u ≡ v) (key : x ≡ k) where
   -- an item that is held, for which nothing is set aside
   pub held_plain :

@@ -29,7 +29,7 @@ module _ {V : Type 0} where
   pending_made None (Some p) = refl
   pending_made (Some c) p = refl
 
-  item_back : (r : Option V) (s : Stamp) (v : ℕ) → item_of (committed_at r s v) ≡ r
+  pub item_back : (r : Option V) (s : Stamp) (v : ℕ) → item_of (committed_at r s v) ≡ r
   item_back None s v = refl
   item_back (Some x) s v = refl
 
@@ -70,7 +70,8 @@ module _ {V : Type 0} where
 
 module _
     {K V A F C D Q B : Type 0} (S : Service K V A F C D Q B) {O : ord.Ghosts K} {E : eq.Ghosts K} {P : partial.Ghosts K}
-    (k : K) (c : Partition K V C O E P) (w : State K V A C) (f : Feed K V C) (here : Holds S (S.core.cell_of k) c w f) where
+    {N : Type 0} {X : ord.Ghosts N} {Y : eq.Ghosts N} {Z : partial.Ghosts N}
+    (k : K) (c : Partition K V C N O E P X Y Z) (w : State K V A C) (f : Feed K V C) (here : Holds S (S.core.cell_of k) c w f) where
   pub lives_here : lives S (S.core.cell_of k) (S.core.table k) k ≡ true
   lives_here = λ j. eq-eqb (S.core.table k) (S.core.table k) refl j && eq-eqb (S.core.cell_of k) (S.core.cell_of k) refl j
 
@@ -113,7 +114,8 @@ module _
 
 module _
     {K V A F C D Q B : Type 0} (S : Service K V A F C D Q B) {O : ord.Ghosts K} {E : eq.Ghosts K} {P : partial.Ghosts K}
-    (a : A) (c : Partition K V C O E P) (w : State K V A C) (f : Feed K V C) (here : Holds S (S.core.cell_of (S.core.key_of a)) c w f) where
+    {N : Type 0} {X : ord.Ghosts N} {Y : eq.Ghosts N} {Z : partial.Ghosts N}
+    (a : A) (c : Partition K V C N O E P X Y Z) (w : State K V A C) (f : Feed K V C) (here : Holds S (S.core.cell_of (S.core.key_of a)) c w f) where
   pub write_is : wrote S c a ≡ write_says S w a
   write_is =
       let k = S.core.key_of a in

@@ -1,3 +1,4 @@
+pub mod Basics
 pub mod Adding
 pub mod Holding
 pub mod Moved
@@ -7,3 +8,22 @@ pub mod Stepping
 pub mod Fed
 pub mod Entries
 pub mod Starting
+pub mod Listed
+pub mod Shown
+pub mod Paged
+pub mod Lists
+pub mod Holders
+pub mod InTheWay
+pub mod Foundings
+pub mod Unique
+pub mod Numbers
+pub mod Spared
+pub mod Brought
+pub mod Queued
+pub mod Carried
+pub mod BroughtOver
+pub mod Commanded
+pub mod Planned
+pub mod Shares
+pub mod Staying
+pub mod Shows

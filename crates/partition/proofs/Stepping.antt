@@ -57,8 +57,9 @@ module _ {V : Type 0} where
 
 module _
     {K V A F C D Q B : Type 0} (S : Service K V A F C D Q B) (law : IsServiceLawful S)
-    {O : ord.Ghosts K} {E : eq.Ghosts K} {P : partial.Ghosts K} (ordered : (x y : K) → S.index.cmp x y ≡ O.cmp x y)
-    (k : K) (c d : Partition K V C O E P) (w : State K V A C) (f : Feed K V C) (here : Holds S (S.core.cell_of k) c w f) where
+    {O : ord.Ghosts K} {E : eq.Ghosts K} {P : partial.Ghosts K}
+    {N : Type 0} {X : ord.Ghosts N} {Y : eq.Ghosts N} {Z : partial.Ghosts N} (ordered : (x y : K) → S.index.cmp x y ≡ O.cmp x y)
+    (k : K) (c d : Partition K V C N O E P X Y Z) (w : State K V A C) (f : Feed K V C) (here : Holds S (S.core.cell_of k) c w f) where
   abbrev own : Spot V
   own = w.spot k
 
@@ -156,8 +157,9 @@ module _
 
 module _
     {K V A F C D Q B : Type 0} (S : Service K V A F C D Q B) (law : IsServiceLawful S)
-    {O : ord.Ghosts K} {E : eq.Ghosts K} {P : partial.Ghosts K} (ordered : (x y : K) → S.index.cmp x y ≡ O.cmp x y)
-    (a : A) (c d : Partition K V C O E P) (w : State K V A C) (f : Feed K V C)
+    {O : ord.Ghosts K} {E : eq.Ghosts K} {P : partial.Ghosts K}
+    {N : Type 0} {X : ord.Ghosts N} {Y : eq.Ghosts N} {Z : partial.Ghosts N} (ordered : (x y : K) → S.index.cmp x y ≡ O.cmp x y)
+    (a : A) (c d : Partition K V C N O E P X Y Z) (w : State K V A C) (f : Feed K V C)
     (here : Holds S (S.core.cell_of (S.core.key_of a)) c w f) where
   abbrev k : K
   k = S.core.key_of a

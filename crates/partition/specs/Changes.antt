@@ -10,12 +10,14 @@ use Rattle.txn_core.specs.State.{Tally}
 use Rattle.item_store.specs.declared.slot.Slot.{Slot}
 use Rattle.item_store.specs.Changes.{slot_at}
 use Rattle.item_store.specs.Counts.{tally}
-use Rattle.prepared_changes.specs.Prepared.{prepared_in}
+use Rattle.prepared_changes.specs.Prepared.{Moves, moves_in, prepared_in}
 use Rattle.partition.specs.declared.cell.Partition.{Partition}
 
-module _ {K V C : Type 0} {O : ord.Ghosts K} {E : eq.Ghosts K} {P : partial.Ghosts K} where
+module _
+    {K V C : Type 0} {O : ord.Ghosts K} {E : eq.Ghosts K} {P : partial.Ghosts K}
+    {N : Type 0} {X : ord.Ghosts N} {Y : eq.Ghosts N} {Z : partial.Ghosts N} where
   -- what no call on an item changes
-  pub record SameBeside (c d : Partition K V C O E P) : Type 0 where
+  pub record SameBeside (c d : Partition K V C N O E P X Y Z) : Type 0 where
     pub partitions : d.partitions ≡ c.partitions
     pub catalog : d.catalog ≡ c.catalog
     pub sent : d.outbox.sent ≡ c.outbox.sent
@@ -23,17 +25,17 @@ module _ {K V C : Type 0} {O : ord.Ghosts K} {E : eq.Ghosts K} {P : partial.Ghos
     pub rows : d.rows ≡ c.rows
 
   -- what is set aside for each item, where it is this for one
-  abbrev pub set_at : Partition K V C O E P → K → List (Change K V) → K → List (Change K V)
+  abbrev pub set_at : Partition K V C N O E P X Y Z → K → List (Change K V) → K → List (Change K V)
   set_at c k xs q = if is_at (O.cmp k) q then xs else prepared_in O.cmp c.prepared.lists q
 
   -- nothing is set aside for an item
-  abbrev pub IsUnprepared : Partition K V C O E P → K → Type 0
+  abbrev pub IsUnprepared : Partition K V C N O E P X Y Z → K → Type 0
   IsUnprepared c k = (q : K) → is_at (O.cmp k) q ≡ true → prepared_in O.cmp c.prepared.lists q ≡ []
 
   -- an item has this slot afterwards, each other one its own; this is set aside for each; floor and numbers are these; and these
   -- changes wait behind the others
   pub record Changes
-      (c d : Partition K V C O E P) (u : ℕ) (k : K) (new : Option (Slot V)) (numbers : Tally)
+      (c d : Partition K V C N O E P X Y Z) (u : ℕ) (k : K) (new : Option (Slot V)) (numbers : Tally)
       (ready : K → List (Change K V)) (queued : List (Change K V)) : Type 0 where
     pub slots :
         (v : ℕ) (q : K) → slot_at d.items v q ≡ (if is_at (nat_cmp u) v && is_at (O.cmp k) q then new else slot_at c.items v q)
@@ -42,15 +44,19 @@ module _ {K V C : Type 0} {O : ord.Ghosts K} {E : eq.Ghosts K} {P : partial.Ghos
     pub waiting : d.outbox.waiting.items ≡ c.outbox.waiting.items ++ queued
     pub beside : SameBeside c d
 
-  -- these changes are what the end of the transaction that holds an item will queue, and all else is as it was
-  pub record SetsAside (c d : Partition K V C O E P) (k : K) (prepared : List (Change K V)) : Type 0 where
+  -- these changes are what the end of the transaction that holds an item will queue, these entries it will move, and all else is
+  -- as it was
+  pub record SetsAside (c d : Partition K V C N O E P X Y Z) (k : K) (prepared : List (Change K V)) (moves : Moves N) : Type 0 where
     pub items : d.items ≡ c.items
+    pub locals : d.locals ≡ c.locals
     pub prepared_are : (q : K) → prepared_in O.cmp d.prepared.lists q ≡ set_at c k prepared q
+    pub moves_are :
+        (q : K) → moves_in O.cmp d.prepared.lists q ≡ (if is_at (O.cmp k) q then moves else moves_in O.cmp c.prepared.lists q)
     pub waiting : d.outbox.waiting.items ≡ c.outbox.waiting.items
     pub beside : SameBeside c d
 
   -- nothing changes
-  pub record Unchanged (c d : Partition K V C O E P) : Type 0 where
+  pub record Unchanged (c d : Partition K V C N O E P X Y Z) : Type 0 where
     pub slots : (v : ℕ) (q : K) → slot_at d.items v q ≡ slot_at c.items v q
     pub numbers : tally d.items.counts ≡ tally c.items.counts
     pub prepared : (q : K) → prepared_in O.cmp d.prepared.lists q ≡ prepared_in O.cmp c.prepared.lists q

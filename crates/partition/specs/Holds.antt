@@ -38,10 +38,12 @@ module _ {K V A F C D Q B : Type 0} (S : Service K V A F C D Q B) where
   abbrev pub lives : ℕ → ℕ → K → Bool
   lives i u q = nat_eq (S.core.table q) u && nat_eq (S.core.cell_of q) i
 
-  module _ {O : ord.Ghosts K} {E : eq.Ghosts K} {P : partial.Ghosts K} where
+  module _
+      {O : ord.Ghosts K} {E : eq.Ghosts K} {P : partial.Ghosts K}
+      {N : Type 0} {X : ord.Ghosts N} {Y : eq.Ghosts N} {Z : partial.Ghosts N} where
     -- the cell i has just the items that live in it, its floor and numbers, the catalog, and of the feed what it has there: the
     -- changes that wait and those that its transactions' ends will queue, what it carried out of each source, its index rows
-    pub record Holds (i : ℕ) (c : Partition K V C O E P) (w : State K V A C) (f : Feed K V C) : Type 0 where
+    pub record Holds (i : ℕ) (c : Partition K V C N O E P X Y Z) (w : State K V A C) (f : Feed K V C) : Type 0 where
       pub partitions : c.partitions ≡ S.control
       pub items : (u : ℕ) (q : K) → slot_at c.items u q ≡ (if lives i u q then slot_for (w.spot q) else None)
       pub numbers : tally c.items.counts ≡ w.cell i

@@ -26,46 +26,48 @@ use Rattle.partition.specs.declared.cell.Partition.{Partition}
 use Rattle.partition.specs.Stores.{slot_held, slot_let_go, slot_settled, slot_written}
 use Rattle.partition.specs.Changes.{Changes, Unchanged, set_at}
 
-module _ {K V A F C D Q B : Type 0} (S : Service K V A F C D Q B) {O : ord.Ghosts K} {E : eq.Ghosts K} {P : partial.Ghosts K} where
+module _
+    {K V A F C D Q B : Type 0} (S : Service K V A F C D Q B) {O : ord.Ghosts K} {E : eq.Ghosts K} {P : partial.Ghosts K}
+    {N : Type 0} {X : ord.Ghosts N} {Y : eq.Ghosts N} {Z : partial.Ghosts N} where
   -- what the cell keeps of a key's item
-  abbrev pub kept_at : Partition K V C O E P → K → Option (Slot V)
+  abbrev pub kept_at : Partition K V C N O E P X Y Z → K → Option (Slot V)
   kept_at c k = slot_at c.items (S.core.table k) k
 
   -- what an action makes of its item
-  abbrev pub outcome_at : Partition K V C O E P → A → Outcome V F
+  abbrev pub outcome_at : Partition K V C N O E P X Y Z → A → Outcome V F
   outcome_at c action = S.core.act c.catalog action (row_of (kept_at c (S.core.key_of action)))
 
   -- what is answered
-  abbrev pub got : Partition K V C O E P → K → Reply S
+  abbrev pub got : Partition K V C N O E P X Y Z → K → Reply S
   got c k = get_answer (S.core.there c.catalog k) (row_of (kept_at c k))
 
-  abbrev pub versioned : Partition K V C O E P → K → Reply S
+  abbrev pub versioned : Partition K V C N O E P X Y Z → K → Reply S
   versioned c k =
       let s = kept_at c k in
       let version = version_of c.items.counts.gone s in
       version_answer (S.core.there c.catalog k) (row_of s) version version (holder_of s)
 
-  abbrev pub wrote : Partition K V C O E P → A → Reply S
+  abbrev pub wrote : Partition K V C N O E P X Y Z → A → Reply S
   wrote c action =
       let k = S.core.key_of action in
       let s = kept_at c k in
       write_answer (S.core.there c.catalog k) (holder_of s) (row_of s) (outcome_at c action)
 
-  abbrev pub prepared : Partition K V C O E P → ℕ → Stamp → A → Reply S
+  abbrev pub prepared : Partition K V C N O E P X Y Z → ℕ → Stamp → A → Reply S
   prepared c n stamp action =
       let k = S.core.key_of action in
       let s = kept_at c k in
       let last = last_of c.items.counts.floor s in
       prepare_answer (S.core.there c.catalog k) (holder_of s) n last stamp (row_of s) (outcome_at c action)
 
-  abbrev pub applied : Partition K V C O E P → ℕ → K → Reply S
+  abbrev pub applied : Partition K V C N O E P X Y Z → ℕ → K → Reply S
   applied c n k = apply_answer (holder_of (kept_at c k)) n
 
-  abbrev pub released : Partition K V C O E P → ℕ → K → Reply S
+  abbrev pub released : Partition K V C N O E P X Y Z → ℕ → K → Reply S
   released c n k = release_answer (holder_of (kept_at c k)) n
 
   -- what is left of the cell: after a write that made the item this
-  abbrev pub Written : Partition K V C O E P → Partition K V C O E P → K → Option V → ℕ → Type 0
+  abbrev pub Written : Partition K V C N O E P X Y Z → Partition K V C N O E P X Y Z → K → Option V → ℕ → Type 0
   Written c d k row moment =
       let s = kept_at c k in
       let t = tally c.items.counts in
@@ -73,7 +75,7 @@ module _ {K V A F C D Q B : Type 0} (S : Service K V A F C D Q B) {O : ord.Ghost
       (λ q. prepared_in O.cmp c.prepared.lists q) (changes (indexed S.core S.index) c.catalog k (row_of s) row)
 
   -- after a Write, where it was carried out or not
-  abbrev pub LeftByWrite : Partition K V C O E P → Partition K V C O E P → A → ℕ → Bool → Type 0
+  abbrev pub LeftByWrite : Partition K V C N O E P X Y Z → Partition K V C N O E P X Y Z → A → ℕ → Bool → Type 0
   LeftByWrite c d action moment true =
       let k = S.core.key_of action in
       let s = kept_at c k in
@@ -81,25 +83,25 @@ module _ {K V A F C D Q B : Type 0} (S : Service K V A F C D Q B) {O : ord.Ghost
   LeftByWrite c d action moment false = Unchanged c d
 
   -- after a Prepare that held the item, which will be this
-  abbrev pub HeldFor : Partition K V C O E P → Partition K V C O E P → K → ℕ → Stamp → Option V → Type 0
+  abbrev pub HeldFor : Partition K V C N O E P X Y Z → Partition K V C N O E P X Y Z → K → ℕ → Stamp → Option V → Type 0
   HeldFor c d k n stamp image =
       let s = kept_at c k in
       Changes c d (S.core.table k) k (slot_held s (record { number = n; stamp = stamp; image = image })) (tally c.items.counts)
       (set_at c k (changes (indexed S.core S.index) c.catalog k (row_of s) image)) []
 
   -- by who held it before
-  abbrev pub HeldOrSame : Partition K V C O E P → Partition K V C O E P → A → ℕ → Stamp → Option ℕ → Type 0
+  abbrev pub HeldOrSame : Partition K V C N O E P X Y Z → Partition K V C N O E P X Y Z → A → ℕ → Stamp → Option ℕ → Type 0
   HeldOrSame c d action n stamp None =
       let k = S.core.key_of action in HeldFor c d k n stamp (after (outcome_at c action) (row_of (kept_at c k)))
   HeldOrSame c d action n stamp (Some m) = Unchanged c d
 
   -- after a Prepare, where it was accepted or not
-  abbrev pub LeftByPrepare : Partition K V C O E P → Partition K V C O E P → A → ℕ → Stamp → Bool → Type 0
+  abbrev pub LeftByPrepare : Partition K V C N O E P X Y Z → Partition K V C N O E P X Y Z → A → ℕ → Stamp → Bool → Type 0
   LeftByPrepare c d action n stamp true = HeldOrSame c d action n stamp (holder_of (kept_at c (S.core.key_of action)))
   LeftByPrepare c d action n stamp false = Unchanged c d
 
   -- after an Apply and a Release, where they were carried out or not
-  abbrev pub LeftByApply : Partition K V C O E P → Partition K V C O E P → K → Bool → Type 0
+  abbrev pub LeftByApply : Partition K V C N O E P X Y Z → Partition K V C N O E P X Y Z → K → Bool → Type 0
   LeftByApply c d k true =
       let s = kept_at c k in
       let t = tally c.items.counts in
@@ -108,24 +110,24 @@ module _ {K V A F C D Q B : Type 0} (S : Service K V A F C D Q B) {O : ord.Ghost
       (set_at c k []) (prepared_in O.cmp c.prepared.lists k)
   LeftByApply c d k false = Unchanged c d
 
-  abbrev pub LeftByRelease : Partition K V C O E P → Partition K V C O E P → K → Bool → Type 0
+  abbrev pub LeftByRelease : Partition K V C N O E P X Y Z → Partition K V C N O E P X Y Z → K → Bool → Type 0
   LeftByRelease c d k true =
       Changes c d (S.core.table k) k (slot_let_go (kept_at c k)) (tally c.items.counts) (set_at c k []) []
   LeftByRelease c d k false = Unchanged c d
 
   -- the first change that waits, as it is shown; whether it has this number
-  abbrev pub shown_by : Partition K V C O E P → Reply S
+  abbrev pub shown_by : Partition K V C N O E P X Y Z → Reply S
   shown_by c = out_answer S.core.cell_of (peek c.outbox.sent c.outbox.waiting.items)
 
-  abbrev pub acked_by : Partition K V C O E P → ℕ → Reply S
+  abbrev pub acked_by : Partition K V C N O E P X Y Z → ℕ → Reply S
   acked_by c s = ack_answer (has_first c.outbox.sent c.outbox.waiting.items s)
 
   -- a source's change was not carried out yet, and its index is there
-  abbrev pub fed_by : Partition K V C O E P → ℕ → ℕ → Change K V → Bool
+  abbrev pub fed_by : Partition K V C N O E P X Y Z → ℕ → ℕ → Change K V → Bool
   fed_by c source s x = nat_lt (mark_in c.marks.last.items source) s && served (indexed S.core S.index) c.catalog x.index (S.index.item_of x.key)
 
   -- after an ApplyIndex that was carried out: the mark, and the row
-  pub record Carries (c d : Partition K V C O E P) (source s : ℕ) (x : Change K V) : Type 0 where
+  pub record Carries (c d : Partition K V C N O E P X Y Z) (source s : ℕ) (x : Change K V) : Type 0 where
     pub partitions : d.partitions ≡ c.partitions
     pub catalog : d.catalog ≡ c.catalog
     pub items : d.items ≡ c.items
@@ -137,13 +139,15 @@ module _ {K V A F C D Q B : Type 0} (S : Service K V A F C D Q B) {O : ord.Ghost
         ≡ (if is_at (nat_cmp x.index) g && is_at (O.cmp x.key) q then x.after else row_under O.cmp c.rows.indexes g q)
 
   -- after an ApplyIndex, where it was carried out or not
-  abbrev pub LeftByFeed : Partition K V C O E P → Partition K V C O E P → ℕ → ℕ → Change K V → Bool → Type 0
+  abbrev pub LeftByFeed : Partition K V C N O E P X Y Z → Partition K V C N O E P X Y Z → ℕ → ℕ → Change K V → Bool → Type 0
   LeftByFeed c d source s x true = Carries c d source s x
   LeftByFeed c d source s x false = Unchanged c d
 
-module _ {K V C : Type 0} {O : ord.Ghosts K} {E : eq.Ghosts K} {P : partial.Ghosts K} where
+module _
+    {K V C : Type 0} {O : ord.Ghosts K} {E : eq.Ghosts K} {P : partial.Ghosts K}
+    {N : Type 0} {X : ord.Ghosts N} {Y : eq.Ghosts N} {Z : partial.Ghosts N} where
   -- after an Ack: the first change goes, where it has this number
-  pub record LeftByAck (c d : Partition K V C O E P) (s : ℕ) : Type 0 where
+  pub record LeftByAck (c d : Partition K V C N O E P X Y Z) (s : ℕ) : Type 0 where
     pub partitions : d.partitions ≡ c.partitions
     pub catalog : d.catalog ≡ c.catalog
     pub items : d.items ≡ c.items
@@ -156,7 +160,7 @@ module _ {K V C : Type 0} {O : ord.Ghosts K} {E : eq.Ghosts K} {P : partial.Ghos
     pub sent : d.outbox.sent ≡ (if has_first c.outbox.sent c.outbox.waiting.items s then c.outbox.sent + 1 else c.outbox.sent)
 
   -- nothing changes, where memory is refused to an ApplyIndex
-  pub record KeepsRows (c d : Partition K V C O E P) : Type 0 where
+  pub record KeepsRows (c d : Partition K V C N O E P X Y Z) : Type 0 where
     pub partitions : d.partitions ≡ c.partitions
     pub catalog : d.catalog ≡ c.catalog
     pub items : d.items ≡ c.items

@@ -12,7 +12,7 @@ use Rattle.txn_core.specs.State.{State, here, state_after, step}
 use Rattle.txn_core.specs.History.{effect_of}
 use Rattle.txn_core.specs.Answers.{get_answer, write_answer, prepare_answer, apply_answer, release_answer, version_answer, out_answer, feed_answer, ack_answer}
 use Rattle.txn_core.specs.Feeding.{event_of, feed_after, has_sequence}
-use Rattle.txn_core.specs.Legal.{there_in, holder_in, last_in, outcome_in, state}
+use Rattle.txn_core.specs.Legal.{there_in, holder_in, last_in, outcome_in, state, IsPendingList}
 use Rattle.partition.specs.declared.cell.Partition.{Partition}
 use Rattle.partition.specs.Holds.{Holds}
 
@@ -57,21 +57,27 @@ module _ {K V A F C D Q B : Type 0} (S : Service K V A F C D Q B) where
   abbrev pub ack_says : Feed K V C → ℕ → ℕ → Reply S
   ack_says f i sequence = ack_answer (has_sequence (out (indexed S.core S.index) f i) sequence)
 
-  module _ {O : ord.Ghosts K} {E : eq.Ghosts K} {P : partial.Ghosts K} where
+  module _
+      {O : ord.Ghosts K} {E : eq.Ghosts K} {P : partial.Ghosts K}
+      {N : Type 0} {X : ord.Ghosts N} {Y : eq.Ghosts N} {Z : partial.Ghosts N} where
     -- of every state and feed that the cell i holds the answer is this
-    abbrev pub Says : ℕ → Partition K V C O E P → (State K V A C → Feed K V C → Reply S) → Reply S → Type 0
+    abbrev pub Says : ℕ → Partition K V C N O E P X Y Z → (State K V A C → Feed K V C → Reply S) → Reply S → Type 0
     Says i c answer a = (w : State K V A C) (f : Feed K V C) → Holds S i c w f → a ≡ answer w f
 
+    -- of every state and feed that the cell i holds the answer lists the items that transactions hold
+    abbrev pub Lists : ℕ → Partition K V C N O E P X Y Z → Reply S → Type 0
+    Lists i c a = (w : State K V A C) (f : Feed K V C) → Holds S i c w f → IsPendingList S w i a
+
     -- every state and feed that the cell i held, it holds after the message that was answered so
-    abbrev pub Leaves : ℕ → Partition K V C O E P → Partition K V C O E P → ℕ → Asked S → Reply S → Type 0
+    abbrev pub Leaves : ℕ → Partition K V C N O E P X Y Z → Partition K V C N O E P X Y Z → ℕ → Asked S → Reply S → Type 0
     Leaves i c d moment m a =
         (w : State K V A C) (f : Feed K V C) → Holds S i c w f
         → Holds S i d (step S.core w (effect_of moment m a)) (feed_step (indexed S.core S.index) f (event_of S w moment m a))
 
     -- every state and feed that the cell i held, it holds still
-    abbrev pub Keeps : ℕ → Partition K V C O E P → Partition K V C O E P → Type 0
+    abbrev pub Keeps : ℕ → Partition K V C N O E P X Y Z → Partition K V C N O E P X Y Z → Type 0
     Keeps i c d = (w : State K V A C) (f : Feed K V C) → Holds S i c w f → Holds S i d w f
 
     -- the cell i holds what these entries make of it
-    abbrev pub Stands : ℕ → Partition K V C O E P → History S → Type 0
+    abbrev pub Stands : ℕ → Partition K V C N O E P X Y Z → History S → Type 0
     Stands i c es = Holds S i c (state S es) (feed_after S es)

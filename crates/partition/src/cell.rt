@@ -1,29 +1,41 @@
 //! What a cell keeps.
 
-ghost use Rattle.std.specs.Prelude.{◌≡◌, ◌≤◌, length};
+ghost use Rattle.std.specs.Prelude.{◌≡◌, ◌+◌, ◌≤◌, length};
 ghost use Rattle.prepared_changes.specs.Prepared.{places_in};
+ghost use Rattle.partition.specs.Places.{places_of};
 
+use crate::plan::CatalogPlan;
+use crate::rules::CellRules;
 use global_index::{IndexRows, Marks, Outbox};
 use item_store::ItemStore;
+use local_index::LocalIndexes;
 use prepared_changes::PreparedChanges;
 use txn_core::Rules;
 
-/// A cell of tables. `K` is which item or which row of an index, `V` what it holds, and `C` the catalog.
+/// A cell of tables. `K` is which item or which row of an index, `V` what it holds, `C` the catalog, and `N` an entry of a local
+/// index.
 ///
-/// Of the outbox as many places are set aside as changes are prepared.
+/// Of the outbox as many places are set aside as changes are prepared and planned.
 #[derive(Drop)]
-pub struct Partition<K: Ord, V, C> {
+pub struct Partition<K: Ord, V, C, N: Ord> {
     pub(crate) partitions: u32,
     pub(crate) catalog: C,
     pub(crate) items: ItemStore<K, V>,
+    pub(crate) locals: LocalIndexes<N>,
     pub(crate) outbox: Outbox<K, V>,
-    pub(crate) prepared: PreparedChanges<K, V>,
+    pub(crate) prepared: PreparedChanges<K, V, N>,
     pub(crate) marks: Marks,
     pub(crate) rows: IndexRows<K, V>,
+    pub(crate) planned: Option<CatalogPlan<K, V, C>>,
     ghost some: { 1 ≤ partitions },
     ghost sources: { length marks.last.items ≡ partitions },
-    ghost places: { outbox.set_aside ≡ places_in prepared.lists },
+    ghost places: { outbox.set_aside ≡ places_in prepared.lists + places_of planned },
 }
 
 /// A cell under these rules.
-pub type PartitionOf<R> = Partition<<R as Rules>::Key, <R as Rules>::Value, <R as Rules>::Catalog>;
+pub type PartitionOf<R> = Partition<
+    <R as Rules>::Key,
+    <R as Rules>::Value,
+    <R as Rules>::Catalog,
+    <R as CellRules>::Entry,
+>;

@@ -15,10 +15,10 @@ use txn_core::Rules;
 pub(crate) type ChangesOf<R> = Vec<Change<<R as Rules>::Key, <R as Rules>::Value>>;
 
 /// A row of an index, under these rules.
-type RowOf<R> = Row<<R as Rules>::Key, <R as Rules>::Value>;
+pub(crate) type RowOf<R> = Row<<R as Rules>::Key, <R as Rules>::Value>;
 
 /// The row in an index of an item that may be absent.
-fn row_in<R: Rules>(
+pub(crate) fn row_in<R: Rules>(
     alloc: Global,
     catalog: &R::Catalog,
     index: u64,
@@ -92,7 +92,7 @@ fn add_both<R: Rules>(
 }
 
 /// Adds a row that is new, if there is one.
-fn add_new<R: Rules>(
+pub(crate) fn add_new<R: Rules>(
     index: u64,
     new: Option<RowOf<R>>,
     changes: &mut ChangesOf<R>,

@@ -4,6 +4,7 @@ ghost use Rattle.std.specs.Prelude.{◌≡◌, ℕ};
 ghost use Rattle.txn_core.specs.Answers.{is_holder};
 ghost use Rattle.txn_core.specs.declared.message.Message.{Message};
 ghost use Rattle.txn_core.specs.History.{is_applied, is_released};
+ghost use Rattle.partition.specs.InStep.{StaysInStep};
 ghost use Rattle.partition.specs.Knows.{LeftByApply, LeftByRelease, applied, released};
 ghost use Rattle.partition.specs.Says.{Leaves, Says, apply_says, release_says};
 
@@ -25,6 +26,7 @@ fn is_holder(holding: Option<u64>, number: u64) -> bool
 fn settle<R: CellRules>(cell: &mut PartitionOf<R>, number: u64, key: &R::Key) -> Reply<R>
     ensures says { (n : ℕ) → result ≡ applied (R.protocol n) cell.old number key.now }
     ensures left { (n : ℕ) → LeftByApply (R.protocol n) cell.old cell.new key.now (is_applied result) }
+    ensures in_step { (n : ℕ) → StaysInStep (R.protocol n) R.locals cell.old cell.new }
 {
     let table = R::table_of(key);
     if !is_holder(cell.items.pending_at(table, key), number) {
@@ -38,6 +40,7 @@ fn settle<R: CellRules>(cell: &mut PartitionOf<R>, number: u64, key: &R::Key) ->
 fn let_go<R: CellRules>(cell: &mut PartitionOf<R>, number: u64, key: &R::Key) -> Reply<R>
     ensures says { (n : ℕ) → result ≡ released (R.protocol n) cell.old number key.now }
     ensures left { (n : ℕ) → LeftByRelease (R.protocol n) cell.old cell.new key.now (is_released result) }
+    ensures in_step { (n : ℕ) → StaysInStep (R.protocol n) R.locals cell.old cell.new }
 {
     let table = R::table_of(key);
     if !is_holder(cell.items.pending_at(table, key), number) {
@@ -53,6 +56,7 @@ pub fn apply<R: CellRules>(cell: &mut PartitionOf<R>, number: u64, key: &R::Key)
         (λ w f. apply_says (R.protocol n) w number key.now) result }
     ensures leaves { (n moment : ℕ) → Leaves (R.protocol n) ((R.protocol n).core.cell_of key.now) cell.old cell.new moment
         (Message.Apply number key.now) result }
+    ensures in_step { (n : ℕ) → StaysInStep (R.protocol n) R.locals cell.old cell.new }
 {
     settle::<R>(cell, number, key)
 }
@@ -63,6 +67,7 @@ pub fn release<R: CellRules>(cell: &mut PartitionOf<R>, number: u64, key: &R::Ke
         (λ w f. release_says (R.protocol n) w number key.now) result }
     ensures leaves { (n moment : ℕ) → Leaves (R.protocol n) ((R.protocol n).core.cell_of key.now) cell.old cell.new moment
         (Message.Release number key.now) result }
+    ensures in_step { (n : ℕ) → StaysInStep (R.protocol n) R.locals cell.old cell.new }
 {
     let_go::<R>(cell, number, key)
 }

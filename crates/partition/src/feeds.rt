@@ -7,6 +7,7 @@ ghost use Rattle.global_index.specs.Rows.{row_under};
 ghost use Rattle.txn_core.specs.declared.message.Message.{Message};
 ghost use Rattle.txn_core.specs.Feeding.{change};
 ghost use Rattle.txn_core.specs.Answers.{feed_answer};
+ghost use Rattle.partition.specs.InStep.{StaysInStep};
 ghost use Rattle.partition.specs.Knows.{KeepsRows, LeftByAck, LeftByFeed, acked_by, fed_by, shown_by};
 ghost use Rattle.partition.specs.Says.{Keeps, Leaves, Says, ack_says, feed_says, out_says};
 
@@ -45,6 +46,7 @@ pub fn peek_out<R: CellRules>(alloc: Global, cell: &PartitionOf<R>) -> Result<Re
 fn take_first<R: CellRules>(cell: &mut PartitionOf<R>, sequence: u64) -> Reply<R>
     ensures says { (n : ℕ) → result ≡ acked_by (R.protocol n) cell.old sequence }
     ensures left { LeftByAck cell.old cell.new sequence }
+    ensures in_step { (n : ℕ) → StaysInStep (R.protocol n) R.locals cell.old cell.new }
 {
     if cell.outbox.acknowledge(sequence) {
         Answer::Acked
@@ -57,6 +59,7 @@ fn take_first<R: CellRules>(cell: &mut PartitionOf<R>, sequence: u64) -> Reply<R
 pub fn acknowledge<R: CellRules>(cell: &mut PartitionOf<R>, sequence: u64) -> Reply<R>
     ensures says { (n i : ℕ) → Says (R.protocol n) i cell.old (λ w f. ack_says (R.protocol n) f i sequence) result }
     ensures leaves { (n i moment : ℕ) → Leaves (R.protocol n) i cell.old cell.new moment (Message.Ack i sequence) result }
+    ensures in_step { (n : ℕ) → StaysInStep (R.protocol n) R.locals cell.old cell.new }
 {
     take_first::<R>(cell, sequence)
 }
@@ -98,6 +101,7 @@ fn carry_out<R: CellRules>(
     ensures left { IfOk result (λ is. (n : ℕ) →
         LeftByFeed (R.protocol n) cell.old cell.new source sequence (change index row_key after) is) }
     ensures err { OnErr result (KeepsRows cell.old cell.new) }
+    ensures in_step { (n : ℕ) → StaysInStep (R.protocol n) R.locals cell.old cell.new }
 {
     if cell.marks.last(source) >= sequence {
         return Ok(false);
@@ -134,6 +138,7 @@ pub fn apply_index<R: CellRules>(
     ensures leaves { IfOk result (λ a. (n moment : ℕ) → Leaves (R.protocol n) ((R.protocol n).core.cell_of row_key) cell.old cell.new
         moment (Message.ApplyIndex source sequence index row_key after) a) }
     ensures err { OnErr result ((n i : ℕ) → Keeps (R.protocol n) i cell.old cell.new) }
+    ensures in_step { (n : ℕ) → StaysInStep (R.protocol n) R.locals cell.old cell.new }
 {
     let is_fed = carry_out::<R>(alloc, cell, source, sequence, index, row_key, after)?;
     Ok(fed_reply::<R>(is_fed))

@@ -4,24 +4,25 @@ ghost use Rattle.std.specs.Prelude.{◌≡◌, ◌+◌, ◌≤◌, None, Some, [
 ghost use Rattle.txn_core.specs.Stamps.{later};
 ghost use Rattle.item_store.specs.Slots.{counted, image_of, pending_of, row_of, stamp_of};
 ghost use Rattle.item_store.specs.Tables.{has_table};
-ghost use Rattle.prepared_changes.specs.Prepared.{places_in, prepared_in};
+ghost use Rattle.local_index.specs.Entries.{held_too, let_go, noted, settled};
+ghost use Rattle.prepared_changes.specs.Prepared.{moves_in, moves_of, no_moves, places_in, prepared_in};
 ghost use Rattle.partition.specs.Stores.{slot_held, slot_let_go, slot_settled, slot_written};
 
 use crate::cell::Partition;
-use crate::store::{commit, hold};
-use index_feed::Change;
+use crate::store::{commit_with, hold, hold_with};
 use item_store::Pending;
-use prepared_changes::queue_all;
+use prepared_changes::{IndexChanges, queue_all};
 use std::alloc::{AllocError as NoMemory, Global};
 use txn_core::Stamp;
 
-impl<K: Ord, V, C> Partition<K, V, C> {
+impl<K: Ord, V, C, N: Ord> Partition<K, V, C, N> {
     ghost use Rattle.item_store.specs.Changes.{slot_at};
     ghost use Rattle.item_store.specs.Counts.{tally};
     ghost use Rattle.partition.specs.Changes.{Changes, IsUnprepared, SetsAside, Unchanged, set_at};
+    ghost use Rattle.partition.specs.Moves.{AreUnheld, HasNoMoves, KeepsItems, MovesEntries, SameEntries, moves_at};
 
-    /// Puts an item that no transaction holds in its place, or takes it out, queues these changes, and hands out the item that
-    /// was there.
+    /// Puts an item that no transaction holds in its place, or takes it out, with these changes of indexes, and hands out the
+    /// item that was there.
     pub(crate) fn put(
         &mut self,
         alloc: Global,
@@ -29,24 +30,40 @@ impl<K: Ord, V, C> Partition<K, V, C> {
         key: K,
         item: Option<V>,
         stamp: Stamp,
-        changes: Vec<Change<K, V>>,
+        changes: IndexChanges<K, V, N>,
     ) -> Result<Option<V>, NoMemory>
     where
         K: Drop,
         V: Drop,
+        N: Clone + Drop,
+        requires copies { (entry copy : N) → N.is_clone entry copy → copy ≡ entry }
         requires free { pending_of (slot_at self.old.items table key) ≡ None }
         ensures old { IfOk result (λ old. old ≡ row_of (slot_at self.old.items table key)) }
         ensures ok { OnOk result (Changes self.old self.new table key
             (slot_written (tally self.old.items.counts) (slot_at self.old.items table key) item stamp)
             (counted (tally self.old.items.counts) (slot_at self.old.items table key) item stamp)
-            (prepared_in K.cmp self.old.prepared.lists) changes.items) }
+            (prepared_in K.cmp self.old.prepared.lists) changes.rows.items) }
         ensures err { OnErr result (Unchanged self.old self.new) }
+        ensures noted { OnOk result (AreUnheld N.cmp self.old.locals.tables table changes.new.items
+            → MovesEntries self.old self.new table (noted N.cmp changes.old.items changes.new.items)
+            (moves_in K.cmp self.old.prepared.lists)) }
+        ensures refused { OnErr result (AreUnheld N.cmp self.old.locals.tables table changes.new.items
+            → SameEntries self.old self.new) }
     {
-        let count = changes.len();
+        let count = changes.rows.len();
         self.outbox.set_aside(count)?;
-        match commit(alloc, &mut self.items, table, key, item, stamp) {
+        match commit_with(
+            alloc,
+            &mut self.items,
+            &mut self.locals,
+            table,
+            key,
+            item,
+            stamp,
+            &changes,
+        ) {
             Ok(old) => {
-                queue_all(&mut self.outbox, changes);
+                queue_all(&mut self.outbox, changes.rows);
                 Ok(old)
             }
             Err(end) => {
@@ -56,7 +73,7 @@ impl<K: Ord, V, C> Partition<K, V, C> {
         }
     }
 
-    /// Holds an item that no transaction holds. What is set aside for it stays.
+    /// Holds an item that no transaction holds. What is prepared for it stays.
     pub(crate) fn hold(
         &mut self,
         alloc: Global,
@@ -71,24 +88,28 @@ impl<K: Ord, V, C> Partition<K, V, C> {
         ensures ok { OnOk result (Changes self.old self.new table key (slot_held (slot_at self.old.items table key) pending)
             (tally self.old.items.counts) (prepared_in K.cmp self.old.prepared.lists) []) }
         ensures err { OnErr result (Unchanged self.old self.new) }
+        ensures entries { SameEntries self.old self.new }
     {
         hold(alloc, &mut self.items, table, key, pending)
     }
 
-    /// Sets aside what the end of a transaction that holds an item will queue, in place of what was set aside for it.
-    fn set_aside(&mut self, key: K, changes: Vec<Change<K, V>>) -> Result<(), NoMemory>
+    /// Prepares what the end of a transaction that holds an item will make of indexes, in place of what was prepared for it, and
+    /// sets aside the places that it will need.
+    fn set_aside(&mut self, key: K, changes: IndexChanges<K, V, N>) -> Result<(), NoMemory>
     where
         K: Drop,
         V: Drop,
-        ensures ok { OnOk result (SetsAside self.old self.new key changes.items) }
+        N: Drop,
+        ensures ok { OnOk result (SetsAside self.old self.new key changes.rows.items (moves_of (Some changes))) }
         ensures err { OnErr result (Unchanged self.old self.new) }
+        ensures entries { OnErr result (SameEntries self.old self.new) }
     {
-        let count = changes.len();
+        let count = changes.rows.len();
         self.outbox.set_aside(count)?;
         match self.prepared.prepare(key, changes) {
             Ok(None) => Ok(()),
             Ok(Some(old)) => {
-                self.outbox.give_back(old.len());
+                self.outbox.give_back(old.rows.len());
                 Ok(())
             }
             Err(end) => {
@@ -98,20 +119,59 @@ impl<K: Ord, V, C> Partition<K, V, C> {
         }
     }
 
-    /// Takes out what the end of the transaction that holds an item would queue, and gives its places back.
+    /// Takes out what is prepared for an item, and gives its places back.
     fn take_back(&mut self, key: &K)
     where
         K: Drop,
         V: Drop,
-        ensures { SetsAside self.old self.new key.now [] }
+        N: Drop,
+        ensures { SetsAside self.old self.new key.now [] no_moves }
     {
         if let Some(changes) = self.prepared.take(key) {
-            self.outbox.give_back(changes.len());
+            self.outbox.give_back(changes.rows.len());
         }
     }
 
-    /// Holds an item that no transaction holds, with what its transaction's end will queue. `held` and `kept` are copies
-    /// of the key.
+    /// Holds an item that no transaction holds, and the local entries of its image as they are prepared. `held` is a copy of
+    /// the key.
+    fn hold_prepared(
+        &mut self,
+        alloc: Global,
+        table: u64,
+        key: &K,
+        held: K,
+        pending: Pending<V>,
+    ) -> Result<(), NoMemory>
+    where
+        K: Drop,
+        V: Drop,
+        N: Clone + Drop,
+        requires copies { (entry copy : N) → N.is_clone entry copy → copy ≡ entry }
+        requires one { held ≡ key.now }
+        requires free { pending_of (slot_at self.old.items table key.now) ≡ None }
+        ensures ok { OnOk result (Changes self.old self.new table key.now (slot_held (slot_at self.old.items table key.now) pending)
+            (tally self.old.items.counts) (prepared_in K.cmp self.old.prepared.lists) []) }
+        ensures err { OnErr result (Unchanged self.old self.new) }
+        ensures held { OnOk result (MovesEntries self.old self.new table
+            (held_too N.cmp (moves_in K.cmp self.old.prepared.lists key.now).new) (moves_in K.cmp self.old.prepared.lists)) }
+        ensures refused { OnErr result (
+            AreUnheld N.cmp self.old.locals.tables table (moves_in K.cmp self.old.prepared.lists key.now).new
+            → SameEntries self.old self.new) }
+    {
+        let image = self.prepared.entries_after(key);
+        hold_with(
+            alloc,
+            &mut self.items,
+            &mut self.locals,
+            table,
+            held,
+            pending,
+            image,
+        )
+    }
+
+    /// Holds an item that no transaction holds, with what its transaction's end will make of indexes. `held` and `kept` are
+    /// copies of the key.
     pub(crate) fn hold_with(
         &mut self,
         alloc: Global,
@@ -120,19 +180,26 @@ impl<K: Ord, V, C> Partition<K, V, C> {
         held: K,
         kept: K,
         pending: Pending<V>,
-        changes: Vec<Change<K, V>>,
+        changes: IndexChanges<K, V, N>,
     ) -> Result<(), NoMemory>
     where
         K: Drop,
         V: Drop,
+        N: Clone + Drop,
+        requires copies { (entry copy : N) → N.is_clone entry copy → copy ≡ entry }
         requires one { (held ≡ key.now) × (kept ≡ key.now) }
         requires free { pending_of (slot_at self.old.items table key.now) ≡ None }
         ensures ok { OnOk result (Changes self.old self.new table key.now (slot_held (slot_at self.old.items table key.now) pending)
-            (tally self.old.items.counts) (set_at self.old key.now changes.items) []) }
+            (tally self.old.items.counts) (set_at self.old key.now changes.rows.items) []) }
         ensures err { OnErr result (IsUnprepared self.old key.now → Unchanged self.old self.new) }
+        ensures held { OnOk result (MovesEntries self.old self.new table (held_too N.cmp changes.new.items)
+            (moves_at self.old key.now (moves_of (Some changes)))) }
+        ensures refused { OnErr result (HasNoMoves self.old key.now
+            → AreUnheld N.cmp self.old.locals.tables table changes.new.items → SameEntries self.old self.new) }
+        ensures kept { OnErr result (KeepsItems self.old self.new) }
     {
         self.set_aside(kept, changes)?;
-        match hold(alloc, &mut self.items, table, held, pending) {
+        match self.hold_prepared(alloc, table, key, held, pending) {
             Ok(()) => Ok(()),
             Err(end) => {
                 self.take_back(key);
@@ -141,35 +208,44 @@ impl<K: Ord, V, C> Partition<K, V, C> {
         }
     }
 
-    /// Makes a held item what it is to be, and queues what was set aside for it. It takes no memory.
+    /// Makes a held item what it is to be, with the changes of indexes that were prepared for it. It takes no memory.
     pub(crate) fn settle(&mut self, table: u64, key: &K)
     where
         K: Drop,
         V: Drop,
+        N: Drop,
         requires held { IsSome (pending_of (slot_at self.old.items table key.now)) }
-        ensures { Changes self.old self.new table key.now
+        ensures changed { Changes self.old self.new table key.now
             (slot_settled (tally self.old.items.counts) (slot_at self.old.items table key.now))
             (counted (tally self.old.items.counts) (slot_at self.old.items table key.now)
             (image_of (pending_of (slot_at self.old.items table key.now)))
             (stamp_of (pending_of (slot_at self.old.items table key.now))))
             (set_at self.old key.now []) (prepared_in K.cmp self.old.prepared.lists key.now) }
+        ensures settled { let m = moves_in K.cmp self.old.prepared.lists key.now in
+            MovesEntries self.old self.new table (settled N.cmp m.old m.new) (moves_at self.old key.now no_moves) }
     {
         drop(self.items.settle(table, key));
         if let Some(changes) = self.prepared.take(key) {
-            queue_all(&mut self.outbox, changes);
+            self.locals
+                .settle(table, changes.old.as_slice(), changes.new.as_slice());
+            queue_all(&mut self.outbox, changes.rows);
         }
     }
 
-    /// Lets a held item go as it is, with what was set aside for it. It takes no memory.
+    /// Lets a held item go as it is, with what was prepared for it. It takes no memory.
     pub(crate) fn let_go(&mut self, table: u64, key: &K)
     where
         K: Drop,
         V: Drop,
+        N: Drop,
         requires held { IsSome (pending_of (slot_at self.old.items table key.now)) }
-        ensures { Changes self.old self.new table key.now (slot_let_go (slot_at self.old.items table key.now))
+        ensures changed { Changes self.old self.new table key.now (slot_let_go (slot_at self.old.items table key.now))
             (tally self.old.items.counts) (set_at self.old key.now []) [] }
+        ensures released { MovesEntries self.old self.new table
+            (let_go N.cmp (moves_in K.cmp self.old.prepared.lists key.now).new) (moves_at self.old key.now no_moves) }
     {
         drop(self.items.let_go(table, key));
+        self.locals.let_go(table, self.prepared.entries_after(key));
         self.take_back(key);
     }
 }

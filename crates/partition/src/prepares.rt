@@ -7,11 +7,12 @@ ghost use Rattle.txn_core.specs.declared.message.Message.{Message};
 ghost use Rattle.txn_core.specs.declared.outcome.Outcome.TheVariants.{New};
 ghost use Rattle.item_store.specs.Slots.{holder_of};
 ghost use Rattle.partition.specs.Changes.{IsUnprepared, Unchanged};
+ghost use Rattle.partition.specs.InStep.{StaysInStep};
 ghost use Rattle.partition.specs.Knows.{HeldFor, LeftByPrepare, kept_at, outcome_at, prepared};
 ghost use Rattle.partition.specs.Says.{Keeps, Leaves, Says, prepare_says};
 
 use crate::cell::PartitionOf;
-use crate::changes::changes_of;
+use crate::index_changes::index_changes;
 use crate::reads::copy_of_row;
 use crate::rules::CellRules;
 use item_store::Pending;
@@ -31,11 +32,12 @@ fn hold<R: CellRules>(
         → HeldFor (R.protocol n) cell.old cell.new ((R.protocol n).core.key_of action) pending.number pending.stamp pending.image) }
     ensures err { OnErr result ((n : ℕ) →
         IsUnprepared cell.old ((R.protocol n).core.key_of action) → Unchanged cell.old cell.new) }
+    ensures in_step { (n : ℕ) → StaysInStep (R.protocol n) R.locals cell.old cell.new }
 {
     let key = R::key_of(&action);
     let table = R::table_of(key);
     let old = cell.items.committed(table, key);
-    let changes = changes_of::<R>(alloc, &cell.catalog, key, old, pending.image.as_ref())?;
+    let changes = index_changes::<R>(alloc, &cell.catalog, key, old, pending.image.as_ref())?;
     if changes.is_empty() {
         return cell.hold(alloc, table, R::into_key(action), pending);
     }
@@ -60,6 +62,7 @@ fn claim<R: CellRules>(
         → LeftByPrepare (R.protocol n) cell.old cell.new action number stamp (is_accepted a)) }
     ensures err { OnErr result ((n : ℕ) →
         IsUnprepared cell.old ((R.protocol n).core.key_of action) → Unchanged cell.old cell.new) }
+    ensures in_step { (n : ℕ) → StaysInStep (R.protocol n) R.locals cell.old cell.new }
 {
     let key = R::key_of(&action);
     let table = R::table_of(key);
@@ -101,6 +104,7 @@ fn attempt<R: CellRules>(
     ensures err { OnErr result ((n : ℕ) →
         (holder_of (kept_at (R.protocol n) cell.old ((R.protocol n).core.key_of action)) ≡ None
         → IsUnprepared cell.old ((R.protocol n).core.key_of action)) → Unchanged cell.old cell.new) }
+    ensures in_step { (n : ℕ) → StaysInStep (R.protocol n) R.locals cell.old cell.new }
 {
     let key = R::key_of(&action);
     if !R::is_there(&cell.catalog, key) {
@@ -129,6 +133,7 @@ pub fn prepare<R: CellRules>(
         a) }
     ensures err { OnErr result ((n : ℕ) → Keeps (R.protocol n) ((R.protocol n).core.cell_of ((R.protocol n).core.key_of action))
         cell.old cell.new) }
+    ensures in_step { (n : ℕ) → StaysInStep (R.protocol n) R.locals cell.old cell.new }
 {
     attempt::<R>(alloc, cell, number, stamp, action)
 }

@@ -9,7 +9,7 @@ use std::alloc::{AllocError as NoMemory, Global};
 use txn_core::Rules;
 
 /// Whether the number is one of these.
-fn is_one_of(numbers: &[u64], index: u64) -> bool
+pub(crate) fn is_one_of(numbers: &[u64], index: u64) -> bool
     ensures { result ≡ list_any (λ h. nat_eq h index) numbers.now }
 {
     for number in numbers {

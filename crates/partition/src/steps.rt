@@ -1,11 +1,15 @@
 //! One message of those that a cell answers by itself.
 
 ghost use Rattle.std.specs.Prelude.{◌≡◌, ℕ, true, IfOk, OnErr};
+ghost use Rattle.partition.specs.InStep.{StaysInStep};
 ghost use Rattle.partition.specs.Steps.{StepAnswers, StepKeeps, StepStands, is_served};
 
 use crate::cell::PartitionOf;
 use crate::ends::{apply, release};
 use crate::feeds::{acknowledge, apply_index, peek_out};
+use crate::held_items::pendings;
+use crate::page_rules::PageRules;
+use crate::pages::page;
 use crate::prepares::prepare;
 use crate::reads::{get, read_version};
 use crate::rules::CellRules;
@@ -13,7 +17,7 @@ use crate::writes::write;
 use std::alloc::{AllocError as NoMemory, Global};
 use txn_core::{Asked, Message, Reply};
 
-/// Whether [`step`] serves a message: it is on an item or of the feed, and the cell that it names, if any, is there.
+/// Whether [`step`] serves a message: it goes to one partition, and the cell that it names, if any, is there.
 pub fn is_served<R: CellRules>(cell: &PartitionOf<R>, message: &Asked<R>) -> bool
     ensures { result ≡ is_served cell.now.partitions message.now }
 {
@@ -21,6 +25,8 @@ pub fn is_served<R: CellRules>(cell: &PartitionOf<R>, message: &Asked<R>) -> boo
         Message::Get { .. } | Message::ReadVersion { .. } => true,
         Message::Write { .. } | Message::Prepare { .. } => true,
         Message::Apply { .. } | Message::Release { .. } => true,
+        Message::QueryPage { .. } | Message::ScanPage { .. } => true,
+        Message::Pendings { cell: held } => *held < cell.partitions,
         Message::PeekOut { source } => *source < cell.partitions,
         Message::ApplyIndex { source, .. } => *source < cell.partitions,
         Message::Ack { source, .. } => *source < cell.partitions,
@@ -28,9 +34,9 @@ pub fn is_served<R: CellRules>(cell: &PartitionOf<R>, message: &Asked<R>) -> boo
     }
 }
 
-/// Answers a message on an item or of the feed that goes to this cell. Of every list of entries for which the cell stands, the
-/// answer is the one that legal histories have, and the cell stands for the list with the message's entry.
-pub fn step<R: CellRules>(
+/// Answers a message that goes to this partition alone. Of every list of entries for which the cell stands, the answer is the
+/// one that legal histories have, and the cell stands for the list with the message's entry.
+pub fn step<R: PageRules>(
     alloc: Global,
     cell: &mut PartitionOf<R>,
     message: Asked<R>,
@@ -40,6 +46,7 @@ pub fn step<R: CellRules>(
     ensures answers { IfOk result (λ a. (n : ℕ) → StepAnswers (R.protocol n) cell.old message moment a) }
     ensures stands { IfOk result (λ a. (n : ℕ) → StepStands (R.protocol n) cell.old cell.new message moment a) }
     ensures err { OnErr result ((n : ℕ) → StepKeeps (R.protocol n) cell.old cell.new message) }
+    ensures in_step { (n : ℕ) → StaysInStep (R.protocol n) R.locals cell.old cell.new }
 {
     match message {
         Message::Get { key } => get::<R>(alloc, cell, &key),
@@ -52,6 +59,9 @@ pub fn step<R: CellRules>(
         Message::Apply { number, key } => Ok(apply::<R>(cell, number, &key)),
         Message::Release { number, key } => Ok(release::<R>(cell, number, &key)),
         Message::ReadVersion { key } => read_version::<R>(alloc, cell, &key),
+        Message::QueryPage { page: asked } => page::<R>(alloc, cell, &asked),
+        Message::ScanPage { page: asked } => page::<R>(alloc, cell, &asked),
+        Message::Pendings { .. } => pendings::<R>(alloc, cell),
         Message::PeekOut { .. } => peek_out::<R>(alloc, cell),
         Message::ApplyIndex {
             source,

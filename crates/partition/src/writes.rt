@@ -7,11 +7,12 @@ ghost use Rattle.txn_core.specs.declared.message.Message.{Message};
 ghost use Rattle.txn_core.specs.declared.outcome.Outcome.TheVariants.{New};
 ghost use Rattle.item_store.specs.Slots.{holder_of};
 ghost use Rattle.partition.specs.Changes.{Unchanged};
+ghost use Rattle.partition.specs.InStep.{StaysInStep};
 ghost use Rattle.partition.specs.Knows.{LeftByWrite, kept_at, outcome_at, wrote};
 ghost use Rattle.partition.specs.Says.{Keeps, Leaves, Says, write_says};
 
 use crate::cell::PartitionOf;
-use crate::changes::changes_of;
+use crate::index_changes::index_changes;
 use crate::reads::copy_of_row;
 use crate::rules::CellRules;
 use std::alloc::{AllocError as NoMemory, Global};
@@ -31,12 +32,13 @@ fn carry_out<R: CellRules>(
         → a ≡ wrote (R.protocol n) cell.old action) }
     ensures left { IfOk result (λ a. (n : ℕ) → LeftByWrite (R.protocol n) cell.old cell.new action moment (is_written a)) }
     ensures err { OnErr result (Unchanged cell.old cell.new) }
+    ensures in_step { (n : ℕ) → StaysInStep (R.protocol n) R.locals cell.old cell.new }
 {
     let new = copy_of_row::<R>(alloc, item.as_ref())?;
     let key = R::key_of(&action);
     let table = R::table_of(key);
     let old = cell.items.committed(table, key);
-    let changes = changes_of::<R>(alloc, &cell.catalog, key, old, item.as_ref())?;
+    let changes = index_changes::<R>(alloc, &cell.catalog, key, old, item.as_ref())?;
     let key = R::into_key(action);
     let stamp = Stamp { moment, number: 0 };
     let old = cell.put(alloc, table, key, item, stamp, changes)?;
@@ -53,6 +55,7 @@ fn attempt<R: CellRules>(
     ensures says { IfOk result (λ a. (n : ℕ) → a ≡ wrote (R.protocol n) cell.old action) }
     ensures left { IfOk result (λ a. (n : ℕ) → LeftByWrite (R.protocol n) cell.old cell.new action moment (is_written a)) }
     ensures err { OnErr result (Unchanged cell.old cell.new) }
+    ensures in_step { (n : ℕ) → StaysInStep (R.protocol n) R.locals cell.old cell.new }
 {
     let key = R::key_of(&action);
     if !R::is_there(&cell.catalog, key) {
@@ -84,6 +87,7 @@ pub fn write<R: CellRules>(
     ensures leaves { IfOk result (λ a. (n : ℕ) → Leaves (R.protocol n)
         ((R.protocol n).core.cell_of ((R.protocol n).core.key_of action)) cell.old cell.new moment (Message.Write action) a) }
     ensures err { OnErr result ((n i : ℕ) → Keeps (R.protocol n) i cell.old cell.new) }
+    ensures in_step { (n : ℕ) → StaysInStep (R.protocol n) R.locals cell.old cell.new }
 {
     attempt::<R>(alloc, cell, action, moment)
 }

@@ -1,6 +1,6 @@
 //! What is asked of the one cell of a shop, in short.
 
-use case_rules::{Action, Condition, Deed, Item, Key, Name, Shop};
+use case_rules::{Action, Condition, Deed, Item, Key, Name, Question, Shop};
 use txn_core::{Asked, Message, Stamp};
 
 /// What is asked. Items are orders by their number; rows are of the index 2.
@@ -16,9 +16,12 @@ pub(crate) enum Ask {
     Apply(u64, u64),
     Release(u64, u64),
     Peek,
+    Pendings,
     /// Of this number, the row of the order 1 under a customer, with this amount.
     Feed(u64, u64, Option<u64>),
     Ack(u64),
+    /// Of the orders, or of the rows of an index.
+    Page(Option<u64>),
 }
 
 /// An action on an order.
@@ -49,7 +52,7 @@ fn key(name: Name, customer: Option<u64>, number: u64) -> Key {
     }
 }
 
-fn order(number: u64) -> Key {
+pub(crate) fn order(number: u64) -> Key {
     key(Name::Orders, None, number)
 }
 
@@ -113,6 +116,15 @@ fn ending(ask: Ask) -> Asked<Shop> {
             source: 0,
             sequence,
         },
+        Ask::Page(index) => Message::ScanPage {
+            page: Question::Page {
+                name: Name::Orders,
+                table: 1,
+                index,
+                place: 0,
+            },
+        },
+        Ask::Pendings => Message::Pendings { cell: 0 },
         _ => Message::PeekOut { source: 0 },
     }
 }

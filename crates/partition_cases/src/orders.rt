@@ -4,10 +4,11 @@ use crate::asks::{Act, Ask, message};
 use crate::replies::{Told, in_short};
 use case_rules::{Catalog, Shop, Table};
 use partition::{is_served, step, under};
+use std::alloc::{AllocError, Global};
 use std::test::Fail;
 
 /// What is asked at a moment, and what is answered.
-type Line = (u64, Ask, Told);
+pub(crate) type Line = (u64, Ask, Told);
 
 /// An order is made, moved by a transaction, and removed by another; its rows follow.
 static ORDERS: [Line; 40] = [
@@ -65,9 +66,8 @@ static ORDERS: [Line; 40] = [
     (9, Ask::Version(2), Told::Version(Some(1), 4, None)),
 ];
 
-#[test]
-fn orders_and_their_rows(rt: HostRuntime) -> Result<(), Fail> {
-    let alloc = rt.alloc();
+/// Whether a shop of orders with an index answers each as the lines say.
+pub(crate) fn is_as_told(alloc: Global, lines: &[Line]) -> Result<bool, AllocError> {
     let catalog = Catalog {
         orders: Some(Table {
             number: 1,
@@ -77,11 +77,21 @@ fn orders_and_their_rows(rt: HostRuntime) -> Result<(), Fail> {
         drawn_before: 2,
     };
     let mut cell = under::<Shop>(alloc, 1, catalog)?;
-    for (moment, ask, expected) in &ORDERS {
+    for (moment, ask, expected) in lines {
         let message = message(*ask);
-        assert!(rt; is_served::<Shop>(&cell, &message));
+        if !is_served::<Shop>(&cell, &message) {
+            return Ok(false);
+        }
         let reply = step::<Shop>(alloc, &mut cell, message, *moment)?;
-        assert!(rt; in_short(reply) == *expected);
+        if in_short(reply) != *expected {
+            return Ok(false);
+        }
     }
+    Ok(true)
+}
+
+#[test]
+fn orders_and_their_rows(rt: HostRuntime) -> Result<(), Fail> {
+    assert!(rt; is_as_told(rt.alloc(), &ORDERS)?);
     Ok(())
 }

@@ -1,9 +1,10 @@
 //! What is answered, in short.
 
-use case_rules::{Item, Shop};
-use txn_core::{Answer, Reply};
+use case_rules::{Item, Key, Shop, Told as ShopTold};
+use txn_core::{Answer, HeldItem, Reply};
 
-/// What is answered: of items, the amounts; of a row, the customer, and its amount where it isn't removed.
+/// What is answered: of items, the amounts; of a row, the customer, and its amount where it isn't removed; of a page, how many
+/// rows it has, and the amount of the last one.
 #[derive(Clone, Copy, PartialEq)]
 pub(crate) enum Told {
     Stale,
@@ -20,9 +21,12 @@ pub(crate) enum Told {
     Version(Option<u64>, u64, Option<u64>),
     Out(u64, Option<u64>, Option<u64>),
     Empty,
+    /// How many items are held, and by whom the first is.
+    Pendings(usize, u64),
     Fed,
     Already,
     Acked,
+    Page(usize, Option<u64>),
     Other,
 }
 
@@ -54,8 +58,17 @@ pub(crate) fn in_short(reply: Reply<Shop>) -> Told {
             after,
             ..
         } => Told::Out(sequence, row_key.customer, amount(after)),
+        Answer::PendingList { pendings } => held(pendings.as_slice()),
         other => done(other),
     }
+}
+
+fn held(pendings: &[HeldItem<Key>]) -> Told {
+    let first = match pendings {
+        [first, ..] => first.number,
+        [] => 0,
+    };
+    Told::Pendings(pendings.len(), first)
 }
 
 fn done(reply: Reply<Shop>) -> Told {
@@ -67,6 +80,17 @@ fn done(reply: Reply<Shop>) -> Told {
         Answer::Fed => Told::Fed,
         Answer::Already => Told::Already,
         Answer::Acked => Told::Acked,
+        Answer::Part { told } => page(told),
+        _ => Told::Other,
+    }
+}
+
+fn page(told: ShopTold) -> Told {
+    match told {
+        ShopTold::Rows { rows } => {
+            let rows = rows.as_slice();
+            Told::Page(rows.len(), rows.last().map(|row| row.1.amount))
+        }
         _ => Told::Other,
     }
 }

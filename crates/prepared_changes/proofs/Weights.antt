@@ -4,28 +4,27 @@ use Rattle.std.specs.BTreeMap.{BTreeMap, IsOrdered, get, insert_entry, is_at, va
 use Rattle.std.specs.Map.{values_of, remove_entry}
 use Rattle.std.specs.List.{sum_by}
 use Rattle.std.specs.Cmp.{IsTotalOrder}
-use Rattle.std.specs.Global.{Vec}
 use Rattle.std.specs.declared.cmp.Ordering.{Ordering}
-use Rattle.std.proofs.Common.{◌≡◌, ℕ, ◌+◌, List, [], length, Option, None, Some, refl, ap, arith}
+use Rattle.std.proofs.Common.{◌≡◌, ℕ, ◌+◌, List, length, Option, None, Some, refl, ap, arith}
 use Rattle.std.proofs.lemmas.Map.Entries.{sum_by-remove_entry, sum_by-insert_entry}
-use Rattle.index_feed.specs.declared.change.Change.{Change}
-use Rattle.prepared_changes.specs.Prepared.{changes_in, places_in, prepared_in}
+use Rattle.prepared_changes.specs.declared.change.IndexChanges.{IndexChanges}
+use Rattle.prepared_changes.specs.Prepared.{changes_in, places_in}
 
-module _ {K V : Type 0} where
+module _ {K V N : Type 0} where
   -- how many changes a list has
-  abbrev many : Vec (Change K V) → ℕ
-  many changes = length changes.items
+  abbrev many : IndexChanges K V N → ℕ
+  many changes = length changes.rows.items
 
-  counted : (o : Option (Vec (Change K V))) → unwrap_or (option_map many o) 0 ≡ length (changes_in o)
+  counted : (o : Option (IndexChanges K V N)) → unwrap_or (option_map many o) 0 ≡ length (changes_in o)
   counted None = refl
   counted (Some changes) = refl
 
   pub taken :
-      (cmp : K → K → Ordering) (m n : BTreeMap K (Vec (Change K V))) (k : K) → n.entries ≡ remove_entry (is_at (cmp k)) m.entries
-      → (old : Option (Vec (Change K V))) → old ≡ get cmp m k → places_in n + length (changes_in old) ≡ places_in m
+      (cmp : K → K → Ordering) (m n : BTreeMap K (IndexChanges K V N)) (k : K) → n.entries ≡ remove_entry (is_at (cmp k)) m.entries
+      → (old : Option (IndexChanges K V N)) → old ≡ get cmp m k → places_in n + length (changes_in old) ≡ places_in m
   taken cmp m n k e old was =
       let moved : sum_by many (values n) ≡ sum_by many (values_of (remove_entry (is_at (cmp k)) m.entries)) =
-      ap (λ (es : List (K × Vec (Change K V))). sum_by many (values_of es)) e in
+      ap (λ (es : List (K × IndexChanges K V N)). sum_by many (values_of es)) e in
       let sum : sum_by many (values_of (remove_entry (is_at (cmp k)) m.entries)) + unwrap_or (option_map many (get cmp m k)) 0 ≡ sum_by many (values m) =
       sum_by-remove_entry many (is_at (cmp k)) m.entries in
       let same = counted (get cmp m k) in
@@ -33,12 +32,12 @@ module _ {K V : Type 0} where
       omega arith
 
   pub put :
-      (cmp : K → K → Ordering) → IsTotalOrder cmp → (m n : BTreeMap K (Vec (Change K V))) (k : K) (changes : Vec (Change K V))
-      → IsOrdered cmp m → n.entries ≡ insert_entry cmp m.entries k changes → (old : Option (Vec (Change K V))) → old ≡ get cmp m k
-      → places_in n + length (changes_in old) ≡ places_in m + length changes.items
+      (cmp : K → K → Ordering) → IsTotalOrder cmp → (m n : BTreeMap K (IndexChanges K V N)) (k : K) (changes : IndexChanges K V N)
+      → IsOrdered cmp m → n.entries ≡ insert_entry cmp m.entries k changes → (old : Option (IndexChanges K V N)) → old ≡ get cmp m k
+      → places_in n + length (changes_in old) ≡ places_in m + length changes.rows.items
   put cmp total m n k changes order e old was =
       let moved : sum_by many (values n) ≡ sum_by many (values_of (insert_entry cmp m.entries k changes)) =
-      ap (λ (es : List (K × Vec (Change K V))). sum_by many (values_of es)) e in
+      ap (λ (es : List (K × IndexChanges K V N)). sum_by many (values_of es)) e in
       let sum : sum_by many (values_of (insert_entry cmp m.entries k changes)) + unwrap_or (option_map many (get cmp m k)) 0 ≡ sum_by many (values m) + many changes =
       sum_by-insert_entry many total m.entries k changes order in
       let same = counted (get cmp m k) in

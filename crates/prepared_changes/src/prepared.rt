@@ -1,23 +1,24 @@
 //! The changes of each held item.
 
-ghost use Rattle.std.specs.Prelude.{◌≡◌, ◌+◌, ℕ, [], IfOk, OnOk, OnErr, length, if◌then◌else◌};
+ghost use Rattle.std.specs.Prelude.{◌≡◌, ◌+◌, ℕ, [], Some, IfOk, OnOk, OnErr, length, if◌then◌else◌};
 ghost use Rattle.std.specs.BTreeMap.{is_at};
-ghost use Rattle.prepared_changes.specs.Prepared.{changes_in, places_in, prepared_in, SameLists};
+ghost use Rattle.prepared_changes.specs.Prepared.{changes_in, moves_in, moves_of, no_moves, places_in, prepared_in, SameLists};
 
-use index_feed::Change;
+use crate::change::IndexChanges;
 use std::alloc::{AllocError as NoMemory, Global};
 use std::collections::BTreeMap;
 
-/// The changes that are prepared, of each item in their order. An item without changes costs nothing.
+/// What is prepared, of each item: changes of rows in their order, and moves of local entries. An item without any costs nothing.
 #[derive(Drop)]
-pub struct PreparedChanges<K: Ord, V> {
-    lists: BTreeMap<K, Vec<Change<K, V>>>,
+pub struct PreparedChanges<K: Ord, V, N> {
+    lists: BTreeMap<K, IndexChanges<K, V, N>>,
 }
 
-impl<K: Ord, V> PreparedChanges<K, V> {
+impl<K: Ord, V, N> PreparedChanges<K, V, N> {
     /// Nothing is prepared.
-    pub fn new(alloc: Global) -> PreparedChanges<K, V>
+    pub fn new(alloc: Global) -> PreparedChanges<K, V, N>
         ensures lists { (q : K) → prepared_in K.cmp result.lists q ≡ [] }
+        ensures moves { (q : K) → moves_in K.cmp result.lists q ≡ no_moves }
         ensures places { places_in result.lists ≡ 0 }
     {
         PreparedChanges {
@@ -29,16 +30,19 @@ impl<K: Ord, V> PreparedChanges<K, V> {
     pub fn prepare(
         &mut self,
         key: K,
-        changes: Vec<Change<K, V>>,
-    ) -> Result<Option<Vec<Change<K, V>>>, NoMemory>
+        changes: IndexChanges<K, V, N>,
+    ) -> Result<Option<IndexChanges<K, V, N>>, NoMemory>
     where
         K: Drop,
         V: Drop,
+        N: Drop,
         ensures old { IfOk result (λ old. changes_in old ≡ prepared_in K.cmp self.old.lists key) }
         ensures lists { OnOk result ((q : K) → prepared_in K.cmp self.new.lists q
-            ≡ (if is_at (K.cmp key) q then changes.items else prepared_in K.cmp self.old.lists q)) }
+            ≡ (if is_at (K.cmp key) q then changes.rows.items else prepared_in K.cmp self.old.lists q)) }
+        ensures moves { OnOk result ((q : K) → moves_in K.cmp self.new.lists q
+            ≡ (if is_at (K.cmp key) q then moves_of (Some changes) else moves_in K.cmp self.old.lists q)) }
         ensures places { IfOk result (λ old.
-            places_in self.new.lists + length (changes_in old) ≡ places_in self.old.lists + length changes.items) }
+            places_in self.new.lists + length (changes_in old) ≡ places_in self.old.lists + length changes.rows.items) }
         ensures err { OnErr result (SameLists K.cmp self.old.lists self.new.lists) }
     {
         match self.lists.insert(key, changes) {
@@ -50,13 +54,26 @@ impl<K: Ord, V> PreparedChanges<K, V> {
         }
     }
 
+    /// The local entries that an item will have, as they are prepared: none, where nothing is.
+    pub fn entries_after(&self, key: &K) -> &[N]
+        ensures { result.now ≡ (moves_in K.cmp self.now.lists key.now).new }
+    {
+        match self.lists.get(key) {
+            Some(changes) => changes.new.as_slice(),
+            None => &[],
+        }
+    }
+
     /// Takes the changes of an item out. It takes no memory.
-    pub fn take(&mut self, key: &K) -> Option<Vec<Change<K, V>>>
+    pub fn take(&mut self, key: &K) -> Option<IndexChanges<K, V, N>>
     where
         K: Drop,
         ensures taken { changes_in result ≡ prepared_in K.cmp self.old.lists key.now }
+        ensures moved { moves_of result ≡ moves_in K.cmp self.old.lists key.now }
         ensures lists { (q : K) → prepared_in K.cmp self.new.lists q
             ≡ (if is_at (K.cmp key.now) q then [] else prepared_in K.cmp self.old.lists q) }
+        ensures moves { (q : K) → moves_in K.cmp self.new.lists q
+            ≡ (if is_at (K.cmp key.now) q then no_moves else moves_in K.cmp self.old.lists q) }
         ensures places { places_in self.new.lists + length (changes_in result) ≡ places_in self.old.lists }
     {
         self.lists.remove(key)

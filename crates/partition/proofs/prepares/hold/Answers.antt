@@ -1,15 +1,16 @@
-use Rattle.std.proofs.Common.{◌≡◌, [], sym, ap, ◌∙◌, subst}
-use Rattle.std.proofs.lemmas.Bool.{eqb-true}
-use Rattle.std.proofs.lemmas.List.{nil_from_length}
+use Rattle.std.proofs.Common.{◌≡◌, [], None, Some, sym, ap, ◌∙◌, subst}
 use Rattle.index_feed.specs.Feed.{changes}
 use Rattle.txn_core.specs.Indexing.{indexed}
 use Rattle.item_store.specs.Slots.{holder_of, pending_of, row_of}
 use Rattle.item_store.specs.Changes.{slot_at}
 use Rattle.item_store.specs.Counts.{tally}
+use Rattle.prepared_changes.specs.Prepared.{moves_of, no_moves}
+use Rattle.partition.specs.Entries.{moves_by}
 use Rattle.partition.specs.Changes.{IsUnprepared}
 use Rattle.partition.specs.Knows.{kept_at}
 use Rattle.partition.proofs.Holding.{held_plain, held_with}
 use Rattle.partition.proofs.Moved.{on_err_with, on_ok_with}
+use Rattle.partition.proofs.Staying.{either_way, either_with, held_plain_stays, held_with_stays, hold_refused_stays, same_stays}
 use Rattle.partition.proofs.Stepping.{free_slot}
 use Rattle.partition.proofs.prepares.hold.Goals as goal
 
@@ -20,6 +21,9 @@ hold-requires g c =
       free = free_slot (pending_of (slot_at c.args.cell.now.items c.table_of-table.result c.into_key.result))
           ((λ j. holder_of (slot_at c.args.cell.now.items ((c.table_of-table.ensures 0 ∙ ap (λ k. S.core.table k) (c.key_of-key.ensures 0)) j) (c.into_key.ensures 0 j))) ∙ c.requires.free 0);
     }
+
+pub hold_with-requires-clause-copies : goal.hold_with-requires-clause-copies
+hold_with-requires-clause-copies g c = g.met.R.CellRules.copied
 
 pub hold_with-requires-clause-free : goal.hold_with-requires-clause-free
 hold_with-requires-clause-free g c =
@@ -34,9 +38,8 @@ returns-then-is_empty-clause-left g c =
     let S = g.R.Rules.protocol n in
     let k = S.core.key_of c.args.action in
     let xs = changes (indexed S.core S.index) c.args.cell.now.catalog k (row_of (kept_at S c.args.cell.now k)) c.args.pending.image in
-    let same : c.in_ok-changes.changes.items ≡ xs = cc (c.in_ok-changes.ensures n, c.key_of-key.ensures n, c.table_of-table.ensures n, c.committed-old.ensures, c.as_ref.ensures.value) in
-    let nil : c.in_ok-changes.changes.items ≡ [] =
-    nil_from_length c.in_ok-changes.changes.items (sym c.in_ok-changes.changes.ok.0 ∙ eqb-true c.in_ok-changes.changes.len 0 (sym c.is_empty.ensures ∙ c.if-is_empty.true)) in
+    let same : c.in_ok-changes.changes.rows.items ≡ xs = cc (c.in_ok-changes.ensures.rows n, c.key_of-key.ensures n, c.table_of-table.ensures n, c.committed-old.ensures, c.as_ref.ensures.value) in
+    let nil : c.in_ok-changes.changes.rows.items ≡ [] = (c.is_empty.ensures.0 c.if-is_empty.true).no_rows in
     held_plain c.args.cell.now c.hold.new.self (tally c.args.cell.now.items.counts) c.table_of-table.result (S.core.table k) c.into_key.result k
     (c.table_of-table.ensures n ∙ ap (λ y. S.core.table y) (c.key_of-key.ensures n)) (c.into_key.ensures n) c.args.pending xs (sym same ∙ nil) un
     (record {
@@ -54,9 +57,9 @@ returns-clause-left g c =
     let S = g.R.Rules.protocol n in
     let k = S.core.key_of c.args.action in
     let xs = changes (indexed S.core S.index) c.args.cell.now.catalog k (row_of (kept_at S c.args.cell.now k)) c.args.pending.image in
-    let same : c.in_ok-changes.changes.items ≡ xs = cc (c.in_ok-changes.ensures n, c.key_of-key.ensures n, c.table_of-table.ensures n, c.committed-old.ensures, c.as_ref.ensures.value) in
+    let same : c.in_ok-changes.changes.rows.items ≡ xs = cc (c.in_ok-changes.ensures.rows n, c.key_of-key.ensures n, c.table_of-table.ensures n, c.committed-old.ensures, c.as_ref.ensures.value) in
     held_with c.args.cell.now c.hold_with.new.self (tally c.args.cell.now.items.counts) c.table_of-table.result (S.core.table k) c.key_of-key.result.now k
-    (c.table_of-table.ensures n ∙ ap (λ y. S.core.table y) (c.key_of-key.ensures n)) (c.key_of-key.ensures n) c.args.pending c.in_ok-changes.changes.items xs same
+    (c.table_of-table.ensures n ∙ ap (λ y. S.core.table y) (c.key_of-key.ensures n)) (c.key_of-key.ensures n) c.args.pending c.in_ok-changes.changes.rows.items xs same
     (record {
       slots = h.slots;
       numbers_are = h.numbers_are;
@@ -77,3 +80,42 @@ returns-clause-err g c =
       waiting = h.waiting;
       beside = record { partitions = h.beside.partitions; catalog = h.beside.catalog; sent = h.beside.sent; marks = h.beside.marks; rows = h.beside.rows };
     })
+
+pub returns-then-is_empty-clause-in_step : goal.returns-then-is_empty-clause-in_step
+returns-then-is_empty-clause-in_step g c = λ n.
+    let S = g.R.Rules.protocol n in
+    let L = g.R.CellRules.locals in
+    let cell = c.args.cell.now in
+    let u = c.table_of-table.result in
+    let k = c.into_key.result in
+    let table : u ≡ S.core.table k = c.table_of-table.ensures n ∙ ap (λ y. S.core.table y) (c.key_of-key.ensures n ∙ sym (c.into_key.ensures n)) in
+    let free : pending_of (slot_at cell.items u k) ≡ None =
+    free_slot (pending_of (slot_at cell.items u k)) ((λ j. holder_of (slot_at cell.items ((c.table_of-table.ensures n ∙ ap (λ y. S.core.table y) (c.key_of-key.ensures n)) j) (c.into_key.ensures n j))) ∙ c.requires.free n) in
+    let made : moves_of (Some c.in_ok-changes.changes) ≡ moves_by L cell.catalog k (row_of (slot_at cell.items u k)) c.args.pending.image =
+    cc (c.in_ok-changes.ensures.moves, c.key_of-key.ensures n, c.into_key.ensures n, c.committed-old.ensures, c.as_ref.ensures.value) in
+    let none = c.is_empty.ensures.0 c.if-is_empty.true in
+    let no : no_moves ≡ moves_by L cell.catalog k (row_of (slot_at cell.items u k)) c.args.pending.image =
+    (λ i. record { old = sym none.none_before i; new = sym none.none_after i }) ∙ made in
+    either_way c.hold.result c.hold.ensures.ok c.hold.ensures.err
+    (λ h. held_plain_stays S (g.met.R.Rules.lawful n) (g.met.R.CellRules.ordered n) L (g.met.R.CellRules.entries_lawful n) g.met.R.Entry.Ord.total
+    cell c.hold.new.self h.beside.catalog u k table c.args.pending h.slots free no c.hold.ensures.entries)
+    (λ h. same_stays S (g.met.R.Rules.lawful n) (g.met.R.CellRules.ordered n) L (g.met.R.CellRules.entries_lawful n) g.met.R.Entry.Ord.total
+    cell c.hold.new.self h.beside.catalog u k table h.slots c.hold.ensures.entries)
+
+pub returns-clause-in_step : goal.returns-clause-in_step
+returns-clause-in_step g c = λ n.
+    let S = g.R.Rules.protocol n in
+    let L = g.R.CellRules.locals in
+    let cell = c.args.cell.now in
+    let u = c.table_of-table.result in
+    let k = c.key_of-key.result.now in
+    let table : u ≡ S.core.table k = c.table_of-table.ensures n in
+    let free : pending_of (slot_at cell.items u k) ≡ None =
+    free_slot (pending_of (slot_at cell.items u k)) ((λ j. holder_of (slot_at cell.items ((c.table_of-table.ensures n ∙ ap (λ y. S.core.table y) (c.key_of-key.ensures n)) j) (c.key_of-key.ensures n j))) ∙ c.requires.free n) in
+    let made : moves_of (Some c.in_ok-changes.changes) ≡ moves_by L cell.catalog k (row_of (slot_at cell.items u k)) c.args.pending.image =
+    cc (c.in_ok-changes.ensures.moves, c.committed-old.ensures, c.as_ref.ensures.value) in
+    either_with c.hold_with.result c.hold_with.ensures.ok c.hold_with.ensures.held c.hold_with.ensures.kept c.hold_with.ensures.refused
+    (λ h moved. held_with_stays S (g.met.R.Rules.lawful n) (g.met.R.CellRules.ordered n) L (g.met.R.CellRules.entries_lawful n) g.met.R.Entry.Ord.total
+    cell c.hold_with.new.self h.beside.catalog u k table c.args.pending (moves_of (Some c.in_ok-changes.changes)) h.slots free made moved)
+    (λ h same. hold_refused_stays S (g.met.R.Rules.lawful n) (g.met.R.CellRules.ordered n) L (g.met.R.CellRules.entries_lawful n) g.met.R.Entry.Ord.total
+    cell c.hold_with.new.self h.1 u k table c.args.pending (moves_of (Some c.in_ok-changes.changes)) h.0 free made same)

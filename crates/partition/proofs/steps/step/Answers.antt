@@ -4,6 +4,7 @@ use Rattle.txn_core.specs.declared.message.Message.{Message}
 use Rattle.txn_core.specs.Feeding.{feed_after}
 use Rattle.txn_core.specs.Legal.{state}
 use Rattle.partition.proofs.Entries.{answered, keeps, on_err, stands}
+use Rattle.partition.proofs.Paged.{page_answered}
 use Rattle.partition.proofs.steps.step.Goals as goal
 
 pub returns-in-Get-clause-answers : goal.returns-in-Get-clause-answers
@@ -67,3 +68,35 @@ pub returns-in-Ack-clause-stands : goal.returns-in-Ack-clause-stands
 returns-in-Ack-clause-stands g c = λ n.
     stands (g.R.Rules.protocol n) c.args.cell.now c.acknowledge.new.cell c.args.message _ c.in-Ack.is _ refl c.args.moment c.acknowledge.result
     (c.acknowledge.ensures.leaves n _ c.args.moment)
+
+pub returns-in-QueryPage-clause-answers : goal.returns-in-QueryPage-clause-answers
+returns-in-QueryPage-clause-answers g c =
+    IfOk-weaker c.page.result _ _
+    (λ a h n. answered (g.R.Rules.protocol n) c.args.cell.now c.args.cell.now c.args.message (Message.QueryPage c.in-QueryPage.asked) c.in-QueryPage.is ((g.R.Rules.protocol n).page_cell c.in-QueryPage.asked) refl c.args.moment a
+    (λ es st. page_answered (g.R.Rules.protocol n) (g.met.R.Rules.lawful n) c.args.cell.now c.in-QueryPage.asked a es (h n) st)) c.page.ensures
+
+pub returns-in-QueryPage-clause-stands : goal.returns-in-QueryPage-clause-stands
+returns-in-QueryPage-clause-stands g c =
+    IfOk-weaker c.page.result _ _
+    (λ a h n. stands (g.R.Rules.protocol n) c.args.cell.now c.args.cell.now c.args.message (Message.QueryPage c.in-QueryPage.asked) c.in-QueryPage.is ((g.R.Rules.protocol n).page_cell c.in-QueryPage.asked) refl c.args.moment a (λ w f here. here)) c.page.ensures
+
+pub returns-in-QueryPage-clause-err : goal.returns-in-QueryPage-clause-err
+returns-in-QueryPage-clause-err g c =
+    on_err c.page.result
+    (λ n. keeps (g.R.Rules.protocol n) c.args.cell.now c.args.cell.now c.args.message (Message.QueryPage c.in-QueryPage.asked) c.in-QueryPage.is ((g.R.Rules.protocol n).page_cell c.in-QueryPage.asked) refl (λ w f here. here))
+
+pub returns-in-ScanPage-clause-answers : goal.returns-in-ScanPage-clause-answers
+returns-in-ScanPage-clause-answers g c =
+    IfOk-weaker c.page-in-ScanPage.result _ _
+    (λ a h n. answered (g.R.Rules.protocol n) c.args.cell.now c.args.cell.now c.args.message (Message.ScanPage c.in-ScanPage.asked) c.in-ScanPage.is ((g.R.Rules.protocol n).page_cell c.in-ScanPage.asked) refl c.args.moment a
+    (λ es st. page_answered (g.R.Rules.protocol n) (g.met.R.Rules.lawful n) c.args.cell.now c.in-ScanPage.asked a es (h n) st)) c.page-in-ScanPage.ensures
+
+pub returns-in-ScanPage-clause-stands : goal.returns-in-ScanPage-clause-stands
+returns-in-ScanPage-clause-stands g c =
+    IfOk-weaker c.page-in-ScanPage.result _ _
+    (λ a h n. stands (g.R.Rules.protocol n) c.args.cell.now c.args.cell.now c.args.message (Message.ScanPage c.in-ScanPage.asked) c.in-ScanPage.is ((g.R.Rules.protocol n).page_cell c.in-ScanPage.asked) refl c.args.moment a (λ w f here. here)) c.page-in-ScanPage.ensures
+
+pub returns-in-ScanPage-clause-err : goal.returns-in-ScanPage-clause-err
+returns-in-ScanPage-clause-err g c =
+    on_err c.page-in-ScanPage.result
+    (λ n. keeps (g.R.Rules.protocol n) c.args.cell.now c.args.cell.now c.args.message (Message.ScanPage c.in-ScanPage.asked) c.in-ScanPage.is ((g.R.Rules.protocol n).page_cell c.in-ScanPage.asked) refl (λ w f here. here))

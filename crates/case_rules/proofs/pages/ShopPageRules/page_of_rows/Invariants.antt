@@ -1,0 +1,6 @@
+use Rattle.std.proofs.Common.{◌≡◌, ◌++◌, filter}
+use Rattle.case_rules.specs.Rows.{is_of}
+use Rattle.case_rules.proofs.pages.ShopPageRules.page_of_rows.Given as goal
+
+abbrev pub invariant-loop-key : goal.invariant-loop-key
+invariant-loop-key l = filter (λ r. is_of l.page r.0) l.rows.entries ≡ l.shown ++ filter (λ r. is_of l.page r.0) l.key-iterator

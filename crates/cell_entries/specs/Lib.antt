@@ -1,0 +1,2 @@
+pub mod LocalEntries
+pub mod EntryLaws

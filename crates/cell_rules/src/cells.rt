@@ -1,0 +1,74 @@
+//! What a cell needs to know of real tables.
+
+ghost use Rattle.std.specs.Prelude.{refl};
+ghost use Rattle.cell_rules.specs.Entries.{entries_lawful, table_entries};
+ghost use Rattle.cell_rules.specs.PageLaws.{own_rows, read_table};
+
+use crate::questions::page_table;
+use crate::rules::TableRules;
+use crate::told::told_of_cell;
+use cell_catalog::table_of;
+use cell_entries::{LocalEntry, entries_of};
+use cell_model::{Catalog, CatalogAnswer, CatalogQuestion, CellKey, KeyedAction};
+use item_store::Slot;
+use partition::{CellRules, PageRules};
+use shared_item::SharedItem;
+use std::alloc::{AllocError as NoMemory, Global};
+use std::collections::BTreeMap;
+
+impl CellRules for TableRules {
+    type Entry = LocalEntry;
+
+    ghost locals = { table_entries };
+
+    fn table_of(key: &CellKey) -> u64 {
+        table_of(key)
+    }
+
+    fn into_key(action: KeyedAction) -> CellKey {
+        action.into_key()
+    }
+
+    fn entries_of(
+        alloc: Global,
+        catalog: &Catalog,
+        key: &CellKey,
+        item: &SharedItem,
+    ) -> Result<Vec<LocalEntry>, NoMemory> {
+        entries_of(alloc, catalog, key, item)
+    }
+
+    ghost ordered = { λ partitions x y. refl };
+
+    ghost entries_lawful = { entries_lawful };
+
+    ghost copied = { λ entry copy same. same };
+}
+
+impl PageRules for TableRules {
+    ghost read_table = { read_table };
+
+    fn page_table(page: &CatalogQuestion) -> u64 {
+        page_table(page)
+    }
+
+    fn page_of_items(
+        alloc: Global,
+        catalog: &Catalog,
+        items: &BTreeMap<CellKey, Slot<SharedItem>>,
+        page: &CatalogQuestion,
+    ) -> Result<CatalogAnswer, NoMemory> {
+        told_of_cell(alloc, catalog, items, page)
+    }
+
+    fn page_of_rows(
+        alloc: Global,
+        catalog: &Catalog,
+        rows: &BTreeMap<CellKey, SharedItem>,
+        page: &CatalogQuestion,
+    ) -> Result<CatalogAnswer, NoMemory> {
+        told_of_cell(alloc, catalog, rows, page)
+    }
+
+    ghost own_rows = { own_rows };
+}

@@ -1,0 +1,57 @@
+-- A plan and what a cell holds hang on nothing else that it keeps.
+use Rattle.std.proofs.Common.{◌≡◌, ℕ, ◌+◌, ◌<◌, ◌^◌, List, sym, ap, ◌∙◌, subst}
+use Rattle.std.specs.declared.cmp.Ord as ord
+use Rattle.std.specs.declared.cmp.PartialEq as eq
+use Rattle.std.specs.declared.cmp.PartialOrd as partial
+use Rattle.index_feed.specs.Feed.{Feed}
+use Rattle.txn_core.specs.Service.{Service}
+use Rattle.txn_core.specs.Stamps.{later, single}
+use Rattle.txn_core.specs.State.{State}
+use Rattle.item_store.specs.declared.store.ItemStore.{ItemStore}
+use Rattle.item_store.specs.Changes.{slot_at}
+use Rattle.item_store.specs.Counts.{tally}
+use Rattle.global_index.specs.Marks.{mark_in}
+use Rattle.global_index.specs.Rows.{row_under}
+use Rattle.prepared_changes.specs.Prepared.{prepared_in}
+use Rattle.partition.specs.declared.cell.Partition.{Partition}
+use Rattle.partition.specs.declared.command_rules.TableChange.{TableChange}
+use Rattle.partition.specs.declared.plan.CatalogPlan.{CatalogPlan}
+use Rattle.partition.specs.Commands.{dropped_by, subject}
+use Rattle.partition.specs.Holds.{Holds}
+use Rattle.partition.specs.Plans.{IsMade, IsOrderedFor, IsPlan, SameButPlan, brought, closed_by, queued_for}
+
+module _ {K V A F C D Q B : Type 0} (S : Service K V A F C D Q B) {O : ord.Ghosts K} {E : eq.Ghosts K} {P : partial.Ghosts K} {N : Type 0} {X : ord.Ghosts N} {Y : eq.Ghosts N} {Z : partial.Ghosts N} where
+  pub same_but_plan :
+      (i : ℕ) (c d : Partition K V C N O E P X Y Z) (w : State K V A C) (f : Feed K V C) → SameButPlan c d → Holds S i c w f → Holds S i d w f
+  same_but_plan i c d w f same h =
+      record {
+        partitions = same.partitions ∙ h.partitions;
+        items = λ u q. ap (λ m. slot_at m u q) same.items ∙ h.items u q;
+        numbers = ap (λ m. tally m.counts) same.items ∙ h.numbers;
+        catalog = same.catalog ∙ h.catalog;
+        prepared = λ q. ap (λ m. prepared_in O.cmp m.lists q) same.prepared ∙ h.prepared q;
+        waiting = same.waiting ∙ h.waiting;
+        sent = same.sent ∙ h.sent;
+        marks = λ j. ap (λ m. mark_in m.last.items j) same.marks ∙ h.marks j;
+        rows = λ g q. ap (λ r. row_under O.cmp r.indexes g q) same.rows ∙ h.rows g q;
+        under = h.under;
+        shown = h.shown;
+      }
+
+  module _
+      (target : D → C → TableChange) (numbers : C → ℕ → List ℕ) (i : ℕ) (c e : Partition K V C N O E P X Y Z) (d : D) (moment : ℕ) (p : CatalogPlan K V C O E P)
+      (same : SameButPlan c e) (plan : IsPlan S target numbers i c d moment p) where
+    both : ◌≡◌ {A = C × ItemStore K V O E P} (c.catalog, c.items) (e.catalog, e.items)
+    both = λ j. (sym same.catalog j, sym same.items j)
+
+    pub plan_moved : IsPlan S target numbers i e d moment p
+    plan_moved =
+        record {
+          catalog = plan.catalog ∙ ap (λ y. S.core.change d moment y) (sym same.catalog);
+          dropped = plan.dropped ∙ ap (λ y. dropped_by (target d y)) (sym same.catalog);
+          closed = plan.closed ∙ ap (λ y. closed_by numbers (subject (target d y)) y p.catalog) (sym same.catalog);
+          number = subst (λ (m : ItemStore K V O E P). m.counts.count + m.held + 1 < 2 ^ 64) (sym same.items) plan.number;
+          made = subst (λ (y : C × ItemStore K V O E P). IsMade (target d y.0) (brought S i d y.0 p.catalog (later y.1.counts.floor (single moment)) (y.1.counts.count + 1)) y.1.tables p.made) both plan.made;
+          order = subst (λ (y : C × ItemStore K V O E P). IsOrderedFor (target d y.0) y.1.tables) both plan.order;
+          changes = plan.changes ∙ ap (λ (y : C × ItemStore K V O E P). queued_for S numbers (target d y.0) y.0 p.catalog y.1.tables p.made) both;
+        }

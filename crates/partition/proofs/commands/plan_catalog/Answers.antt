@@ -1,0 +1,27 @@
+use Rattle.std.proofs.Common.{◌≡◌, sym, ◌∙◌, subst}
+use Rattle.partition.specs.Plans.{IsPlan}
+use Rattle.partition.proofs.Changing.{unchanged}
+use Rattle.partition.proofs.Moved.{on_ok_with}
+use Rattle.partition.proofs.Planned.{plan_moved, same_but_plan}
+use Rattle.partition.proofs.commands.plan_catalog.Goals as goal
+
+pub returns-clause-planned : goal.returns-clause-planned
+returns-clause-planned g c =
+    on_ok_with c.put_plan.result c.put_plan.ensures.put
+    (λ put n is.
+    let target = g.R.CommandRules.target in
+    let numbers = g.R.CommandRules.numbers in
+    let made = c.make_place.new.cell in
+    let one : made.partitions ≡ n = c.make_place.ensures.kept.beside.partitions ∙ sym is in (
+      c.in_ok-plan.plan,
+      put,
+      plan_moved (g.R.Rules.protocol n) target numbers c.args.here made c.put_plan.new.self c.args.command.now c.args.moment c.in_ok-plan.plan
+          c.put_plan.ensures.kept
+          (subst (λ m. IsPlan (g.R.Rules.protocol m) target numbers c.args.here made c.args.command.now c.args.moment c.in_ok-plan.plan) one c.in_ok-plan.ensures),
+    ))
+
+pub returns-clause-kept : goal.returns-clause-kept
+returns-clause-kept g c = λ n i w f here.
+    let S = g.R.Rules.protocol n in
+    same_but_plan S i c.make_place.new.cell c.put_plan.new.self w f c.put_plan.ensures.kept
+    (unchanged S i c.args.cell.now c.make_place.new.cell w f c.make_place.ensures.kept here)

@@ -1,0 +1,44 @@
+ghost use Rattle.std.specs.Prelude.{◌≡◌, ℕ, List, nat_eq, filter, IfOk};
+ghost use Rattle.partition.specs.Pages.{committed_among};
+
+use crate::rules::CellRules;
+use item_store::Slot;
+use std::alloc::{AllocError as NoMemory, Global};
+use std::collections::BTreeMap;
+
+/// What a cell needs to know of pages beside [`CellRules`]: what a page tells of the items of its table, and of the rows of
+/// its index, both as the cell keeps them, in the order of keys, so that a page looks at no more of them than it needs.
+pub trait PageRules: CellRules {
+    /// The number of the table that a page is of.
+    ghost read_table: { Self.Question → ℕ };
+
+    /// The number of the table that a page is of.
+    fn page_table(page: &Self::Question) -> u64
+        ensures { result ≡ read_table page.now };
+
+    /// What a page tells of a cell's items, of which only the committed ones count.
+    fn page_of_items(
+        alloc: Global,
+        catalog: &Self::Catalog,
+        items: &BTreeMap<Self::Key, Slot<Self::Value>>,
+        page: &Self::Question,
+    ) -> Result<Self::Told, NoMemory>
+        ensures { IfOk result (λ told. (partitions : ℕ)
+            → told ≡ (Self.protocol partitions).page catalog.now (committed_among items.now.entries) page.now) };
+
+    /// What a page tells of a cell's rows of an index.
+    fn page_of_rows(
+        alloc: Global,
+        catalog: &Self::Catalog,
+        rows: &BTreeMap<Self::Key, Self::Value>,
+        page: &Self::Question,
+    ) -> Result<Self::Told, NoMemory>
+        ensures { IfOk result (λ told. (partitions : ℕ)
+            → told ≡ (Self.protocol partitions).page catalog.now rows.now.entries page.now) };
+
+    /// Rows of other tables count for nothing in a page.
+    ghost own_rows: { (partitions : ℕ) (catalog : Self.Catalog) (rows : List (Self.Key × Self.Value)) (page : Self.Question)
+        → (Self.protocol partitions).page catalog rows page
+        ≡ (Self.protocol partitions).page catalog
+        (filter (λ row. nat_eq ((Self.protocol partitions).core.table row.0) (read_table page)) rows) page };
+}
