@@ -9,6 +9,7 @@
 
 mod clock;
 mod failed;
+mod gate;
 mod listener;
 mod memory_listener;
 mod sink;
@@ -16,6 +17,7 @@ mod source;
 
 pub use clock::{Clock, ListClock, StepClock, SystemClock};
 pub use failed::Failed;
+pub use gate::{Gate, GoGate, Pace, Point, ScriptGate};
 pub use listener::{Joined, Listener};
 pub use memory_listener::MemListener;
 pub use sink::{MemSink, Sink, StdSink, write_all};

@@ -1,0 +1,10 @@
+use Rattle.std.proofs.Common.{◌≡◌, ℕ, [], Some, length}
+use Rattle.std.specs.Prelude.{slice_get}
+use Rattle.cluster.specs.Standing.{StandsFor}
+use Rattle.cluster.proofs.start.first_partitions.Given as goal
+
+abbrev pub invariant-loop-place : goal.invariant-loop-place
+invariant-loop-place g l = record {
+  count : length l.cells.items ≡ l._place;
+  stand : (i : ℕ) (x : _) → slice_get l.cells.items i ≡ Some x → StandsFor (g.R.Rules.protocol l.partitions) i x.value [];
+}

@@ -1,0 +1,6 @@
+pub mod Events
+pub mod Standing
+pub mod World
+pub mod Serving
+pub mod Steps
+pub mod Closing

@@ -1,0 +1,5 @@
+//! Tests of a cluster: threads on partitions of the shop.
+#![tactic(auto)]
+
+#[cfg(test)]
+mod turns;

@@ -1,0 +1,19 @@
+use Rattle.std.proofs.Common.{◌-◌, Some}
+use Rattle.std.proofs.lemmas.Result.{IfOk-weaker}
+use Rattle.cluster.proofs.Later.{is_later}
+use Rattle.coordinator.proofs.Moving.{step_err, step_ok}
+use Rattle.coordinator.proofs.asking.ask_partition.Goals as goal
+
+pub returns-clause-later : goal.returns-clause-later
+returns-clause-later g c =
+    IfOk-weaker c.step.result _ _
+    (λ a h. is_later (g.R.Rules.protocol (c.args.cluster.now.id.slots - 1)) c.args.pass.now c.step.new.pass (Some c.args.cell) c.args.message a h)
+    c.step.ensures.ok
+
+pub returns-clause-ok : goal.returns-clause-ok
+returns-clause-ok g c = λ n drives.
+    step_ok (g.R.Rules.protocol (c.args.cluster.now.id.slots - 1)) n c.args.pass.now c.step.new.pass (Some c.args.cell) c.args.message c.step.result drives c.step.ensures.ok
+
+pub returns-clause-err : goal.returns-clause-err
+returns-clause-err g c = λ n.
+    step_err (g.R.Rules.protocol (c.args.cluster.now.id.slots - 1)) n c.args.pass.now c.step.new.pass c.step.result c.step.ensures.no_memory c.step.ensures.unchanged

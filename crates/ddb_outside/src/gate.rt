@@ -1,0 +1,108 @@
+ghost use Rattle.std.specs.Prelude.{◌≡◌, ◌↔◌, ℕ, ◌≤◌, IfOk, IsTrue, Any};
+ghost use Rattle.ddb_outside.specs.Causes.{Rose};
+
+use base_types::Seq;
+use std::alloc::AllocError as NoMemory;
+
+/// A point on the way of a transaction. A number is the place of an action in the transaction, from 0.
+#[derive(Clone, Copy, PartialEq)]
+pub enum Point {
+    /// Its Begin has drawn a number.
+    AfterBegin,
+    /// This action was prepared.
+    AfterPrepare(u32),
+    /// It was decided.
+    AfterDecide,
+    /// This action was applied or released.
+    AfterFinish(u32),
+    /// Its Done was sent.
+    AfterDone,
+}
+
+/// Whether to go on.
+#[derive(Clone, Copy, PartialEq)]
+pub enum Pace {
+    /// Go on.
+    Go,
+    /// Leave off here, in the middle.
+    Stop,
+}
+
+/// What may stop who drives a transaction, between two steps: tests of what is left in the middle.
+pub trait Gate: Sized {
+    // How often it has answered Stop.
+    ghost stops: { Self → ℕ };
+
+    /// Whether to go on at a point. [`Pace::Stop`] comes only where the gate counted a stop in this call.
+    fn pass_point(&mut self, point: Point) -> Pace
+        ensures later { stops self.old ≤ stops self.new }
+        ensures cause { result ≡ Pace.Stop → Rose (stops self.old) (stops self.new) };
+
+    /// Another gate, which has stopped nothing yet.
+    fn twin(&self) -> Result<Self, NoMemory>
+        ensures { IfOk result (λ twin. stops twin ≡ 0) };
+}
+
+/// A gate that never stops: it counts none.
+#[derive(Clone, Copy)]
+pub struct GoGate;
+
+impl Gate for GoGate {
+    ghost stops = { λ g. 0 };
+
+    fn pass_point(&mut self, _point: Point) -> Pace {
+        Pace::Go
+    }
+
+    fn twin(&self) -> Result<GoGate, NoMemory> {
+        Ok(GoGate)
+    }
+}
+
+/// A gate that stops at each point of a list.
+#[derive(Drop)]
+pub struct ScriptGate {
+    stops_at: Seq<Point>,
+    stops: u64,
+}
+
+impl ScriptGate {
+    ghost use Rattle.ddb_outside.specs.Gates.{points_of};
+
+    /// A gate that stops at each of these points, each time that it is passed.
+    pub fn make(stops_at: Seq<Point>) -> ScriptGate
+        ensures stops { ⟦<ScriptGate as Gate>⟧.stops result ≡ 0 }
+        ensures points { points_of result ≡ stops_at }
+    {
+        ScriptGate { stops_at, stops: 0 }
+    }
+}
+
+impl Gate for ScriptGate {
+    ghost use Rattle.ddb_outside.specs.Gates.{points_of};
+
+    ghost stops = { λ g. g.stops };
+
+    fn pass_point(&mut self, point: Point) -> Pace
+        ensures later { self.old.stops ≤ self.new.stops }
+        ensures cause { result ≡ Pace.Stop → Rose self.old.stops self.new.stops }
+        ensures stops { (result ≡ Pace.Stop) ↔ Any (λ p. p ≡ point) (points_of self.old) }
+        ensures points { points_of self.new ≡ points_of self.old }
+    {
+        if self.stops_at.as_slice().contains(&point) {
+            self.stops = self.stops.saturating_add(1);
+            return Pace::Stop;
+        }
+        Pace::Go
+    }
+
+    fn twin(&self) -> Result<ScriptGate, NoMemory>
+        ensures fresh { IfOk result (λ twin. twin.stops ≡ 0) }
+        ensures points { IfOk result (λ twin. points_of twin ≡ points_of self.now) }
+    {
+        Ok(ScriptGate {
+            stops_at: self.stops_at.try_clone()?,
+            stops: 0,
+        })
+    }
+}
