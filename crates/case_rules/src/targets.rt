@@ -63,6 +63,17 @@ fn add(number: Option<u64>, numbers: &mut Vec<u64>) -> Result<(), NoMemory>
     Ok(())
 }
 
+/// What a command does to the shop's tables.
+fn change_by(command: &Command, catalog: &Catalog) -> TableChange
+    ensures { result ≡ target command.now catalog.now }
+{
+    match command {
+        Command::Create { .. } => made(catalog.next_number()),
+        Command::AddIndex { name } => altered(catalog.table(*name)),
+        Command::Drop { name } => dropped(catalog.table(*name)),
+    }
+}
+
 impl CommandRules for Shop {
     ghost sound = { IsSound };
 
@@ -70,12 +81,12 @@ impl CommandRules for Shop {
 
     ghost numbers = { numbers };
 
-    fn on_table(command: &Command, catalog: &Catalog) -> TableChange {
-        match command {
-            Command::Create { .. } => made(catalog.next_number()),
-            Command::AddIndex { name } => altered(catalog.table(*name)),
-            Command::Drop { name } => dropped(catalog.table(*name)),
-        }
+    fn on_table(command: &Command, catalog: &Catalog) -> Result<TableChange, NoMemory> {
+        Ok(change_by(command, catalog))
+    }
+
+    fn subject_of(command: &Command, catalog: &Catalog) -> Option<u64> {
+        change_by(command, catalog).subject()
     }
 
     fn table_indexes(alloc: Global, catalog: &Catalog, table: u64) -> Result<Vec<u64>, NoMemory> {

@@ -19,7 +19,7 @@ use table_request::{IndexChange, TableUpdate};
 use table_schema::{KeyNames, Schema};
 
 /// The number of the table of this name.
-fn number_named(catalog: &Catalog, name: &Text) -> Option<u64>
+pub fn number_named(catalog: &Catalog, name: &Text) -> Option<u64>
     ensures { result ≡ number_named catalog.now.tables name.now }
 {
     match table_named(catalog, name) {
@@ -29,7 +29,7 @@ fn number_named(catalog: &Catalog, name: &Text) -> Option<u64>
 }
 
 /// The number of the table that a command drops or changes.
-fn subject(command: &CatalogCommand, catalog: &Catalog) -> Option<u64>
+pub fn subject(command: &CatalogCommand, catalog: &Catalog) -> Option<u64>
     ensures { result ≡ subject command.now catalog.now }
 {
     match command {

@@ -13,7 +13,9 @@ mod judgement;
 mod tables;
 mod told;
 
-pub use commands::{catalog_after, concerns, refusal};
+pub use commands::{catalog_after, concerns, number_named, refusal, subject};
 pub use judgement::ruling;
-pub use tables::{has_table, index_numbered, index_numbers, table_numbered, table_of};
+pub use tables::{
+    has_table, index_numbered, index_numbers, last_drawn, numbers_at, table_numbered, table_of,
+};
 pub use told::{told_named, told_names};

@@ -5,6 +5,7 @@ ghost use Rattle.std.specs.List.{zip};
 ghost use Rattle.std.specs.Option.{option_copied};
 ghost use Rattle.cell_model.specs.Keys.{table_of};
 ghost use Rattle.cell_model.specs.Catalogs.{numbered, named, has_table, ascend_from, numbered_indexes, index_numbers, index_at, greatest_of, greatest_in, last_drawn};
+ghost use Rattle.cell_model.specs.IndexRows.{numbers_at};
 ghost use Rattle.cell_catalog.specs.Numbers.{stays, numbers_beside};
 
 use base_types::{Seq, Text};
@@ -186,6 +187,16 @@ pub fn index_numbers(alloc: Global, table: &CatalogTable) -> Result<Seq<u64>, No
     numbers_beside(alloc, table, None)
 }
 
+/// The numbers of the global indexes of the table of this number; none, where it is not there.
+pub fn numbers_at(alloc: Global, catalog: &Catalog, number: u64) -> Result<Seq<u64>, NoMemory>
+    ensures { IfOk result (λ numbers. numbers ≡ numbers_at catalog.now number) }
+{
+    match table_numbered(catalog, number) {
+        Some(table) => index_numbers(alloc, table),
+        None => Ok(Seq::new(alloc)),
+    }
+}
+
 /// The greatest of the numbers, or 0.
 fn greatest_of(numbers: &[u64]) -> u64
     ensures { result ≡ greatest_of numbers.now }
@@ -210,7 +221,7 @@ fn greatest_in(tables: &[CatalogTable]) -> u64
 }
 
 /// The greatest number that was drawn for a table or an index.
-pub(crate) fn last_drawn(catalog: &Catalog) -> u64
+pub fn last_drawn(catalog: &Catalog) -> u64
     ensures { result ≡ last_drawn catalog.now }
 {
     catalog.drawn.max(greatest_in(catalog.tables.as_slice()))

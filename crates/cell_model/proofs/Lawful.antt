@@ -61,13 +61,13 @@ pages_below partitions (Names after limit) many = cell_below partitions 0 many
 -- ---- tables
 
 -- a table that is found is one that was drawn
-found_drawn : (c : Catalog) (n : ℕ) → has_table c n ≡ true → n ≤ last_drawn c
+pub found_drawn : (c : Catalog) (n : ℕ) → has_table c n ≡ true → n ≤ last_drawn c
 found_drawn c n h =
     let t = some_is (numbered c.tables n) h in
     let low = (bounded c.tables n t.0 t.1).0 in
     omega arith
 
-left_some : {X Y : Type 0} (f : X → Option Y) (o : Option X) → is_some (option_and_then f o) ≡ true → is_some o ≡ true
+pub left_some : {X Y : Type 0} (f : X → Option Y) (o : Option X) → is_some (option_and_then f o) ≡ true → is_some o ≡ true
 left_some f None h = absurd (cc)
 left_some f (Some x) h = refl
 
@@ -115,7 +115,7 @@ among_listed ns gs g = go (ascend_from 0 ns)
     go false h = absurd (cc)
 
 -- a number of a table's indexes is at most the greatest that was drawn
-index_drawn : (c : Catalog) (n g : ℕ) → is_among g (numbers_in (numbered c.tables n)) ≡ true → g ≤ last_drawn c
+pub index_drawn : (c : Catalog) (n g : ℕ) → is_among g (numbers_in (numbered c.tables n)) ≡ true → g ≤ last_drawn c
 index_drawn c n g = go (numbered c.tables n) refl
   where
     go : (o : Option CatalogTable) → numbered c.tables n ≡ o → is_among g (numbers_in o) ≡ true → g ≤ last_drawn c
@@ -127,11 +127,10 @@ index_drawn c n g = go (numbered c.tables n) refl
         omega arith
 
 pub index_known : (c : Catalog) (g : ℕ) (k : CellKey) → is_among g (indexes_of c k) ≡ true → g ≤ last_drawn c
-index_known c g (Item key) h = index_drawn c key.table g h
-index_known c g (Row key) h = absurd (cc)
+index_known c g k h = index_drawn c (table_of k) g h
 
 pub index_rises : (c : Catalog) (k : CellKey) → IsStrictlyIncreasing (indexes_of c k)
-index_rises c (Item key) = go (numbered c.tables key.table)
+index_rises c k = go (numbered c.tables (table_of k))
   where
     listed : (ns : List ℕ) (gs : List GlobalIndex) (b : Bool) → ascend_from 0 ns ≡ b → IsStrictlyIncreasing (numbers_of (if b then zip ns gs else []))
     listed ns gs true e = increasing 0 (numbers_of (zip ns gs)) (fronts_ascend 0 ns gs e)
@@ -140,7 +139,6 @@ index_rises c (Item key) = go (numbered c.tables key.table)
     go : (o : Option CatalogTable) → IsStrictlyIncreasing (numbers_in o)
     go None = increasing 0 [] refl
     go (Some t) = listed t.indexes t.schema.globals (ascend_from 0 t.indexes) refl
-index_rises c (Row key) = increasing 0 [] refl
 
 -- a row's key names the item that it was made of
 pub row_names_item : (c : Catalog) (g : ℕ) (k : CellKey) (v : Attributes) (r : FeedRow CellKey Attributes) → row_of c g k v ≡ Some r → item_of r.key ≡ k
@@ -183,7 +181,7 @@ among_range g from (suc many) h = go (nat_eq from g) refl h (among_range g (from
     go true e t rest = let same : from ≡ g = eqb-true from g e in omega arith
     go false e t rest = let above = rest t in omega arith
 
-new_above : (schema : Schema) (moment drawn g : ℕ) → is_among g (index_numbers (new_table schema moment drawn)) ≡ true → drawn < g
+pub new_above : (schema : Schema) (moment drawn g : ℕ) → is_among g (index_numbers (new_table schema moment drawn)) ≡ true → drawn < g
 new_above schema moment drawn g h =
     let there = among_listed (range_with_len (drawn + 2) (length schema.globals)) schema.globals g h in
     let above = among_range g (drawn + 2) (length schema.globals) there in
@@ -196,7 +194,7 @@ changed_comes (Create schema) drawn g t h = inl h
 changed_comes (Drop name) drawn g t h = absurd (cc)
 changed_comes (Change name update) drawn g t h = new_number update drawn t g h
 
-kept_comes : (d : CatalogCommand) (on : Option ℕ) (drawn g : ℕ) (o : Option CatalogTable) → is_among g (numbers_in (option_and_then (kept d on drawn) o)) ≡ true
+pub kept_comes : (d : CatalogCommand) (on : Option ℕ) (drawn g : ℕ) (o : Option CatalogTable) → is_among g (numbers_in (option_and_then (kept d on drawn) o)) ≡ true
     → (is_among g (numbers_in o) ≡ true) ⊎ (drawn < g)
 kept_comes d on drawn g None = λ h. absurd (cc)
 kept_comes d on drawn g (Some t) =
@@ -205,10 +203,9 @@ kept_comes d on drawn g (Some t) =
 
 pub index_comes : (d : CatalogCommand) (moment : ℕ) (c : Catalog) (g : ℕ) (k : CellKey) → is_among g (indexes_of (catalog_after d moment c) k) ≡ true
     → (is_among g (indexes_of c k) ≡ true) ⊎ (last_drawn c < g)
-index_comes d moment c g (Row key) h = absurd (cc)
-index_comes d moment c g (Item key) h =
-    elim (after_or_new d moment c key.table) [
-      | inl old ↦ kept_comes d (subject d c) (last_drawn c) g (numbered c.tables key.table) (sym (ap (λ o. is_among g (numbers_in o)) old) ∙ h)
+index_comes d moment c g k h =
+    elim (after_or_new d moment c (table_of k)) [
+      | inl old ↦ kept_comes d (subject d c) (last_drawn c) g (numbered c.tables (table_of k)) (sym (ap (λ o. is_among g (numbers_in o)) old) ∙ h)
       | inr new ↦ inr (new_above new.schema moment (last_drawn c) g (sym (ap (λ o. is_among g (numbers_in o)) new.is) ∙ h))
     ]
 
@@ -238,8 +235,7 @@ index_steady d moment c g (Item key) v now old =
 
 -- an index that is there is of a table that is there
 pub index_there : (c : Catalog) (g : ℕ) (k : CellKey) → is_among g (indexes_of c k) ≡ true → has_table c (table_of k) ≡ true
-index_there c g (Row key) h = absurd (cc)
-index_there c g (Item key) h = go (numbered c.tables key.table) h
+index_there c g k h = go (numbered c.tables (table_of k)) h
   where
     go : (o : Option CatalogTable) → is_among g (numbers_in o) ≡ true → is_some o ≡ true
     go None t = absurd (cc)
@@ -263,8 +259,7 @@ on_same partitions xs ys e q = ap (λ actions. is_some (on_item (protocol partit
 -- an index of a table that the command isn't on was there before
 spares_index : (d : CatalogCommand) (moment : ℕ) (c : Catalog) (q : CellKey) (g : ℕ) → is_number (subject d c) (table_of q) ≡ false → has_table c (table_of q) ≡ true
     → is_among g (indexes_of (catalog_after d moment c) q) ≡ true → is_among g (indexes_of c q) ≡ true
-spares_index d moment c (Item key) g away there h = sym (ap (λ o. is_among g (numbers_in o)) (same_table d moment c key.table away there)) ∙ h
-spares_index d moment c (Row key) g away there h = h
+spares_index d moment c q g away there h = sym (ap (λ o. is_among g (numbers_in o)) (same_table d moment c (table_of q) away there)) ∙ h
 
 pub service_lawful : (partitions : ℕ) → IsServiceLawful (service partitions)
 service_lawful partitions = record {

@@ -12,6 +12,7 @@ use Rattle.cell_model.specs.declared.key.CellKey.{CellKey}
 use Rattle.cell_model.specs.declared.key.CellKey.TheVariants.{Item, Row}
 use Rattle.cell_model.specs.declared.catalog.Catalog.{Catalog}
 use Rattle.cell_model.specs.declared.catalog.CatalogTable.{CatalogTable}
+use Rattle.cell_model.specs.Keys.{table_of}
 use Rattle.cell_model.specs.Catalogs.{numbered, numbered_indexes, index_numbers, index_at}
 
 -- the row of an item at its position in an index: what the index keeps of the item
@@ -43,7 +44,10 @@ abbrev pub numbers_in : Option CatalogTable → List ℕ
 numbers_in None = []
 numbers_in (Some table) = index_numbers table
 
--- the numbers of the global indexes of an item's table
+-- the numbers of the global indexes of the table of a number
+abbrev pub numbers_at : Catalog → ℕ → List ℕ
+numbers_at catalog number = numbers_in (numbered catalog.tables number)
+
+-- and of the key's table
 abbrev pub indexes_of : Catalog → CellKey → List ℕ
-indexes_of catalog (Item key) = numbers_in (numbered catalog.tables key.table)
-indexes_of catalog (Row key) = []
+indexes_of catalog key = numbers_at catalog (table_of key)

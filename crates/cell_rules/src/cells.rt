@@ -1,17 +1,21 @@
 //! What a cell needs to know of real tables.
 
 ghost use Rattle.std.specs.Prelude.{refl};
+ghost use Rattle.cell_model.specs.IndexRows.{numbers_at};
+ghost use Rattle.cell_commands.specs.Targets.{IsSound, target};
+ghost use Rattle.cell_commands.specs.TargetLaws.{commands_lawful};
 ghost use Rattle.cell_rules.specs.Entries.{entries_lawful, table_entries};
 ghost use Rattle.cell_rules.specs.PageLaws.{own_rows, read_table};
 
 use crate::questions::page_table;
 use crate::rules::TableRules;
 use crate::told::told_of_cell;
-use cell_catalog::table_of;
+use cell_catalog::{numbers_at, table_of};
+use cell_commands::{on_table, subject_of};
 use cell_entries::{LocalEntry, entries_of};
-use cell_model::{Catalog, CatalogAnswer, CatalogQuestion, CellKey, KeyedAction};
+use cell_model::{Catalog, CatalogAnswer, CatalogCommand, CatalogQuestion, CellKey, KeyedAction};
 use item_store::Slot;
-use partition::{CellRules, PageRules};
+use partition::{CellRules, CommandRules, PageRules, TableChange};
 use shared_item::SharedItem;
 use std::alloc::{AllocError as NoMemory, Global};
 use std::collections::BTreeMap;
@@ -43,6 +47,28 @@ impl CellRules for TableRules {
     ghost entries_lawful = { entries_lawful };
 
     ghost copied = { λ entry copy same. same };
+}
+
+impl CommandRules for TableRules {
+    ghost sound = { IsSound };
+
+    ghost target = { target };
+
+    ghost numbers = { numbers_at };
+
+    fn on_table(command: &CatalogCommand, catalog: &Catalog) -> Result<TableChange, NoMemory> {
+        on_table(command, catalog)
+    }
+
+    fn subject_of(command: &CatalogCommand, catalog: &Catalog) -> Option<u64> {
+        subject_of(command, catalog)
+    }
+
+    fn table_indexes(alloc: Global, catalog: &Catalog, table: u64) -> Result<Vec<u64>, NoMemory> {
+        Ok(Vec::from(numbers_at(alloc, catalog, table)?))
+    }
+
+    ghost commands = { commands_lawful };
 }
 
 impl PageRules for TableRules {

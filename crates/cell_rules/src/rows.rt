@@ -1,10 +1,9 @@
 //! The rows that items have in global indexes.
 
 ghost use Rattle.std.specs.Prelude.{◌≡◌, IfOk};
-ghost use Rattle.cell_model.specs.IndexRows.{row_under, row_of, indexes_of};
+ghost use Rattle.cell_model.specs.IndexRows.{row_under, row_of};
 
-use base_types::Seq;
-use cell_catalog::{index_numbered, index_numbers, table_numbered};
+use cell_catalog::{index_numbered, table_numbered};
 use cell_model::{Catalog, CellKey, IndexRowKey, ItemKey};
 use index_feed::Row;
 use item_keys::project;
@@ -59,22 +58,5 @@ pub(crate) fn row_of(
     match index_numbered(table, number) {
         Some(index) => row_under(alloc, key, number, &table.schema, index, item),
         None => Ok(None),
-    }
-}
-
-/// The numbers of the global indexes of an item's table, ascending.
-pub(crate) fn indexes_of(
-    alloc: Global,
-    catalog: &Catalog,
-    key: &CellKey,
-) -> Result<Seq<u64>, NoMemory>
-    ensures { IfOk result (λ numbers. numbers ≡ indexes_of catalog.now key.now) }
-{
-    let CellKey::Item(key) = key else {
-        return Ok(Seq::new(alloc));
-    };
-    match table_numbered(catalog, key.table) {
-        Some(table) => index_numbers(alloc, table),
-        None => Ok(Seq::new(alloc)),
     }
 }

@@ -12,10 +12,10 @@ use crate::equal::{
 use crate::keys::{cell_of, item_of};
 use crate::questions::{page_cell, page_index, serves};
 use crate::removal::removal;
-use crate::rows::{indexes_of, row_of};
+use crate::rows::row_of;
 use crate::told::told_of;
 use base_types::Seq;
-use cell_catalog::{catalog_after, concerns, has_table, refusal, ruling, table_of};
+use cell_catalog::{catalog_after, concerns, has_table, numbers_at, refusal, ruling, table_of};
 use cell_model::{Catalog, CatalogAnswer, CatalogCommand, CatalogQuestion, CellKey, KeyedAction};
 use index_feed::Row;
 use shared_item::SharedItem;
@@ -133,7 +133,7 @@ impl Rules for TableRules {
     }
 
     fn indexes(alloc: Global, catalog: &Catalog, key: &CellKey) -> Result<Vec<u64>, NoMemory> {
-        Ok(Vec::from(indexes_of(alloc, catalog, key)?))
+        Ok(Vec::from(numbers_at(alloc, catalog, table_of(key))?))
     }
 
     fn row_of(

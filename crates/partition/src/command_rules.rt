@@ -29,7 +29,7 @@ impl TableChange {
     ghost use Rattle.partition.specs.Commands.{dropped_by, subject};
 
     /// The number of the table that is dropped or altered.
-    pub(crate) fn subject(self) -> Option<u64>
+    pub fn subject(self) -> Option<u64>
         ensures { result ≡ subject self }
     {
         match self {
@@ -54,7 +54,7 @@ impl TableChange {
 /// one after the other, of the first.
 pub trait CommandRules: CellRules {
     ghost use Rattle.partition.specs.declared.command_rules.TableChange.{TableChange};
-    ghost use Rattle.partition.specs.Commands.{AreCommandsLawful};
+    ghost use Rattle.partition.specs.Commands.{AreCommandsLawful, subject};
 
     /// What holds of every catalog that commands make.
     ghost sound: { Self.Catalog → Type 0 };
@@ -65,9 +65,13 @@ pub trait CommandRules: CellRules {
     /// The numbers of the indexes of a table.
     ghost numbers: { Self.Catalog → ℕ → List ℕ };
 
-    /// What a command does to tables, by the catalog before it.
-    fn on_table(command: &Self::Command, catalog: &Self::Catalog) -> TableChange
-        ensures { result ≡ target command.now catalog.now };
+    /// What a command does to tables, by the catalog before it. `NoMemory` where no number is left for a table that it makes.
+    fn on_table(command: &Self::Command, catalog: &Self::Catalog) -> Result<TableChange, NoMemory>
+        ensures { IfOk result (λ change. change ≡ target command.now catalog.now) };
+
+    /// The number of the table that a command drops or alters, by the catalog before it.
+    fn subject_of(command: &Self::Command, catalog: &Self::Catalog) -> Option<u64>
+        ensures { result ≡ subject (target command.now catalog.now) };
 
     /// The numbers of the indexes of the table of this number; none, where it is not there.
     fn table_indexes(

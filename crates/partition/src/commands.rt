@@ -44,7 +44,7 @@ pub fn plan_catalog<R: CommandRules>(
         → IsPlanned (R.protocol n) R.target R.numbers here cell.new command.now moment) }
     ensures kept { (n i : ℕ) → Keeps (R.protocol n) i cell.old cell.new }
 {
-    let change = R::on_table(command, &cell.catalog);
+    let change = R::on_table(command, &cell.catalog)?;
     make_place::<R>(alloc, cell, change)?;
     let plan = plan_of::<R>(alloc, cell, here, command, moment)?;
     cell.put_plan(plan)

@@ -42,6 +42,6 @@ fn least_holder<R: CellRules>(items: &TableItems<R::Key, R::Value>) -> Option<u6
 pub fn first_holder<R: CommandRules>(cell: &PartitionOf<R>, command: &R::Command) -> Option<u64>
     ensures { (n i : ℕ) → TellsHolder (R.protocol n) i cell.now command.now result }
 {
-    let number = R::on_table(command, &cell.catalog).subject()?;
+    let number = R::subject_of(command, &cell.catalog)?;
     least_holder::<R>(cell.items.table(number)?)
 }

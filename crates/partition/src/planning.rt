@@ -166,7 +166,7 @@ pub(crate) fn plan_of<R: CommandRules>(
         IsPlan (R.protocol cell.now.partitions) R.target R.numbers here cell.now command.now moment plan) }
 {
     let version = cell.items.next_number()?;
-    let change = R::on_table(command, &cell.catalog);
+    let change = R::on_table(command, &cell.catalog)?;
     let catalog = R::change(alloc, command, moment, &cell.catalog)?;
     let closed = closed_by::<R>(alloc, change.subject(), &cell.catalog, &catalog)?;
     let stamp = cell.items.floor().later(Stamp { moment, number: 0 });
