@@ -1,5 +1,5 @@
 -- What a driver knows after its decision, and what comes next when.
-use Rattle.std.proofs.Common.{◌≡◌, ◌≢◌, ℕ, ◌+◌, ◌<◌, Bool, true, false, nat_eq, nat_lt, nat_le, ◌&&◌, List, [], ◌∷◌, ◌++◌, length, map, Option, Some, slice_get, if◌then◌else◌, refl, sym, ap, ◌∙◌, subst, arith}
+use Rattle.std.proofs.Common.{◌≡◌, ◌≢◌, ℕ, ◌<◌, Bool, true, false, nat_eq, nat_lt, List, ◌∷◌, ◌++◌, map, Option, if◌then◌else◌, refl, sym, ap, ◌∙◌, subst, arith}
 use Rattle.std.specs.List.{list_any}
 use Rattle.std.proofs.lemmas.Bool.{cond_both, ltb-true}
 use Rattle.txn_core.specs.declared.fate.Fate.{Fate}
@@ -7,15 +7,13 @@ use Rattle.txn_core.specs.declared.fate.Fate.TheVariants.{Undecided, Committed, 
 use Rattle.txn_core.specs.declared.reason.Reason.{Reason}
 use Rattle.txn_core.specs.declared.message.Message.{Message}
 use Rattle.txn_core.specs.declared.answer.Answer.{Answer}
-use Rattle.txn_core.specs.declared.course.Course.{Course}
 use Rattle.txn_core.specs.declared.course.Move.{Move}
-use Rattle.txn_core.specs.Course.{Told, IsToldSo, is_undecided, is_known, next_decided, next_at, next_move, with_fate, with_done}
-use Rattle.txn_core.specs.Driver.{is_no_table, no_reason, cancel_reasons, course_left, moves_left, Knows, KnowsReasons}
+use Rattle.txn_core.specs.Course.{Told, IsToldSo, is_undecided, next_decided, next_at, next_move, with_fate}
+use Rattle.txn_core.specs.Driver.{is_no_table, no_reason, cancel_reasons, course_left}
 use Rattle.txn_core.specs.Service.{Service, IsServiceLawful, Reply, Event, History}
-use Rattle.txn_core.specs.Legal.{Allowed, IsLegal, state}
+use Rattle.txn_core.specs.Legal.{Allowed, state}
 use Rattle.txn_core.specs.Answers.{decide_answer, has_record}
-use Rattle.txn_core.proofs.Exports.{begun_stays, told_stays, decided, applied, released, finished, may_commit, may_cancel, may_apply, may_release, may_finish, decision_lessens, done_lessens, left}
-use Rattle.txn_core.proofs.Drives.{apply_at, release_at, done_next}
+use Rattle.txn_core.proofs.Exports.{begun_stays, told_stays, decided, may_commit, may_cancel, decision_lessens, left}
 use Rattle.turnstile.specs.Passes.{PassView}
 use Rattle.cluster.specs.Events.{event_of}
 use Rattle.cluster.specs.Steps.{IsLater}

@@ -1,17 +1,15 @@
 -- What a driver knows after the steps that follow its decision.
-use Rattle.std.proofs.Common.{◌≡◌, ◌≢◌, inl, inr, ℕ, ◌+◌, ◌<◌, Bool, true, ◌&&◌, nat_le, List, [], ◌∷◌, ◌++◌, length, Option, Some, slice_get, if◌then◌else◌, refl, sym, ap, ◌∙◌, subst, arith}
+use Rattle.std.proofs.Common.{◌≡◌, ◌≢◌, inl, inr, ℕ, ◌+◌, ◌<◌, ◌&&◌, nat_le, ◌∷◌, ◌++◌, length, Option, Some, slice_get, refl, sym, ap, ◌∙◌, subst, arith}
 use Rattle.std.specs.List.{list_any}
 use Rattle.std.proofs.lemmas.Bool.{cond_both}
-use Rattle.txn_core.specs.declared.fate.Fate.{Fate}
-use Rattle.txn_core.specs.declared.fate.Fate.TheVariants.{Undecided, Committed, Cancelled}
-use Rattle.txn_core.specs.declared.verdict.Verdict.{Verdict}
+use Rattle.txn_core.specs.declared.fate.Fate.TheVariants.{Undecided}
 use Rattle.txn_core.specs.declared.message.Message.{Message}
 use Rattle.txn_core.specs.declared.course.Course.{Course}
 use Rattle.txn_core.specs.declared.course.Move.{Move}
 use Rattle.txn_core.specs.Course.{Told, IsToldSo, is_known, next_at, next_move, with_done}
-use Rattle.txn_core.specs.Driver.{is_no_table, course_left, moves_left, Knows}
+use Rattle.txn_core.specs.Driver.{is_no_table, course_left, Knows}
 use Rattle.txn_core.specs.Service.{Service, IsServiceLawful, Reply, Event, History}
-use Rattle.txn_core.specs.Legal.{Allowed, IsLegal}
+use Rattle.txn_core.specs.Legal.{Allowed}
 use Rattle.txn_core.proofs.Exports.{begun_stays, told_stays, applied, released, finished, may_apply, may_release, may_finish, done_lessens, left}
 use Rattle.txn_core.proofs.Drives.{apply_at, release_at, done_next}
 use Rattle.turnstile.specs.Passes.{PassView}

@@ -1,5 +1,5 @@
 -- What a driver knows after each step.
-use Rattle.std.proofs.Common.{◌≡◌, ℕ, ◌<◌, Bool, true, false, ◌||◌, ◌&&◌, nat_eq, nat_lt, List, [], ◌∷◌, ◌++◌, length, Option, None, Some, slice_get, if◌then◌else◌, refl, sym, ap, ◌∙◌, subst, arith}
+use Rattle.std.proofs.Common.{◌≡◌, ℕ, ◌<◌, Bool, true, false, ◌||◌, nat_eq, nat_lt, [], ◌∷◌, ◌++◌, length, Option, None, Some, slice_get, if◌then◌else◌, refl, sym, ap, ◌∙◌, subst, arith}
 use Rattle.std.specs.List.{list_any}
 use Rattle.std.proofs.lemmas.Bool.{and_parts, cond_both, ltb-true}
 use Rattle.std.proofs.lemmas.List.Folds.{list_any-append}
@@ -12,9 +12,9 @@ use Rattle.txn_core.specs.declared.outcome.Outcome.TheVariants.{New, Unmet, Fail
 use Rattle.txn_core.specs.declared.message.Message.{Message}
 use Rattle.txn_core.specs.declared.answer.Answer.{Answer}
 use Rattle.txn_core.specs.declared.course.Move.{Move}
-use Rattle.txn_core.specs.Course.{Told, IsToldSo, is_undecided, next_move, with_verdict}
-use Rattle.txn_core.specs.Driver.{is_no_table, verdict_of, reason_in, course_left, moves_left, KnowsBegun, Knows, KnowsReasons}
-use Rattle.txn_core.specs.Service.{Service, IsServiceLawful, Asked, Reply, Event, History}
+use Rattle.txn_core.specs.Course.{Told, is_undecided, with_verdict}
+use Rattle.txn_core.specs.Driver.{is_no_table, verdict_of, course_left, KnowsReasons}
+use Rattle.txn_core.specs.Service.{Service, IsServiceLawful, Reply, Event, History}
 use Rattle.txn_core.specs.Legal.{IsLegal, Allowed, state, there_in, holder_in, last_in, outcome_in}
 use Rattle.txn_core.specs.Stamps.{earlier}
 use Rattle.txn_core.specs.Answers.{outcome_answer, prepare_answer}

@@ -1,10 +1,10 @@
 -- What a pass added, step after step.
-use Rattle.std.proofs.Common.{◌≡◌, ℕ, ◌+◌, ◌≤◌, true, List, [], ◌∷◌, ◌++◌, length, Option, Result, Ok, Err, IfOk, OnOk, OnErr, refl, sym, ap, ◌∙◌, subst, arith, length-append}
+use Rattle.std.proofs.Common.{◌≡◌, ℕ, ◌+◌, true, List, [], ◌∷◌, ◌++◌, Option, Result, Ok, Err, IfOk, OnOk, OnErr, refl, sym, ap, ◌∙◌, subst, arith, length-append}
 use Rattle.std.specs.List.{AllByRecursion}
 use Rattle.turnstile.specs.Histories.{Trail}
 use Rattle.turnstile.specs.Passes.{PassView}
 use Rattle.turnstile.proofs.Histories.{trail_end, trail_on, trail_self}
-use Rattle.txn_core.specs.Service.{Service, Asked, Reply, Event, History}
+use Rattle.txn_core.specs.Service.{Service, Asked, Reply, Event}
 use Rattle.cluster.specs.declared.step.StepError.{StepError}
 use Rattle.cluster.specs.Events.{pass_of, event_of}
 use Rattle.cluster.specs.Steps.{Adds, AddsNone}

@@ -1,12 +1,11 @@
 -- What a driver knows from the record of its transaction.
-use Rattle.std.proofs.Common.{◌≡◌, ℕ, Bool, true, false, List, [], ◌∷◌, ◌++◌, length, Option, Some, refl, sym, subst}
+use Rattle.std.proofs.Common.{◌≡◌, ℕ, Bool, true, false, List, [], ◌∷◌, ◌++◌, length, Option, refl, sym, subst}
 use Rattle.txn_core.specs.declared.stamp.Stamp.{Stamp}
 use Rattle.txn_core.specs.declared.fate.Fate.{Fate}
 use Rattle.txn_core.specs.declared.reason.Reason.{Reason}
 use Rattle.txn_core.specs.declared.message.Message.{Message}
 use Rattle.txn_core.specs.declared.answer.Answer.{Answer}
-use Rattle.txn_core.specs.declared.course.Course.{Course}
-use Rattle.txn_core.specs.Course.{Told, IsToldSo, with_fate}
+use Rattle.txn_core.specs.Course.{IsToldSo, with_fate}
 use Rattle.txn_core.specs.Driver.{told_nothing, KnowsReasons}
 use Rattle.txn_core.specs.Service.{Service, IsServiceLawful, Reply, Event, History}
 use Rattle.txn_core.specs.Answers.{recall_answer, has_record}

@@ -1,5 +1,5 @@
 use Rattle.std.proofs.Common.{◌-◌, Some, refl, reverse, eq-eqb}
-use Rattle.coordinator.proofs.Knowing.{may_prepare_next, noted, noted_less, place_within, told_verdict}
+use Rattle.coordinator.proofs.Knowing.{may_prepare_next, noted, noted_less, told_verdict}
 use Rattle.coordinator.proofs.Moving.{on_err, stays, with_spare}
 use Rattle.coordinator.proofs.steps.prepare.Goals as goal
 
