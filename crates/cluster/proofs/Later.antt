@@ -1,7 +1,7 @@
 -- A step and the history: what a pass sees after it is what it saw before, others' newer entries on it, and its own on these.
-use Rattle.std.proofs.Common.{◌≡◌, List, [], ◌∷◌, ◌++◌, Option, ℕ, reverse, sym, ap, ◌∙◌, subst}
+use Rattle.std.proofs.Common.{◌≡◌, ◌∷◌, ◌++◌, Option, ℕ, reverse, sym, ap, ◌∙◌, subst}
 use Rattle.turnstile.specs.Passes.{PassView}
-use Rattle.txn_core.specs.Service.{Service, Asked, Reply, Event, History}
+use Rattle.txn_core.specs.Service.{Service, Asked, Reply, Event}
 use Rattle.txn_core.specs.Legal.{IsLegal}
 use Rattle.txn_core.proofs.Exports.{newest, beginning_is_tail}
 use Rattle.cluster.specs.Events.{event_of}

@@ -4,3 +4,7 @@ pub mod Turning
 pub mod Starting
 pub mod AfterAll
 pub mod Later
+pub mod Commanded
+pub mod Places
+pub mod Ways
+pub mod Answered

@@ -4,3 +4,4 @@ pub mod World
 pub mod Serving
 pub mod Steps
 pub mod Closing
+pub mod Commanding

@@ -13,9 +13,11 @@
 //! The history is not stored: contracts alone speak of it.
 #![tactic(auto)]
 
+mod all;
 mod cell;
 mod closing;
 mod cluster;
+mod commanding;
 mod serve;
 mod start;
 mod step;

@@ -1,0 +1,119 @@
+-- The cells in the order of their numbers, of which one is changed.
+use Rattle.std.proofs.Common.{◌≡◌, ℕ, zero, suc, ◌+◌, ◌<◌, ◌≤◌, List, [], ◌∷◌, Some, length, sym, ap, ◌∙◌, subst, arith}
+use Rattle.std.specs.Prelude.{slice_get, slice_set}
+use Rattle.turnstile.proofs.Basics.{Some-injective, Some-ne-None, below_get}
+use Rattle.std.specs.Prelude.{Box, slice_index_or}
+use Rattle.std.proofs.lemmas.Option.{slice_get-get_or}
+use Rattle.std.specs.declared.cmp.Ord as ord
+use Rattle.std.specs.declared.cmp.PartialEq as eq
+use Rattle.std.specs.declared.cmp.PartialOrd as partial
+use Rattle.txn_core.specs.Service.{Service, Event, History}
+use Rattle.txn_core.specs.Legal.{IsLegal}
+use Rattle.partition.specs.declared.command_rules.TableChange.{TableChange}
+use Rattle.partition.specs.Carrying.{IsCarriedOut}
+use Rattle.txn_core.specs.Cells.{of_cell}
+use Rattle.partition.specs.declared.cell.Partition.{Partition}
+use Rattle.control_cell.specs.declared.cell.ControlCell.{ControlCell}
+use Rattle.cluster.specs.declared.cell.ClusterCell.{ClusterCell}
+use Rattle.cluster.specs.Standing.{StandsFor}
+use Rattle.cluster.specs.Commanding.{AllStand, AllStandAfter, CarriedBefore, CarriesPlanned, EachSo, HasPlanned, KeepsAll, PlannedBefore, TakesCatalog, own}
+
+-- what holds at the place of a changed element, and at each other one
+pub one_changed :
+    {X : Type 0} (T : ℕ → X → Type 0) (xs : List X) (i : ℕ) (y : X)
+    → ((k : ℕ) (x : X) → slice_get xs k ≡ Some x → (k ≡ i → ⊥) → T k x) → T i y → EachSo (slice_set xs i y) T
+one_changed T [] i y others here k x at = absurd (Some-ne-None x (sym at))
+one_changed T (z ∷ zs) zero y others here zero x at = subst (λ w. T zero w) (Some-injective y x at) here
+one_changed T (z ∷ zs) zero y others here (suc k) x at = others (suc k) x at (λ same. omega arith)
+one_changed T (z ∷ zs) (suc i) y others here zero x at = others zero x at (λ same. omega arith)
+one_changed T (z ∷ zs) (suc i) y others here (suc k) x at =
+    one_changed (λ j. T (suc j)) zs i y (λ j w there apart. others (suc j) w there (λ same. apart (omega arith))) here k x at
+
+-- what is lent of the place i stands there
+pub lent : {X : Type 0} (xs : List X) (i : ℕ) (x : X) → i < length xs → x ≡ slice_index_or xs i x → slice_get xs i ≡ Some x
+lent xs i x below is = slice_get-get_or xs i x below ∙ ap Some (sym is)
+
+module _ {R K V A F C D Q B : Type 0} (S : Service K V A F C D Q B) {O : ord.Ghosts K} {E : eq.Ghosts K} {P : partial.Ghosts K} {N : Type 0} {X : ord.Ghosts N} {Y : eq.Ghosts N} {Z : partial.Ghosts N} {G : Type 0} where
+  -- the cell that is lent stands
+  pub lent_stands :
+      (cells : List (Box (ClusterCell (Partition K V C N O E P X Y Z) (ControlCell R K V A F C D Q B)) G)) (es : History S) (i : ℕ)
+      (b : Box (ClusterCell (Partition K V C N O E P X Y Z) (ControlCell R K V A F C D Q B)) G)
+      (old : ClusterCell (Partition K V C N O E P X Y Z) (ControlCell R K V A F C D Q B)) → i < length cells → b ≡ slice_index_or cells i b
+      → old ≡ b.value → AllStand S cells es → StandsFor S i old (of_cell i es)
+  lent_stands cells es i b old below is same stand =
+      subst (λ v. StandsFor S i v (of_cell i es)) (sym same) (stand i b (lent cells i b below is))
+
+  -- where it stands for all that it stood for, all still do
+  pub stand_kept :
+      (cells : List (Box (ClusterCell (Partition K V C N O E P X Y Z) (ControlCell R K V A F C D Q B)) G)) (es : History S) (i : ℕ)
+      (b y : Box (ClusterCell (Partition K V C N O E P X Y Z) (ControlCell R K V A F C D Q B)) G)
+      (old : ClusterCell (Partition K V C N O E P X Y Z) (ControlCell R K V A F C D Q B)) → i < length cells → b ≡ slice_index_or cells i b
+      → old ≡ b.value → AllStand S cells es → KeepsAll S old y.value → AllStand S (slice_set cells i y) es
+  stand_kept cells es i b y old below is same stand keeps =
+      one_changed (λ k x. StandsFor S k x.value (of_cell k es)) cells i y (λ k x at apart. stand k x at)
+      (keeps i (of_cell i es) (lent_stands cells es i b old below is same stand))
+
+  -- and where it is left as it was
+  pub stand_left :
+      (cells : List (Box (ClusterCell (Partition K V C N O E P X Y Z) (ControlCell R K V A F C D Q B)) G)) (es : History S) (i : ℕ)
+      (b : Box (ClusterCell (Partition K V C N O E P X Y Z) (ControlCell R K V A F C D Q B)) G) → i < length cells → b ≡ slice_index_or cells i b
+      → AllStand S cells es → AllStand S (slice_set cells i b) es
+  stand_left cells es i b below is stand =
+      one_changed (λ k x. StandsFor S k x.value (of_cell k es)) cells i b (λ k x at apart. stand k x at) (stand i b (lent cells i b below is))
+
+  module _ (target : D → C → TableChange) (numbers : C → ℕ → List ℕ) where
+    -- the next partition carries out what it has planned
+    pub carried_more :
+        (cells : List (Box (ClusterCell (Partition K V C N O E P X Y Z) (ControlCell R K V A F C D Q B)) G)) (es : History S) (d : D) (moment i : ℕ)
+        (b y : Box (ClusterCell (Partition K V C N O E P X Y Z) (ControlCell R K V A F C D Q B)) G)
+        (old : ClusterCell (Partition K V C N O E P X Y Z) (ControlCell R K V A F C D Q B)) → i < length cells → i < S.control
+        → b ≡ slice_index_or cells i b → old ≡ b.value → CarriedBefore S target numbers i cells es d moment
+        → CarriesPlanned S target numbers old y.value moment → CarriedBefore S target numbers (i + 1) (slice_set cells i y) es d moment
+    carried_more cells es d moment i b y old below partition is same before carries =
+        let ready = (before i b (lent cells i b below is)).1 (omega arith) in
+        let stands = subst (λ v. StandsFor S i v (of_cell i es)) (sym same) ready.0 in
+        let planned = subst (λ v. HasPlanned S target numbers i v d moment) (sym same) ready.1 in
+        one_changed
+        (λ k x.
+        (k < i + 1 → (e : Event S) → IsCarriedOut S moment d e → IsLegal S (e ∷ es) → StandsFor S k x.value (of_cell k (e ∷ es)))
+        × (i + 1 ≤ k → StandsFor S k x.value (of_cell k es) × HasPlanned S target numbers k x.value d moment)) cells i y
+        (λ k x at apart. ((λ lt. (before k x at).0 (omega arith)), (λ le. (before k x at).1 (omega arith))))
+        (λ lt e out legal. carries i es e d partition planned out legal stands, λ le. absurd (omega arith))
+
+    -- the next partition plans
+    pub planned_more :
+        (cells : List (Box (ClusterCell (Partition K V C N O E P X Y Z) (ControlCell R K V A F C D Q B)) G)) (d : D) (now moment i : ℕ)
+        (y : Box (ClusterCell (Partition K V C N O E P X Y Z) (ControlCell R K V A F C D Q B)) G) → PlannedBefore S target numbers i cells d moment
+        → HasPlanned S target numbers i y.value d now → now ≡ moment → PlannedBefore S target numbers (i + 1) (slice_set cells i y) d moment
+    planned_more cells d now moment i y before here same =
+        one_changed (λ k x. k < i + 1 → HasPlanned S target numbers k x.value d moment) cells i y
+        (λ k x at apart lt. before k x at (omega arith)) (λ lt. subst (λ t. HasPlanned S target numbers i y.value d t) same here)
+
+    -- what has been planned may be carried out
+    pub all_ready :
+        (cells : List (Box (ClusterCell (Partition K V C N O E P X Y Z) (ControlCell R K V A F C D Q B)) G)) (es : History S) (d : D) (moment : ℕ)
+        → AllStand S cells es → PlannedBefore S target numbers S.control cells d moment → CarriedBefore S target numbers 0 cells es d moment
+    all_ready cells es d moment stand planned k x at =
+        ((λ lt. absurd (omega arith)), (λ le. (stand k x at, ready k x.value (stand k x at) (planned k x at))))
+      where
+        ready :
+            (k : ℕ) (v : ClusterCell (Partition K V C N O E P X Y Z) (ControlCell R K V A F C D Q B)) → StandsFor S k v (of_cell k es)
+            → (k < S.control → HasPlanned S target numbers k v d moment) → HasPlanned S target numbers k v d moment
+        ready k (ClusterCell.Partition p) stands has = has stands.0
+        ready k (ClusterCell.Control c) stands has = tt
+
+    -- when the control cell has taken the catalog, all stand
+    pub all_carried :
+        (cells : List (Box (ClusterCell (Partition K V C N O E P X Y Z) (ControlCell R K V A F C D Q B)) G)) (es : History S) (d : D) (moment i : ℕ)
+        (b y : Box (ClusterCell (Partition K V C N O E P X Y Z) (ControlCell R K V A F C D Q B)) G)
+        (old : ClusterCell (Partition K V C N O E P X Y Z) (ControlCell R K V A F C D Q B)) (next : C) → length cells ≡ i + 1 → i ≡ S.control
+        → b ≡ slice_index_or cells i b → old ≡ b.value → CarriedBefore S target numbers i cells es d moment
+        → next ≡ S.core.change d moment (own S es i).catalog → TakesCatalog S old y.value moment next
+        → AllStandAfter S (slice_set cells i y) es d moment
+    all_carried cells es d moment i b y old next many last is same before made takes e out legal =
+        let below : i < length cells = omega arith in
+        let ready = (before i b (lent cells i b below is)).1 (omega arith) in
+        let stands = subst (λ v. StandsFor S i v (of_cell i es)) (sym same) ready.0 in
+        one_changed (λ k x. StandsFor S k x.value (of_cell k (e ∷ es))) cells i y
+        (λ k x at apart. let within = below_get cells k x at in (before k x at).0 (omega arith) e out legal)
+        (takes i es e d last made out legal stands)

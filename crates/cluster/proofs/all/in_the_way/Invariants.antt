@@ -1,0 +1,12 @@
+use Rattle.std.proofs.Common.{◌≡◌, ℕ, ◌-◌, ◌<◌, length, reverse}
+use Rattle.txn_core.specs.Cells.{IsClearThere}
+use Rattle.cluster.specs.Commanding.{AllStand, own}
+use Rattle.cluster.proofs.all.in_the_way.Given as goal
+
+abbrev pub invariant-loop-i : goal.invariant-loop-i
+invariant-loop-i g l = let S = g.R.Rules.protocol (l.turnstile.id.slots - 1) in let es = reverse l.pass.front in record {
+  turns : l.turns ≡ record l.initial.turns { values = l.turns.values };
+  count : length l.turns.values.items ≡ length l.initial.turns.values.items;
+  stand : AllStand S l.turns.values.items es;
+  clear : (j : ℕ) → j < l.i → IsClearThere S (own S es j) l.command j;
+}

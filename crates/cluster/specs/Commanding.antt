@@ -1,0 +1,107 @@
+-- A command, which is one event over all cells: what each cell tells of it and does in it.
+use Rattle.std.specs.Prelude.{◌≡◌, ℕ, ◌<◌, ◌≤◌, List, ◌∷◌, Option, None, Some, MatchOption, Box, slice_get}
+use Rattle.std.specs.declared.cmp.Ord as ord
+use Rattle.std.specs.declared.cmp.PartialEq as eq
+use Rattle.std.specs.declared.cmp.PartialOrd as partial
+use Rattle.txn_core.specs.declared.message.Message.{Message}
+use Rattle.txn_core.specs.Service.{Service, Reply, Event, History}
+use Rattle.txn_core.specs.State.{State}
+use Rattle.txn_core.specs.Legal.{state, IsLegal}
+use Rattle.txn_core.specs.Cells.{of_cell, IsClearThere, IsFirstHolder}
+use Rattle.partition.specs.declared.cell.Partition.{Partition}
+use Rattle.partition.specs.declared.command_rules.TableChange.{TableChange}
+use Rattle.partition.specs.Carrying.{IsCarriedOut}
+use Rattle.partition.specs.Plans.{IsPlanned}
+use Rattle.control_cell.specs.declared.cell.ControlCell.{ControlCell}
+use Rattle.control_cell.specs.declared.commands.CatalogPlan.{CatalogPlan}
+use Rattle.control_cell.specs.Holding.{IsEntry}
+use Rattle.control_cell.specs.Plans.{IsPlan}
+use Rattle.cluster.specs.declared.cell.ClusterCell.{ClusterCell}
+use Rattle.cluster.specs.Standing.{StandsFor}
+
+-- this holds of each of them at its place
+abbrev pub EachSo : {X : Type 0} → List X → (ℕ → X → Type 0) → Type 0
+EachSo {X} xs T = (i : ℕ) (x : X) → slice_get xs i ≡ Some x → T i x
+
+module _ {P L : Type 0} where
+  abbrev pub IsControl : ClusterCell P L → Type 0
+  IsControl (ClusterCell.Partition p) = ⊥
+  IsControl (ClusterCell.Control c) = Unit {0}
+
+module _ {K V A F C D Q B : Type 0} (S : Service K V A F C D Q B) where
+  -- what the cell's own entries make of the state
+  abbrev pub own : History S → ℕ → State K V A C
+  own es i = state S (of_cell i es)
+
+  -- the least number, in the first cell that has one, of those that hold an item of the command's table; none, where no cell has
+  abbrev pub TellsFirst : (ℕ → State K V A C) → D → Option ℕ → Type 0
+  TellsFirst at d None = (j : ℕ) → IsClearThere S (at j) d j
+  TellsFirst at d (Some n) = (i : ℕ) × IsFirstHolder S (at i) d i n × ((j : ℕ) → j < i → IsClearThere S (at j) d j)
+
+module _ {R K V A F C D Q B : Type 0} (S : Service K V A F C D Q B) {O : ord.Ghosts K} {E : eq.Ghosts K} {P : partial.Ghosts K} {N : Type 0} {X : ord.Ghosts N} {Y : eq.Ghosts N} {Z : partial.Ghosts N} where
+  -- of all entries for which the cell stands, the plan is what their catalog says of the command
+  abbrev pub TellsPlan : ClusterCell (Partition K V C N O E P X Y Z) (ControlCell R K V A F C D Q B) → D → ℕ → CatalogPlan B C → Type 0
+  TellsPlan c d moment plan = (i : ℕ) (es : History S) → StandsFor S i c es → IsPlan S (state S es).catalog d moment plan
+
+  -- of a partition: and this is the least number of those that hold an item of the command's table in the cell
+  abbrev pub TellsHolding : ClusterCell (Partition K V C N O E P X Y Z) (ControlCell R K V A F C D Q B) → D → Option ℕ → Type 0
+  TellsHolding c d holder =
+      (i : ℕ) (es : History S) → i < S.control → StandsFor S i c es
+      → MatchOption holder (IsClearThere S (state S es) d i) (λ n. IsFirstHolder S (state S es) d i n)
+
+  -- the value stands for all that it stood for
+  abbrev pub KeepsAll :
+      ClusterCell (Partition K V C N O E P X Y Z) (ControlCell R K V A F C D Q B) → ClusterCell (Partition K V C N O E P X Y Z) (ControlCell R K V A F C D Q B)
+      → Type 0
+  KeepsAll c d = (i : ℕ) (es : History S) → StandsFor S i c es → StandsFor S i d es
+
+  -- with this catalog the control cell stands with the entry of the command that makes it
+  abbrev pub TakesCatalog :
+      ClusterCell (Partition K V C N O E P X Y Z) (ControlCell R K V A F C D Q B) → ClusterCell (Partition K V C N O E P X Y Z) (ControlCell R K V A F C D Q B)
+      → ℕ → C → Type 0
+  TakesCatalog old new moment next =
+      (i : ℕ) (es : History S) (e : Event S) (d : D) → i ≡ S.control → next ≡ S.core.change d moment (own S es i).catalog → IsCarriedOut S moment d e
+      → IsLegal S (e ∷ es) → StandsFor S i old (of_cell i es) → StandsFor S i new (of_cell i (e ∷ es))
+
+  module _ (target : D → C → TableChange) (numbers : C → ℕ → List ℕ) where
+    -- the cell i, where it is a partition, has planned the command
+    abbrev pub HasPlanned : ℕ → ClusterCell (Partition K V C N O E P X Y Z) (ControlCell R K V A F C D Q B) → D → ℕ → Type 0
+    HasPlanned i (ClusterCell.Partition p) d moment = IsPlanned S target numbers i p d moment
+    HasPlanned i (ClusterCell.Control c) d moment = Unit {0}
+
+    -- a partition that had planned a command stands with the command's entry
+    abbrev pub CarriesPlanned :
+        ClusterCell (Partition K V C N O E P X Y Z) (ControlCell R K V A F C D Q B) → ClusterCell (Partition K V C N O E P X Y Z) (ControlCell R K V A F C D Q B)
+        → ℕ → Type 0
+    CarriesPlanned old new moment =
+        (i : ℕ) (es : History S) (e : Event S) (d : D) → i < S.control → HasPlanned i old d moment → IsCarriedOut S moment d e
+        → IsLegal S (e ∷ es) → StandsFor S i old (of_cell i es) → StandsFor S i new (of_cell i (e ∷ es))
+
+  module _ {G : Type 0} where
+    -- each cell stands for its entries of the history
+    abbrev pub AllStand : List (Box (ClusterCell (Partition K V C N O E P X Y Z) (ControlCell R K V A F C D Q B)) G) → History S → Type 0
+    AllStand cells es = EachSo cells (λ i b. StandsFor S i b.value (of_cell i es))
+
+    -- each does so with each entry that carries the command out
+    abbrev pub AllStandAfter : List (Box (ClusterCell (Partition K V C N O E P X Y Z) (ControlCell R K V A F C D Q B)) G) → History S → D → ℕ → Type 0
+    AllStandAfter cells es d moment = (e : Event S) → IsCarriedOut S moment d e → IsLegal S (e ∷ es) → AllStand cells (e ∷ es)
+
+    -- each does so with the command's entry of this answer
+    abbrev pub AllStandWith : List (Box (ClusterCell (Partition K V C N O E P X Y Z) (ControlCell R K V A F C D Q B)) G) → History S → D → ℕ → Reply S → Type 0
+    AllStandWith cells es d moment a =
+        (e : Event S) → IsEntry S moment (Message.Command d) a e → IsLegal S (e ∷ es) → AllStand cells (e ∷ es)
+
+    module _ (target : D → C → TableChange) (numbers : C → ℕ → List ℕ) where
+      -- the cells before the k-th have planned the command
+      abbrev pub PlannedBefore : ℕ → List (Box (ClusterCell (Partition K V C N O E P X Y Z) (ControlCell R K V A F C D Q B)) G) → D → ℕ → Type 0
+      PlannedBefore k cells d moment = EachSo cells (λ i b. i < k → HasPlanned target numbers i b.value d moment)
+
+      -- the cells before the k-th stand with each entry that carries the command out, the others for their entries before it,
+      -- with the command planned
+      abbrev pub CarriedBefore :
+          ℕ → List (Box (ClusterCell (Partition K V C N O E P X Y Z) (ControlCell R K V A F C D Q B)) G) → History S → D → ℕ → Type 0
+      CarriedBefore k cells es d moment =
+          EachSo cells
+          (λ i b.
+          (i < k → (e : Event S) → IsCarriedOut S moment d e → IsLegal S (e ∷ es) → StandsFor S i b.value (of_cell i (e ∷ es)))
+          × (k ≤ i → StandsFor S i b.value (of_cell i es) × HasPlanned target numbers i b.value d moment))
