@@ -63,7 +63,7 @@ fn copy_of_item<R: Rules>(
 }
 
 /// A copy of reasons.
-fn copy_of_reasons<R: Rules>(
+pub fn copy_of_reasons<R: Rules>(
     alloc: Global,
     reasons: &[Reason<R::Value, R::Fault>],
 ) -> Result<Seq<Reason<R::Value, R::Fault>>, NoMemory>

@@ -19,6 +19,7 @@ mod ending;
 mod laws;
 mod step;
 
+pub use asking::copy_of_reasons;
 pub use cell::ControlCell;
 pub use commands::CatalogPlan;
 pub use laws::{others_leave_it, own_entries_tell_it, unchanged_holds};

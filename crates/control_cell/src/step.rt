@@ -1,6 +1,7 @@
 //! One step of the control cell.
 
 ghost use Rattle.std.specs.Prelude.{◌≡◌, ℕ, true, IfOk, OnErr};
+ghost use Rattle.txn_core.specs.Memory.{takes_no_memory};
 ghost use Rattle.control_cell.specs.Holding.{Answers, TakesAllowed, Unchanged, goes_to_control};
 
 use crate::cell::ControlCell;
@@ -22,6 +23,7 @@ where
         ensures answers { IfOk result (λ a. (n : ℕ) → Answers (R.protocol n) self.old moment message a) }
         ensures takes { IfOk result (λ a. (n : ℕ) → TakesAllowed (R.protocol n) self.old self.new moment message a) }
         ensures err { OnErr result (Unchanged self.old self.new) }
+        ensures sure { takes_no_memory message ≡ true → OnErr result ⊥ }
     {
         match message {
             Message::Begin { token, actions } => self.begin(alloc, token, actions, moment),

@@ -16,5 +16,6 @@ pub mod Tokens
 pub mod Course
 pub mod Driver
 pub mod Cells
+pub mod Memory
 pub mod Laws
 pub mod Indexes
