@@ -1,20 +1,15 @@
 -- Entries name their items, and no command changes them.
 use Rattle.std.specs.Prelude.{◌≡◌, ℕ, true, false, ◌||◌, Bool, refl, Option, None, Some}
 use Rattle.std.specs.Ordering.{nat_cmp, is_eq}
-use Rattle.std.specs.Cmp.{IsTotalOrder, nat_cmp_total}
-use Rattle.std.proofs.lemmas.Cmp.{on_total, then_total}
 use Rattle.local_index.specs.Entries.{is_among}
-use Rattle.partition.specs.Entries.{AreEntriesLawful}
+use Rattle.planned_changes.specs.Entries.{AreEntriesLawful}
 use Rattle.case_rules.specs.declared.key.Key.{Key}
 use Rattle.case_rules.specs.declared.item.Item.{Item}
 use Rattle.case_rules.specs.declared.entry.Entry.{Entry}
 use Rattle.case_rules.specs.Keys.{key_cmp, same_key}
-use Rattle.case_rules.specs.KeyLaws.{both, keys_total}
+use Rattle.case_rules.specs.KeyLaws.{both}
 use Rattle.case_rules.specs.Entries.{entries_under, entry_cmp, local_entries}
 use Rattle.case_rules.specs.Shop.{service}
-
-pub entries_total : IsTotalOrder entry_cmp
-entries_total = then_total (on_total (λ e. e.amount) nat_cmp_total) (on_total (λ e. e.item) keys_total)
 
 or_false : (b : Bool) → (b || false) ≡ true → b ≡ true
 or_false true e = refl

@@ -2,14 +2,13 @@
 
 ghost use Rattle.std.specs.Prelude.{◌≡◌};
 ghost use Rattle.std.specs.Option.{option_to_list};
-ghost use Rattle.case_rules.specs.Entries.{entries_of, entry_cmp};
+ghost use Rattle.case_rules.specs.Entries.{entries_of};
 
 use crate::item::Item;
 use crate::key::Key;
-use std::cmp::Ordering;
 
-/// Where an item stands in the local order of its table: by its amount.
-#[derive(Clone, Copy, Drop)]
+/// Where an item stands in the local order of its table: by its amount, and then by the item.
+#[derive(Clone, Copy, PartialEq, Eq, PartialOrd, Ord, Drop)]
 pub struct Entry {
     /// The item's amount.
     pub amount: u64,
@@ -29,14 +28,5 @@ impl Entry {
                 item: *key,
             }),
         }
-    }
-
-    /// The order of entries: by amount, and then by item.
-    pub(crate) fn compare(&self, other: &Entry) -> Ordering
-        ensures { result ≡ entry_cmp self.now other.now }
-    {
-        self.amount
-            .cmp(&other.amount)
-            .then(self.item.compare(&other.item))
     }
 }

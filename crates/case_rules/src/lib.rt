@@ -11,7 +11,6 @@ mod action;
 mod catalog;
 mod cells;
 mod entry;
-mod entry_order;
 mod equality;
 mod item;
 mod key;

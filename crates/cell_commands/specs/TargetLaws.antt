@@ -3,7 +3,7 @@ use Rattle.std.specs.Prelude.{◌⊎◌}
 use Rattle.std.specs.List.{filter_map}
 use Rattle.std.proofs.Common.{◌≡◌, ℕ, ◌+◌, ◌<◌, ◌≤◌, Bool, true, false, List, Option, None, Some, is_some, option_and_then, refl, sym, ap, ◌∙◌, inl, inr, arith}
 use Rattle.std.proofs.lemmas.Bool.{cases_Bool, cond-true, cond-false, eq-eqb, eqb-true, false_from_ne_true}
-use Rattle.partition.specs.Commands.{AreCommandsLawful, alters, drops, makes, is_number as is_its_number, subject as number_of}
+use Rattle.planned_changes.specs.Commands.{AreCommandsLawful, alters, drops, makes, is_number as is_its_number, subject as number_of}
 use Rattle.cell_model.specs.declared.catalog.Catalog.{Catalog}
 use Rattle.cell_model.specs.declared.catalog.CatalogTable.{CatalogTable}
 use Rattle.cell_model.specs.declared.command.CatalogCommand.{CatalogCommand}

@@ -1,8 +1,8 @@
 -- What commands do to tables by their numbers.
 use Rattle.std.specs.Prelude.{◌≡◌, ℕ, ◌+◌, true, Option, None, Some}
-use Rattle.partition.specs.declared.command_rules.TableChange.{TableChange}
-use Rattle.partition.specs.declared.command_rules.TableChange.TheVariants.{Makes, Drops, Alters, Nothing}
-use Rattle.partition.specs.Commands.{is_in}
+use Rattle.planned_changes.specs.declared.command_rules.TableChange.{TableChange}
+use Rattle.planned_changes.specs.declared.command_rules.TableChange.TheVariants.{Makes, Drops, Alters, Nothing}
+use Rattle.planned_changes.specs.Commands.{is_in}
 use Rattle.cell_model.specs.declared.catalog.Catalog.{Catalog}
 use Rattle.cell_model.specs.declared.command.CatalogCommand.{CatalogCommand}
 use Rattle.cell_model.specs.declared.command.CatalogCommand.TheVariants.{Create, Drop, Change}

@@ -1,7 +1,7 @@
 //! What commands do to tables by their numbers.
 
 ghost use Rattle.std.specs.Prelude.{◌≡◌, ◌+◌, IfOk};
-ghost use Rattle.partition.specs.Commands.{subject as number_of};
+ghost use Rattle.planned_changes.specs.Commands.{subject as number_of};
 ghost use Rattle.cell_commands.specs.Targets.{altered, dropped, target};
 
 use cell_catalog::{last_drawn, number_named, subject};

@@ -1,7 +1,7 @@
 -- The local entries of real tables.
 use Rattle.std.specs.Prelude.{ℕ}
 use Rattle.attr_value.specs.Tree.{Attributes}
-use Rattle.partition.specs.Entries.{AreEntriesLawful, LocalEntries}
+use Rattle.planned_changes.specs.Entries.{AreEntriesLawful, LocalEntries}
 use Rattle.cell_model.specs.declared.key.CellKey.{CellKey}
 use Rattle.cell_model.specs.declared.catalog.Catalog.{Catalog}
 use Rattle.cell_model.specs.Service.{service}

@@ -3,7 +3,6 @@ use Rattle.std.proofs.Common.{◌≡◌, Bool, true, false, not, ◌&&◌, ◌||
 use Rattle.std.proofs.lemmas.Cmp.{alike_right}
 use Rattle.std.proofs.lemmas.Map.Entries.{lookup-filter-keys}
 use Rattle.std.specs.Cmp.{IsTotalOrder}
-use Rattle.std.specs.List.{list_all}
 use Rattle.std.specs.Map.{lookup}
 use Rattle.std.specs.Ordering.{is_eq, is_le, is_lt}
 use Rattle.std.specs.BTreeMap.{BTreeMap, get, is_at}
@@ -14,20 +13,11 @@ use Rattle.std.specs.declared.ops.Bound.{Bound}
 use Rattle.std.specs.declared.ops.Bound.TheVariants.{Included, Excluded, Unbounded}
 use Rattle.local_index.specs.declared.claim.Claim.{Claim}
 use Rattle.local_index.specs.Entries.{claim_between, is_among}
-use Rattle.local_index.specs.Tables.{claim_in}
 
 pub equal_from : (o : Ordering) → is_eq o ≡ true → o ≡ Equal
 equal_from Less e = absurd (cc)
 equal_from Equal e = refl
 equal_from Greater e = absurd (cc)
-
-first_true : (a b : Bool) → (a && b) ≡ true → a ≡ true
-first_true true b e = refl
-first_true false b e = absurd (cc)
-
-second_true : (a b : Bool) → (a && b) ≡ true → b ≡ true
-second_true true b e = e
-second_true false b e = absurd (cc)
 
 module _ {E : Type 0} {cmp : E → E → Ordering} (total : IsTotalOrder cmp) where
   pub among_alike : (x q : E) → is_at (cmp x) q ≡ true → (es : List E) → is_among cmp es x ≡ is_among cmp es q
@@ -41,22 +31,6 @@ module _ {E : Type 0} {cmp : E → E → Ordering} (total : IsTotalOrder cmp) wh
   claim_alike x q at m =
       let equal = equal_from (cmp x q) at in
       λ i. lookup (λ z. is_eq (total.congr x q z equal i)) m.entries
-
-  claim_in_alike : (x q : E) → is_at (cmp x) q ≡ true → (o : Option (BTreeMap E Claim)) → claim_in cmp o x ≡ claim_in cmp o q
-  claim_in_alike x q at None = refl
-  claim_in_alike x q at (Some m) = claim_alike x q at m
-
-  -- what holds of the claim of each of some entries holds of each entry that is one of them
-  pub each_passes :
-      (test : Option Claim → Bool) (o : Option (BTreeMap E Claim)) (es : List E) → list_all (λ e. test (claim_in cmp o e)) es ≡ true
-      → (q : E) → is_among cmp es q ≡ true → test (claim_in cmp o q) ≡ true
-  each_passes test o [] all q among = absurd (cc)
-  each_passes test o (e ∷ es) all q among =
-      elim (is_at (cmp e) q) as
-      (λ b. is_at (cmp e) q ≡ b → (b || is_among cmp es q) ≡ true → test (claim_in cmp o q) ≡ true) [
-        | true ↦ λ at _. ap test (sym (claim_in_alike e q at o)) ∙ first_true _ (list_all (λ e. test (claim_in cmp o e)) es) all
-        | false ↦ λ _ rest. each_passes test o es (second_true (test (claim_in cmp o e)) _ all) q rest
-      ] refl among
 
   from_alike : (q k : E) → is_at (cmp q) k ≡ true → (low : Bound E) → is_from_start cmp low k ≡ is_from_start cmp low q
   from_alike q k at (Included a) = ap is_le (sym (alike_right total q k a (equal_from (cmp q k) at)))

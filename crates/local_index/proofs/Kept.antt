@@ -2,7 +2,6 @@
 use Rattle.std.proofs.Common.{◌≡◌, ℕ, Bool, true, false, not, ◌&&◌, ◌||◌, List, [], ◌∷◌, Option, None, Some, is_some, if◌then◌else◌, refl, ap, sym, ◌∙◌}
 use Rattle.std.proofs.lemmas.Cmp.{ranked, tied_itself}
 use Rattle.std.specs.Cmp.{IsTotalOrder}
-use Rattle.std.specs.List.{list_all}
 use Rattle.std.specs.Ordering.{is_eq, nat_cmp}
 use Rattle.std.specs.BTreeMap.{BTreeMap, is_at}
 use Rattle.std.specs.declared.cmp.Ordering.{Ordering}
@@ -73,22 +72,6 @@ held_is_there (Some c) e = refl
 same_where : {X : Type 0} (w : Bool) (x y z : X) → (w ≡ true → x ≡ y) → (if w then x else z) ≡ (if w then y else z)
 same_where true x y z e = e refl
 same_where false x y z e = refl
-
-or_true : (a b : Bool) → b ≡ true → (a || b) ≡ true
-or_true true b e = refl
-or_true false b e = e
-
-both_true : (a b : Bool) → a ≡ true → b ≡ true → (a && b) ≡ true
-both_true true b e f = f
-both_true false b e f = absurd (cc)
-
-module _ {E : Type 0} {cmp : E → E → Ordering} (total : IsTotalOrder cmp) where
-  -- a test of each of some entries, which each entry passes that is one of them
-  all_pass : (test : E → Bool) (es : List E) → ((q : E) → is_among cmp es q ≡ true → test q ≡ true) → list_all test es ≡ true
-  all_pass test [] each = refl
-  all_pass test (e ∷ es) each =
-      both_true (test e) (list_all test es) (each e (λ i. is_eq (tied_itself total e i) || is_among cmp es e))
-      (all_pass test es (λ q among. each q (or_true (is_at (cmp e) q) (is_among cmp es q) among)))
 
 module _ {E I : Type 0} (cmp : E → E → Ordering) (same : I → I → Bool) (item_of : E → I) where
   apart : (k : I) (es : List E) → Belong cmp same item_of k es → (q : E) → same k (item_of q) ≡ false → is_among cmp es q ≡ false
@@ -195,6 +178,4 @@ module _ {E I : Type 0} (cmp : E → E → Ordering) (same : I → I → Bool) (
               (λ q. none_left (image q))
               (λ q foreign c. not_gone (image q) c (not_image q foreign));
         };
-        old = all_pass total (λ e. is_committed (claim_under cmp s u e)) (rows u k)
-            (λ q among. of.committed u q ∙ ap (λ xs. is_among cmp xs q) (sym (fair_rows.alike u k (item_of q) (fair_rows.named u k q among))) ∙ among);
       }

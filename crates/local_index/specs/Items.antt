@@ -6,7 +6,7 @@ use Rattle.std.specs.declared.cmp.Ordering.{Ordering}
 use Rattle.local_index.specs.declared.claim.Claim.{Claim}
 use Rattle.local_index.specs.Claims.{is_committed, is_held}
 use Rattle.local_index.specs.Entries.{held_too, is_among, let_go, noted, settled}
-use Rattle.local_index.specs.Tables.{are_committed, claim_under, ClaimsUnder}
+use Rattle.local_index.specs.Tables.{claim_under, ClaimsUnder}
 
 module _ {E I : Type 0} (cmp : E → E → Ordering) (same : I → I → Bool) (item_of : E → I) where
   -- these entries all name this item
@@ -27,8 +27,8 @@ module _ {E I : Type 0} (cmp : E → E → Ordering) (same : I → I → Bool) (
     pub committed : (u : ℕ) (q : E) → is_committed (claim_under cmp s u q) ≡ is_among cmp (rows u (item_of q)) q
     pub held : (u : ℕ) (q : E) → is_held (claim_under cmp s u q) ≡ is_among cmp (images u (item_of q)) q
 
-  -- where that is so, each call on an item leaves it so, of the rows and images that are there afterwards (a hold, where no image
-  -- of the item is held); and the old entries are committed
+  -- where that is so, each change of an item leaves it so, of the rows and images that are there afterwards (a hold, where no
+  -- image of the item is held)
   pub record KeepsToItems (rows images : ℕ → I → List E) (s t : BTreeMap ℕ (BTreeMap E Claim)) (u : ℕ) (k : I) : Type 0 where
     pub note : (new : List E) → Belong k new → ClaimsUnder cmp (noted cmp (rows u k) new) s t u
         → AreOf (with_share rows u k new) images t
@@ -37,7 +37,6 @@ module _ {E I : Type 0} (cmp : E → E → Ordering) (same : I → I → Bool) (
     pub settle : ClaimsUnder cmp (settled cmp (rows u k) (images u k)) s t u
         → AreOf (with_share rows u k (images u k)) (with_share images u k []) t
     pub let_go : ClaimsUnder cmp (let_go cmp (images u k)) s t u → AreOf rows (with_share images u k []) t
-    pub old : IsTrue (are_committed cmp s u (rows u k))
 
   -- the entries keep to the items
   abbrev pub KeepToItems : Type 0

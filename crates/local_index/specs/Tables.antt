@@ -1,11 +1,9 @@
 -- What the entries of the tables of a cell are.
-use Rattle.std.specs.Prelude.{◌≡◌, ℕ, Bool, not, ◌&&◌, ◌||◌, List, Option, None, Some, is_some, if◌then◌else◌}
-use Rattle.std.specs.List.{list_all}
+use Rattle.std.specs.Prelude.{◌≡◌, ℕ, Bool, not, ◌&&◌, ◌||◌, Option, None, Some, is_some, if◌then◌else◌}
 use Rattle.std.specs.Ordering.{nat_cmp}
 use Rattle.std.specs.BTreeMap.{BTreeMap, get, is_at}
 use Rattle.std.specs.declared.cmp.Ordering.{Ordering}
 use Rattle.local_index.specs.declared.claim.Claim.{Claim}
-use Rattle.local_index.specs.Claims.{is_committed}
 
 module _ {E : Type 0} where
   -- the table is there
@@ -21,10 +19,6 @@ module _ {E : Type 0} (cmp : E → E → Ordering) where
   -- the claim of an entry of a table
   abbrev pub claim_under : BTreeMap ℕ (BTreeMap E Claim) → ℕ → E → Option Claim
   claim_under tables u q = claim_in (get nat_cmp tables u) q
-
-  -- these entries of the table are all committed
-  abbrev pub are_committed : BTreeMap ℕ (BTreeMap E Claim) → ℕ → List E → Bool
-  are_committed tables u es = list_all (λ e. is_committed (claim_under tables u e)) es
 
   -- each entry of the table has the claim that this gives, of the entry and its old claim; each other one has its own
   abbrev pub ClaimsUnder : (E → Option Claim → Option Claim) → BTreeMap ℕ (BTreeMap E Claim) → BTreeMap ℕ (BTreeMap E Claim) → ℕ → Type 0

@@ -64,13 +64,3 @@ impl Claim {
         )
     }
 }
-
-/// Whether an entry is one of the committed item.
-pub(crate) fn is_committed(claim: Option<Claim>) -> bool
-    ensures { result ≡ is_committed claim }
-{
-    match claim {
-        Some(claim) => claim.is_committed(),
-        None => false,
-    }
-}

@@ -6,11 +6,11 @@ ghost use Rattle.std.specs.Ordering.{nat_cmp};
 ghost use Rattle.std.specs.Map.{lookup};
 ghost use Rattle.std.specs.BTreeMap.{get, is_at};
 ghost use Rattle.paging.specs.MapRange.{rows_between};
-ghost use Rattle.local_index.specs.Entries.{claim_between, end_of, held_too, let_go, noted, settled};
-ghost use Rattle.local_index.specs.Tables.{are_committed, claim_under, has_table, Closes, GivesUnder, Opens, Same};
+ghost use Rattle.local_index.specs.Entries.{claim_between, end_of, held_too, let_go, settled};
+ghost use Rattle.local_index.specs.Tables.{claim_under, has_table, Closes, GivesUnder, Opens, Same};
 
-use crate::claim::{Claim, is_committed};
-use crate::lists::{hold_in, let_go_in, note_in, settle_in};
+use crate::claim::Claim;
+use crate::lists::{hold_in, let_go_in, settle_in};
 use paging::MapRange;
 use std::alloc::{AllocError as NoMemory, Global};
 use std::collections::BTreeMap;
@@ -80,18 +80,6 @@ impl<E: Ord> LocalIndexes<E> {
         }
     }
 
-    /// Whether these entries of a table are all committed.
-    pub fn are_committed(&self, table: u64, entries: &[E]) -> bool
-        ensures { result ≡ are_committed E.cmp self.now.tables table entries.now }
-    {
-        for entry in entries {
-            if !is_committed(self.claim(table, entry)) {
-                return false;
-            }
-        }
-        true
-    }
-
     /// The entries of a table between two ends, in their order, each with what it stands for: `None` where the table is not
     /// there. A step of a walk over them costs one look-up and takes no memory.
     pub fn between<'a>(
@@ -107,23 +95,6 @@ impl<E: Ord> LocalIndexes<E> {
         match self.tables.get(&table) {
             None => None,
             Some(entries) => Some(MapRange::new(entries, low, high)),
-        }
-    }
-
-    /// Commits the new entries of an item in place of its old ones, all of which are committed. An entry that is among both
-    /// stays as it is.
-    pub fn note(&mut self, table: u64, old: &[E], new: &[E]) -> Result<(), NoMemory>
-    where
-        E: Clone,
-        requires copies { (entry copy : E) → E.is_clone entry copy → copy ≡ entry }
-        requires there { IsTrue (has_table self.old.tables table) }
-        requires old { IsTrue (are_committed E.cmp self.old.tables table old.now) }
-        ensures noted { OnOk result (GivesUnder E.cmp (noted E.cmp old.now new.now) self.old.tables self.new.tables table) }
-        ensures err { OnErr result (Same E.cmp self.old.tables self.new.tables) }
-    {
-        match self.tables.get_mut(&table) {
-            Some(entries) => note_in(entries, old, new),
-            None => unreachable!(),
         }
     }
 

@@ -1,10 +1,10 @@
 //! Changes of several entries of a table.
 
-ghost use Rattle.std.specs.Prelude.{◌≡◌, [], IsTrue, OnOk, OnErr};
+ghost use Rattle.std.specs.Prelude.{◌≡◌, [], OnOk, OnErr};
 ghost use Rattle.local_index.specs.declared.claim.Claim.TheVariants.{Committed};
 ghost use Rattle.std.specs.BTreeMap.{get};
-ghost use Rattle.local_index.specs.Claims.{instead, is_committed, joined, without};
-ghost use Rattle.local_index.specs.Entries.{changed, held_too, is_among, let_go, noted, settled, Gives, SameClaims};
+ghost use Rattle.local_index.specs.Claims.{instead, joined, without};
+ghost use Rattle.local_index.specs.Entries.{changed, held_too, is_among, let_go, settled, Gives, SameClaims};
 
 use crate::claim::Claim;
 use crate::entries::{add, commit, set, take};
@@ -64,22 +64,6 @@ fn commit_all<E: Ord>(entries: &mut BTreeMap<E, Claim>, image: &[E])
     for entry in image {
         commit(entries, entry);
     }
-}
-
-/// Commits the new entries in place of the old ones. Where memory is refused each entry has its own claim.
-pub(crate) fn note_in<E: Ord + Clone>(
-    entries: &mut BTreeMap<E, Claim>,
-    old: &[E],
-    new: &[E],
-) -> Result<(), NoMemory>
-    requires copies { (x copy : E) → E.is_clone x copy → copy ≡ x }
-    requires old { (q : E) → IsTrue (is_among E.cmp old.now q) → IsTrue (is_committed (get E.cmp entries.old q)) }
-    ensures ok { OnOk result (Gives E.cmp (noted E.cmp old.now new.now) entries.old entries.new) }
-    ensures err { OnErr result (SameClaims E.cmp entries.old entries.new) }
-{
-    add_all(entries, new, old, Claim::Committed)?;
-    take_all(entries, old, new, Claim::Committed);
-    Ok(())
 }
 
 /// Holds the entries of an image. Where memory is refused each entry has its own claim.

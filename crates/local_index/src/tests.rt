@@ -23,8 +23,6 @@ const BESIDE: Entry = (2, 5, 7);
 
 #[derive(Clone, Copy)]
 enum Step {
-    /// From the old entries to the new ones.
-    Note(&'static [Entry], &'static [Entry]),
     Hold(&'static [Entry]),
     /// From the old entries to the image's.
     Settle(&'static [Entry], &'static [Entry]),
@@ -40,14 +38,16 @@ const HELD: Option<Claim> = Some(Claim::Held);
 
 const BOTH: Option<Claim> = Some(Claim::Both);
 
-static STEPS: [Row; 8] = [
+static STEPS: [Row; 10] = [
+    (Step::Hold(&[LOW, BESIDE]), [HELD, None, HELD]),
     (
-        Step::Note(&[], &[LOW, BESIDE]),
+        Step::Settle(&[], &[LOW, BESIDE]),
         [COMMITTED, None, COMMITTED],
     ),
     // the item moves in one index
+    (Step::Hold(&[HIGH, BESIDE]), [COMMITTED, HELD, BOTH]),
     (
-        Step::Note(&[LOW, BESIDE], &[HIGH, BESIDE]),
+        Step::Settle(&[LOW, BESIDE], &[HIGH, BESIDE]),
         [None, COMMITTED, COMMITTED],
     ),
     (Step::Hold(&[LOW, BESIDE]), [HELD, COMMITTED, BOTH]),
@@ -62,14 +62,10 @@ static STEPS: [Row; 8] = [
     (Step::Settle(&[LOW, BESIDE], &[]), [None, None, None]),
 ];
 
-/// Makes a step whose old entries are committed, as a note wants them.
+/// Makes a step.
 fn make(rt: &impl Abort, indexes: &mut LocalIndexes<Entry>, step: Step) -> Result<(), NoMemory> {
     assert!(rt; indexes.has_table(TABLE));
     match step {
-        Step::Note(old, new) => {
-            assert!(rt; indexes.are_committed(TABLE, old));
-            indexes.note(TABLE, old, new)
-        }
         Step::Hold(image) => indexes.hold(TABLE, image),
         Step::Settle(old, image) => {
             indexes.settle(TABLE, old, image);
@@ -144,8 +140,12 @@ fn walks_meet_what_is_held_too(rt: HostRuntime) -> Result<(), Fail> {
     let mut indexes = LocalIndexes::new(alloc);
     assert!(rt; !indexes.has_table(TABLE));
     indexes.open_table(alloc, TABLE)?;
-    make(&rt, &mut indexes, Step::Note(&[], &[HIGH, BESIDE]))?;
-    make(&rt, &mut indexes, Step::Note(&[], &[(1, 10, 8)]))?;
+    make(&rt, &mut indexes, Step::Hold(&[HIGH, BESIDE, (1, 10, 8)]))?;
+    make(
+        &rt,
+        &mut indexes,
+        Step::Settle(&[], &[HIGH, BESIDE, (1, 10, 8)]),
+    )?;
     make(&rt, &mut indexes, Step::Hold(&[(1, 15, 9)]))?;
     let rows = indexes.between(
         TABLE,

@@ -7,12 +7,12 @@ use Rattle.txn_core.specs.Stamps.{later, single}
 use Rattle.txn_core.specs.State.{Pending as Held, Spot, State, spot_changed}
 use Rattle.item_store.specs.declared.slot.Slot.{Slot}
 use Rattle.item_store.specs.Slots.{committed_at, slot_of}
-use Rattle.partition.specs.declared.command_rules.TableChange.{TableChange}
-use Rattle.partition.specs.declared.command_rules.TableChange.TheVariants.{Makes, Drops, Alters, Nothing}
-use Rattle.partition.specs.Commands.{AreCommandsLawful, alters, drops, is_number, makes, subject}
+use Rattle.planned_changes.specs.declared.command_rules.TableChange.{TableChange}
+use Rattle.planned_changes.specs.declared.command_rules.TableChange.TheVariants.{Makes, Drops, Alters, Nothing}
+use Rattle.planned_changes.specs.Commands.{AreCommandsLawful, alters, drops, is_number, makes, subject}
 use Rattle.partition.specs.Holds.{pending_for, queued_by, slot_for}
-use Rattle.partition.specs.Plans.{brought}
-use Rattle.partition.proofs.Basics.{no_both, not_true, not_false}
+use Rattle.planned_changes.specs.Plans.{brought}
+use Rattle.planned_changes.proofs.Basics.{no_both, not_true, not_false}
 use Rattle.partition.proofs.Spared.{next, not_made, others, same_changes, stays_there}
 
 -- the slot of an item without a row that nobody holds
@@ -21,19 +21,6 @@ slot_without r p s v a b = λ j. slot_of (committed_at (a j) s v) (pending_for (
 
 held_not : {V : Type 0} (p : Held V) → Some p ≡ None → ⊥
 held_not p e = absurd (cc)
-
--- what is brought is an item that the command adds
-pub brought_adds :
-    {K V A F C D Q B : Type 0} (S : Service K V A F C D Q B) (i : ℕ) (d : D) (c next : C) (stamp : Stamp) (version : ℕ) (q : K)
-    → is_some (brought S i d c next stamp version q) ≡ true → is_some (S.core.adds d c q) ≡ true
-brought_adds {K} {V} S i d c next stamp version q some =
-    by_test (nat_eq (S.core.cell_of q) i && (not (S.core.there c q) && S.core.there next q)) (S.core.adds d c q) some
-  where
-    by_test : (b : Bool) (o : Option V) → is_some (if b then slot_of (committed_at o stamp version) None else None) ≡ true → is_some o ≡ true
-    by_test true None e = absurd (cc)
-    by_test true (Some x) e = refl
-    by_test false None e = absurd (cc)
-    by_test false (Some x) e = absurd (cc)
 
 module _
     {K V A F C D Q B : Type 0} (S : Service K V A F C D Q B) (law : IsServiceLawful S) {sound : C → Type 0} {target : D → C → TableChange}

@@ -24,16 +24,18 @@ use Rattle.item_store.specs.Changes.{slot_at}
 use Rattle.global_index.specs.Marks.{mark_in}
 use Rattle.prepared_changes.specs.Prepared.{prepared_in}
 use Rattle.partition.specs.declared.cell.Partition.{Partition}
-use Rattle.partition.specs.declared.command_rules.TableChange.{TableChange}
-use Rattle.partition.specs.declared.command_rules.TableChange.TheVariants.{Makes, Drops, Alters, Nothing}
-use Rattle.partition.specs.declared.plan.CatalogPlan.{CatalogPlan}
-use Rattle.partition.specs.declared.plan.MadeTable.{MadeTable}
-use Rattle.partition.specs.Commands.{AreCommandsLawful, dropped_by, drops, is_in, is_number, makes, subject}
+use Rattle.planned_changes.specs.declared.command_rules.TableChange.{TableChange}
+use Rattle.planned_changes.specs.declared.command_rules.TableChange.TheVariants.{Makes, Drops, Alters, Nothing}
+use Rattle.planned_changes.specs.declared.plan.CatalogPlan.{CatalogPlan}
+use Rattle.planned_changes.specs.declared.plan.MadeTable.{MadeTable}
+use Rattle.planned_changes.specs.Commands.{AreCommandsLawful, dropped_by, drops, is_in, is_number, makes, subject}
 use Rattle.partition.specs.Holds.{Holds, lives, queued_by, slot_for}
-use Rattle.partition.specs.Plans.{IsMade, IsOrderedFor, IsPlan, IsRising, LeftByPlan, brought, closed_by, filled, founding_in, has_new, queued_for, slots_of}
-use Rattle.partition.proofs.Basics.{and_both, no_both, not_true}
+use Rattle.planned_changes.specs.Plans.{IsMade, IsOrderedFor, IsPlan, IsRising, brought, closed_by, founding_in, has_new, queued_for, slots_of}
+use Rattle.partition.specs.Plans.{filled, LeftByPlan}
+use Rattle.planned_changes.proofs.Basics.{and_both, no_both, not_true}
 use Rattle.partition.proofs.Brought.{IsClean, after, gone, is_brought, is_dropped, is_not_brought, left_alone, queues_same, spot}
-use Rattle.partition.proofs.Changing.{at_is, same_here}
+use Rattle.planned_changes.proofs.Keys.{at_is}
+use Rattle.partition.proofs.Changing.{same_here}
 use Rattle.partition.proofs.Keeping.{row_back}
 use Rattle.partition.proofs.Lists.{ascend}
 use Rattle.partition.proofs.Queued.{by_rows, found_by, none_found, table_queues}
@@ -111,7 +113,7 @@ module _
       all_found = flat_map (found_by (indexed S.core S.index) w.catalog next) rows
 
       queues :
-          (t : TableChange) → target d w.catalog ≡ t → (made : Option (MadeTable K V O E P)) → IsMade t bring c.items.tables made
+          (t : TableChange) → target d w.catalog ≡ t → (made : Option (MadeTable K V O E P)) → IsMade t bring made
           → IsOrderedFor t c.items.tables → queued_for S numbers t w.catalog next c.items.tables made ≡ all_found
       queues Nothing is made m o = sym (none_found (indexed S.core S.index) w.catalog next _ rows listed.each (λ r h. elsewhere Nothing is r h.1 refl refl))
       queues (Drops n) is made m o =
@@ -196,7 +198,7 @@ module _
 
     -- what is kept of an item afterwards
     kept_slot :
-        (t : TableChange) → target d w.catalog ≡ t → (made : Option (MadeTable K V O E P)) → IsMade t bring c.items.tables made → (u : ℕ) (q : K)
+        (t : TableChange) → target d w.catalog ≡ t → (made : Option (MadeTable K V O E P)) → IsMade t bring made → (u : ℕ) (q : K)
         → (if is_number (dropped_by t) u then None else filled made u q (slot_at c.items u q)) ≡ (if lives S i u q then slot_for (spot S law laws d moment w ok kept q) else None)
     kept_slot Nothing is None m u q =
         here.items u q
@@ -256,15 +258,15 @@ module _
             (ap (λ z. nat_eq z (S.core.table q)) (sym m.number) ∙ ap (λ z. nat_eq made.number z) (eqb-true (S.core.table q) u (parts l).0) ∙ e))
 
     module _
-        (e : Partition K V C N O E P X Y Z) (p : CatalogPlan K V C O E P) (plan : IsPlan S target numbers i c d moment p) (left : LeftByPlan c e p)
+        (e : Partition K V C N O E P X Y Z) (p : CatalogPlan K V C O E P) (plan : IsPlan S target numbers i c.catalog c.items d moment p) (left : LeftByPlan c e p)
         (listed : IsListOf (indexed S.core S.index) i now (at_keys (indexed S.core S.index) now (gather (indexed S.core S.index) i (S.index.brings d w.catalog) (f.keys i))))
         (unserved : (g : ℕ) (q : K) → S.core.cell_of q ≡ i → served (indexed S.core S.index) w.catalog g (S.index.item_of q) ≡ false → f.shown g q ≡ None) where
       next_is : p.catalog ≡ next
       next_is = plan.catalog ∙ ap (λ y. S.core.change d moment y) here.catalog
 
-      made_is : IsMade (target d w.catalog) bring c.items.tables p.made
+      made_is : IsMade (target d w.catalog) bring p.made
       made_is =
-          subst (λ (y : C × C × Tally). IsMade (target d y.0) (brought S i d y.0 y.1 (later y.2.floor (single moment)) (y.2.count + 1)) c.items.tables p.made)
+          subst (λ (y : C × C × Tally). IsMade (target d y.0) (brought S i d y.0 y.1 (later y.2.floor (single moment)) (y.2.count + 1)) p.made)
           (λ j. (here.catalog j, next_is j, here.numbers j)) plan.made
 
       order_is : IsOrderedFor (target d w.catalog) c.items.tables

@@ -1,6 +1,5 @@
 -- A cell of which one item changed holds the state of which the item changed.
-use Rattle.std.specs.Ordering.{nat_cmp, is_eq}
-use Rattle.std.specs.Cmp.{unsigned_ties}
+use Rattle.std.specs.Ordering.{nat_cmp}
 use Rattle.std.specs.BTreeMap.{is_at}
 use Rattle.std.proofs.Common.{◌≡◌, ℕ, ◌&&◌, ◌++◌, nat_eq, Bool, true, false, if◌then◌else◌, List, [], Option, None, refl, sym, ap, ◌∙◌, subst}
 use Rattle.std.proofs.lemmas.Bool.{cond-true, cond-false, eq-eqb, eqb-true}
@@ -19,6 +18,7 @@ use Rattle.item_store.specs.Changes.{slot_at}
 use Rattle.global_index.specs.Marks.{mark_in}
 use Rattle.global_index.specs.Rows.{row_under}
 use Rattle.prepared_changes.specs.Prepared.{prepared_in}
+use Rattle.planned_changes.proofs.Keys.{at_is, number_at, one_key}
 use Rattle.partition.specs.declared.cell.Partition.{Partition}
 use Rattle.partition.specs.Holds.{Holds, lives, pending_for, queued_by, slot_for}
 use Rattle.partition.specs.Changes.{Changes, Unchanged, set_at}
@@ -37,9 +37,6 @@ same_here true x y z e = e refl
 abbrev slot_by : {V : Type 0} → Item V → Option (Slot V)
 slot_by x = slot_of (committed_at x.row x.stamp x.version) (pending_for x.pend)
 
-pub number_at : (u v : ℕ) → is_at (nat_cmp u) v ≡ nat_eq u v
-number_at u v = sym (unsigned_ties u v)
-
 module _ {K V A F C D Q B : Type 0} (S : Service K V A F C D Q B) where
   -- of the feed the items of a cell and what it queues change, and nothing else
   pub record FeedFollows (i : ℕ) (f g : Feed K V C) (v : State K V A C) (queued : List (Change K V)) : Type 0 where
@@ -49,13 +46,6 @@ module _ {K V A F C D Q B : Type 0} (S : Service K V A F C D Q B) where
     pub sent : g.sent i ≡ f.sent i
     pub mark : (j : ℕ) → g.mark i j ≡ f.mark i j
     pub shown : (x : ℕ) (q : K) → g.shown x q ≡ f.shown x q
-
-  module _ (law : IsServiceLawful S) where
-    pub one_key : (k q : K) → S.core.same k q ≡ true → k ≡ q
-    one_key k q e = law.index.feed.exact k q e
-
-    pub at_is : {O : ord.Ghosts K} → ((x y : K) → S.index.cmp x y ≡ O.cmp x y) → (k q : K) → is_at (O.cmp k) q ≡ S.core.same k q
-    at_is ordered k q = sym (law.index.feed.one k q ∙ ap is_eq (ordered k q))
 
 module _
     {K V A F C D Q B : Type 0} (S : Service K V A F C D Q B) {O : ord.Ghosts K} {E : eq.Ghosts K} {P : partial.Ghosts K}

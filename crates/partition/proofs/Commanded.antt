@@ -21,33 +21,36 @@ use Rattle.txn_core.specs.Service.{Asked, Event, History, Reply, Service, IsServ
 use Rattle.txn_core.specs.State.{Pending as Held, State, step}
 use Rattle.txn_core.proofs.Exports.{agrees, alike_turned, good, legal_events, legal_run, own_entries_tell}
 use Rattle.partition.specs.declared.cell.Partition.{Partition}
-use Rattle.partition.specs.declared.command_rules.TableChange.{TableChange}
-use Rattle.partition.specs.declared.command_rules.TableChange.TheVariants.{Makes, Drops, Alters, Nothing}
-use Rattle.partition.specs.declared.plan.CatalogPlan.{CatalogPlan}
-use Rattle.partition.specs.declared.plan.MadeTable.{MadeTable}
+use Rattle.planned_changes.specs.declared.command_rules.TableChange.{TableChange}
+use Rattle.planned_changes.specs.declared.command_rules.TableChange.TheVariants.{Makes, Drops, Alters, Nothing}
+use Rattle.planned_changes.specs.declared.plan.CatalogPlan.{CatalogPlan}
+use Rattle.planned_changes.specs.declared.plan.MadeTable.{MadeTable}
 use Rattle.item_store.specs.declared.slot.Slot.{Slot}
 use Rattle.item_store.specs.declared.table.TableItems.{TableItems}
+use Rattle.item_store.specs.Tables.{has_table}
 use Rattle.std.specs.BTreeMap.{BTreeMap}
 use Rattle.partition.specs.Carrying.{IsCarriedOut}
-use Rattle.partition.specs.Commands.{AreCommandsLawful}
+use Rattle.planned_changes.specs.Commands.{AreCommandsLawful}
 use Rattle.partition.specs.Holds.{Holds}
-use Rattle.partition.specs.Plans.{HasPlace, HasRoom, IsMade, IsPlan, LeftByPlan}
+use Rattle.planned_changes.specs.Plans.{IsMade, IsPlan}
+use Rattle.partition.specs.Plans.{HasPlace, HasRoom, IsPlaced, LeftByPlan}
 use Rattle.partition.specs.Says.{Stands}
-use Rattle.partition.proofs.Basics.{no_both}
+use Rattle.planned_changes.proofs.Basics.{no_both}
 use Rattle.partition.proofs.Brought.{IsClean, after}
 use Rattle.partition.proofs.Carried.{carried, now}
 use Rattle.partition.proofs.Changing.{moved_to}
 
 module _ {K V : Type 0} {O : ord.Ghosts K} {E : eq.Ghosts K} {P : partial.Ghosts K} (tables : BTreeMap ℕ (TableItems K V O E P)) where
-  placed : (t : TableChange) (slot : K → Option (Slot V)) (made : Option (MadeTable K V O E P)) → IsMade t slot tables made → HasPlace tables made
-  placed (Makes n) slot (Some made) m = m.place
-  placed (Makes n) slot None m = absurd m
-  placed (Drops n) slot None m = tt
-  placed (Drops n) slot (Some made) m = absurd m
-  placed (Alters n) slot None m = tt
-  placed (Alters n) slot (Some made) m = absurd m
-  placed Nothing slot None m = tt
-  placed Nothing slot (Some made) m = absurd m
+  placed :
+      (t : TableChange) (slot : K → Option (Slot V)) (made : Option (MadeTable K V O E P)) → IsMade t slot made → IsPlaced t tables → HasPlace tables made
+  placed (Makes n) slot (Some made) m here = subst (λ u. has_table tables u ≡ true) (sym m.number) here
+  placed (Makes n) slot None m here = absurd m
+  placed (Drops n) slot None m here = tt
+  placed (Drops n) slot (Some made) m here = absurd m
+  placed (Alters n) slot None m here = tt
+  placed (Alters n) slot (Some made) m here = absurd m
+  placed Nothing slot None m here = tt
+  placed Nothing slot (Some made) m here = absurd m
 
 module _ {K V A F C D Q B : Type 0} (S : Service K V A F C D Q B) where
   -- a command that is carried out is not refused, and nothing stands in its way
@@ -147,7 +150,7 @@ module _ {K V A F C D Q B : Type 0} (S : Service K V A F C D Q B) where
 
       module _
           {O : ord.Ghosts K} {E : eq.Ghosts K} {P : partial.Ghosts K} {N : Type 0} {X : ord.Ghosts N} {Y : eq.Ghosts N} {Z : partial.Ghosts N} (total : IsTotalOrder O.cmp) (ordered : (x y : K) → S.index.cmp x y ≡ O.cmp x y) (i : ℕ)
-          (c c2 : Partition K V C N O E P X Y Z) (p : CatalogPlan K V C O E P) (plan : IsPlan S target numbers i c d moment p) (left : LeftByPlan c c2 p) where
+          (c c2 : Partition K V C N O E P X Y Z) (p : CatalogPlan K V C O E P) (plan : IsPlan S target numbers i c.catalog c.items d moment p) (left : LeftByPlan c c2 p) where
         pub stands : Stands S i c es → Stands S i c2 (e ∷ es)
         stands here =
             subst (λ (y : ℕ × Asked S × Reply S). Holds S i c2 (step S.core (state S es) (effect_of y.0 y.1 y.2)) (feed_step (indexed S.core S.index) (feed_after S es) (event_of S (state S es) y.0 y.1 y.2)))
@@ -172,5 +175,7 @@ module _ {K V A F C D Q B : Type 0} (S : Service K V A F C D Q B) where
   pub has_room :
       (target : D → C → TableChange) (numbers : C → ℕ → List ℕ) {O : ord.Ghosts K} {E : eq.Ghosts K} {P : partial.Ghosts K}
       {N : Type 0} {X : ord.Ghosts N} {Y : eq.Ghosts N} {Z : partial.Ghosts N} (i : ℕ) (c : Partition K V C N O E P X Y Z)
-      (d : D) (moment : ℕ) (p : CatalogPlan K V C O E P) → IsPlan S target numbers i c d moment p → HasRoom c p
-  has_room target numbers i c d moment p plan = record { number = plan.number; place = placed c.items.tables (target d c.catalog) _ p.made plan.made }
+      (d : D) (moment : ℕ) (p : CatalogPlan K V C O E P) → IsPlan S target numbers i c.catalog c.items d moment p
+      → IsPlaced (target d c.catalog) c.items.tables → HasRoom c p
+  has_room target numbers i c d moment p plan here =
+      record { number = plan.number; place = placed c.items.tables (target d c.catalog) _ p.made plan.made here }

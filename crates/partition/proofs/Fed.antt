@@ -23,7 +23,8 @@ use Rattle.partition.specs.declared.cell.Partition.{Partition}
 use Rattle.partition.specs.Holds.{Holds}
 use Rattle.partition.specs.Knows.{KeepsRows, LeftByAck, LeftByFeed, acked_by, fed_by, shown_by}
 use Rattle.partition.specs.Says.{ack_says, feed_says, out_says}
-use Rattle.partition.proofs.Changing.{at_is, number_at, one_key, unchanged}
+use Rattle.planned_changes.proofs.Keys.{at_is, number_at, one_key}
+use Rattle.partition.proofs.Changing.{unchanged}
 
 first_is : {K V : Type 0} (n : ℕ) (xs : List (Change K V)) (s : ℕ) → has_first n xs s ≡ has_sequence (peek n xs) s
 first_is n [] s = refl

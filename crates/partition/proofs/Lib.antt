@@ -1,5 +1,3 @@
-pub mod Basics
-pub mod Adding
 pub mod Holding
 pub mod Moved
 pub mod Keeping
@@ -14,14 +12,12 @@ pub mod Paged
 pub mod Lists
 pub mod Holders
 pub mod InTheWay
-pub mod Foundings
 pub mod Unique
 pub mod Numbers
 pub mod Spared
 pub mod Brought
 pub mod Queued
 pub mod Carried
-pub mod BroughtOver
 pub mod Commanded
 pub mod Planned
 pub mod Shares

@@ -20,7 +20,7 @@ use Rattle.txn_core.specs.Legal.{state}
 use Rattle.txn_core.specs.Service.{Service, History, IsServiceLawful}
 use Rattle.txn_core.specs.State.{State, kept_or}
 use Rattle.txn_core.proofs.Agreement.{Agrees, agrees}
-use Rattle.partition.specs.Listed.{AreAllOf, Lists}
+use Rattle.partition.specs.Listed.{AreAllOf, ListsAll}
 
 all_weaker : {X : Type 0} (P Q : X → Type 0) (xs : List X) → ((x : X) → P x → Q x) → AllByRecursion P xs → AllByRecursion Q xs
 all_weaker P Q [] up all = tt
@@ -137,14 +137,14 @@ module _ {K V C : Type 0} (I : Indexed K V C) where
         cond_both (nat_eq (I.cell_of k) i) (arranged I k (gather I i ks keys)) (gather I i ks keys) (λ ys. IsStrictlySortedBy I.cmp ys)
         (λ _. rise_arranged k (gather I i ks keys) (gathered_rise i ks keys rise)) (λ _. gathered_rise i ks keys rise)
 
-    acked_lists : (i j s : ℕ) (f : Feed K V C) (xs : List (Change K V)) → Lists I i f → Lists I i (acked I f j s xs)
+    acked_lists : (i j s : ℕ) (f : Feed K V C) (xs : List (Change K V)) → ListsAll I i f → ListsAll I i (acked I f j s xs)
     acked_lists i j s f [] are = are
     acked_lists i j s f (x ∷ xs) are =
-        cond_both (nat_eq s (suc (f.sent j))) (record f { sent = at f.sent j s; outbox = at f.outbox j xs }) f (λ g. Lists I i g)
+        cond_both (nat_eq s (suc (f.sent j))) (record f { sent = at f.sent j s; outbox = at f.outbox j xs }) f (λ g. ListsAll I i g)
         (λ _. record { items = are.items; rows = are.rows }) (λ _. are)
 
     -- every event leaves all listed, where those that it brings are
-    pub step_lists : (i : ℕ) (f : Feed K V C) (x : FeedEvent K V C) → Brings f x → Lists I i f → Lists I i (step I f x)
+    pub step_lists : (i : ℕ) (f : Feed K V C) (x : FeedEvent K V C) → Brings f x → ListsAll I i f → ListsAll I i (step I f x)
     step_lists i f (Sets k new) brings are =
         record {
           items = put i f.keys k f.row (λ q. if I.same k q then new else f.row q)
@@ -167,7 +167,7 @@ module _ {K V C : Type 0} (I : Indexed K V C) where
         }
     step_lists i f (Peeks j o) brings are = are
     step_lists i f (Feeds j s x) brings are =
-        cond_both (is_fed I f j s x) (fed I f j s x) f (λ h. Lists I i h)
+        cond_both (is_fed I f j s x) (fed I f j s x) f (λ h. ListsAll I i h)
         (λ _. record {
           items = are.items;
           rows = λ g. put i f.row_keys x.key (f.shown g) (λ q. if is_at I x g q then x.after else f.shown g q)
@@ -197,7 +197,7 @@ module _ {K V A F C D Q B : Type 0} (S : Service K V A F C D Q B) (law : IsServi
   brought w f _ x agree h = h
 
   -- the feed of every list of entries lists all
-  pub lists_after : (i : ℕ) (es : History S) → Lists (indexed S.core S.index) i (feed_after S es)
+  pub lists_after : (i : ℕ) (es : History S) → ListsAll (indexed S.core S.index) i (feed_after S es)
   unfolding IsStrictlySortedBy
   lists_after i [] =
       record {

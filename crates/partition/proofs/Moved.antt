@@ -17,8 +17,8 @@ use Rattle.local_index.specs.declared.indexes.LocalIndexes.{LocalIndexes}
 use Rattle.prepared_changes.specs.declared.prepared.PreparedChanges.{PreparedChanges}
 use Rattle.prepared_changes.specs.Prepared.{places_in}
 use Rattle.partition.specs.declared.cell.Partition.{Partition}
-use Rattle.partition.specs.declared.plan.CatalogPlan.{CatalogPlan}
-use Rattle.partition.specs.Places.{places_of}
+use Rattle.planned_changes.specs.declared.plan.CatalogPlan.{CatalogPlan}
+use Rattle.planned_changes.specs.Places.{places_of}
 use Rattle.partition.specs.Changes.{Changes, Unchanged}
 use Rattle.partition.specs.Knows.{HeldOrSame, LeftByPrepare, LeftByWrite, kept_at}
 

@@ -26,7 +26,7 @@ use Rattle.item_store.specs.Tables.{slot_in}
 use Rattle.global_index.specs.Rows.{row_in}
 use Rattle.partition.specs.declared.cell.Partition.{Partition}
 use Rattle.partition.specs.Holds.{Holds, slot_for}
-use Rattle.partition.specs.Listed.{Lists}
+use Rattle.partition.specs.Listed.{ListsAll}
 use Rattle.partition.specs.Pages.{AreItemsOrdered, AreRowsOrdered, IsShownInOrder, SaysPage, items_of, listed_for, page_says, paged, rows_of, shown_to}
 use Rattle.partition.proofs.Keeping.{row_back}
 use Rattle.partition.proofs.Listed.{lists_after}
@@ -79,7 +79,7 @@ if_served false x y is = refl
 module _
     {K V A F C D Q B : Type 0} (S : Service K V A F C D Q B) (law : IsServiceLawful S)
     {O : ord.Ghosts K} {E : eq.Ghosts K} {P : partial.Ghosts K} {N : Type 0} {X : ord.Ghosts N} {Y : eq.Ghosts N} {Z : partial.Ghosts N} (order : (x y : K) → S.index.cmp x y ≡ O.cmp x y)
-    (i : ℕ) (c : Partition K V C N O E P X Y Z) (w : State K V A C) (f : Feed K V C) (here : Holds S i c w f) (lists : Lists (indexed S.core S.index) i f) where
+    (i : ℕ) (c : Partition K V C N O E P X Y Z) (w : State K V A C) (f : Feed K V C) (here : Holds S i c w f) (lists : ListsAll (indexed S.core S.index) i f) where
   total : IsTotalOrder S.index.cmp
   total = law.index.feed.ordered
 

@@ -14,11 +14,12 @@ use Rattle.global_index.specs.Marks.{mark_in}
 use Rattle.global_index.specs.Rows.{row_under}
 use Rattle.prepared_changes.specs.Prepared.{prepared_in}
 use Rattle.partition.specs.declared.cell.Partition.{Partition}
-use Rattle.partition.specs.declared.command_rules.TableChange.{TableChange}
-use Rattle.partition.specs.declared.plan.CatalogPlan.{CatalogPlan}
-use Rattle.partition.specs.Commands.{dropped_by, subject}
+use Rattle.planned_changes.specs.declared.command_rules.TableChange.{TableChange}
+use Rattle.planned_changes.specs.declared.plan.CatalogPlan.{CatalogPlan}
+use Rattle.planned_changes.specs.Commands.{dropped_by, subject}
 use Rattle.partition.specs.Holds.{Holds}
-use Rattle.partition.specs.Plans.{IsMade, IsOrderedFor, IsPlan, SameButPlan, brought, closed_by, queued_for}
+use Rattle.planned_changes.specs.Plans.{IsMade, IsOrderedFor, IsPlan, brought, closed_by, queued_for}
+use Rattle.partition.specs.Plans.{IsPlaced, SameButPlan}
 
 module _ {K V A F C D Q B : Type 0} (S : Service K V A F C D Q B) {O : ord.Ghosts K} {E : eq.Ghosts K} {P : partial.Ghosts K} {N : Type 0} {X : ord.Ghosts N} {Y : eq.Ghosts N} {Z : partial.Ghosts N} where
   pub same_but_plan :
@@ -38,20 +39,25 @@ module _ {K V A F C D Q B : Type 0} (S : Service K V A F C D Q B) {O : ord.Ghost
         shown = h.shown;
       }
 
+  pub place_moved :
+      (target : D → C → TableChange) (c e : Partition K V C N O E P X Y Z) (d : D) → SameButPlan c e
+      → IsPlaced (target d c.catalog) c.items.tables → IsPlaced (target d e.catalog) e.items.tables
+  place_moved target c e d same here = subst (λ (y : C × ItemStore K V O E P). IsPlaced (target d y.0) y.1.tables) (λ j. (sym same.catalog j, sym same.items j)) here
+
   module _
       (target : D → C → TableChange) (numbers : C → ℕ → List ℕ) (i : ℕ) (c e : Partition K V C N O E P X Y Z) (d : D) (moment : ℕ) (p : CatalogPlan K V C O E P)
-      (same : SameButPlan c e) (plan : IsPlan S target numbers i c d moment p) where
+      (same : SameButPlan c e) (plan : IsPlan S target numbers i c.catalog c.items d moment p) where
     both : ◌≡◌ {A = C × ItemStore K V O E P} (c.catalog, c.items) (e.catalog, e.items)
     both = λ j. (sym same.catalog j, sym same.items j)
 
-    pub plan_moved : IsPlan S target numbers i e d moment p
+    pub plan_moved : IsPlan S target numbers i e.catalog e.items d moment p
     plan_moved =
         record {
           catalog = plan.catalog ∙ ap (λ y. S.core.change d moment y) (sym same.catalog);
           dropped = plan.dropped ∙ ap (λ y. dropped_by (target d y)) (sym same.catalog);
           closed = plan.closed ∙ ap (λ y. closed_by numbers (subject (target d y)) y p.catalog) (sym same.catalog);
           number = subst (λ (m : ItemStore K V O E P). m.counts.count + m.held + 1 < 2 ^ 64) (sym same.items) plan.number;
-          made = subst (λ (y : C × ItemStore K V O E P). IsMade (target d y.0) (brought S i d y.0 p.catalog (later y.1.counts.floor (single moment)) (y.1.counts.count + 1)) y.1.tables p.made) both plan.made;
+          made = subst (λ (y : C × ItemStore K V O E P). IsMade (target d y.0) (brought S i d y.0 p.catalog (later y.1.counts.floor (single moment)) (y.1.counts.count + 1)) p.made) both plan.made;
           order = subst (λ (y : C × ItemStore K V O E P). IsOrderedFor (target d y.0) y.1.tables) both plan.order;
           changes = plan.changes ∙ ap (λ (y : C × ItemStore K V O E P). queued_for S numbers (target d y.0) y.0 p.catalog y.1.tables p.made) both;
         }

@@ -22,7 +22,7 @@ use Rattle.prepared_changes.specs.declared.change.IndexChanges.{IndexChanges}
 use Rattle.prepared_changes.specs.Prepared.{moves_in, no_moves, prepared_in}
 use Rattle.partition.specs.declared.cell.Partition.{Partition}
 use Rattle.partition.specs.Holds.{Holds, lives}
-use Rattle.partition.specs.Entries.{LocalEntries, entries_at}
+use Rattle.planned_changes.specs.Entries.{LocalEntries, entries_at}
 use Rattle.partition.specs.InStep.{AreInStep, moves_kept}
 use Rattle.partition.specs.Says.{first_feed, first_state}
 

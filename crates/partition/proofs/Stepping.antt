@@ -27,7 +27,8 @@ use Rattle.partition.specs.Stores.{slot_held, slot_let_go, slot_settled, slot_wr
 use Rattle.partition.specs.Changes.{IsUnprepared, set_at}
 use Rattle.partition.specs.Knows.{HeldFor, HeldOrSame, LeftByApply, LeftByPrepare, LeftByRelease, LeftByWrite, kept_at, outcome_at}
 use Rattle.partition.proofs.Keeping.{committed_back, counted_is, holder_is, kept_is, last_is, pending_back, row_is}
-use Rattle.partition.proofs.Changing.{FeedFollows, at_is, changed, moved_to, one_key, same_ready, set_ready, unchanged}
+use Rattle.planned_changes.proofs.Keys.{at_is, one_key}
+use Rattle.partition.proofs.Changing.{FeedFollows, changed, moved_to, same_ready, set_ready, unchanged}
 
 module _ {V : Type 0} where
   pub none_held : (p : Option (Held V)) → holder p ≡ None → p ≡ None

@@ -9,7 +9,7 @@ use Rattle.txn_core.specs.Service.{Service, Event, History}
 use Rattle.txn_core.specs.Cells.{of_cell}
 use Rattle.txn_core.specs.Legal.{IsLegal}
 use Rattle.partition.specs.declared.cell.Partition.{Partition}
-use Rattle.partition.specs.declared.command_rules.TableChange.{TableChange}
+use Rattle.planned_changes.specs.declared.command_rules.TableChange.{TableChange}
 use Rattle.partition.specs.Plans.{IsPlanned}
 use Rattle.partition.specs.Says.{Stands}
 

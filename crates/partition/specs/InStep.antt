@@ -16,7 +16,7 @@ use Rattle.local_index.specs.Items.{AreOf}
 use Rattle.prepared_changes.specs.declared.change.IndexChanges.{IndexChanges}
 use Rattle.prepared_changes.specs.Prepared.{Moves, moves_in, no_moves}
 use Rattle.partition.specs.declared.cell.Partition.{Partition}
-use Rattle.partition.specs.Entries.{LocalEntries, entries_at, moves_by}
+use Rattle.planned_changes.specs.Entries.{LocalEntries, entries_at, moves_by}
 
 module _ {K V C N : Type 0} (L : LocalEntries K V C N) where
   -- the moves of entries that the end of the transaction that holds an item makes, which is this now: none where nobody holds it

@@ -1,5 +1,3 @@
-pub mod Entries
-pub mod Index
 pub mod Stores
 pub mod Holds
 pub mod Says
@@ -13,9 +11,5 @@ pub mod Listed
 pub mod Pages
 pub mod Pendings
 pub mod Holders
-pub mod Commands
-pub mod Places
 pub mod Plans
-pub mod Founding
-pub mod Bringing
 pub mod Carrying

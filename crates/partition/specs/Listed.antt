@@ -12,6 +12,6 @@ module _ {K V C : Type 0} (I : Indexed K V C) where
     pub all : (k : K) → I.cell_of k ≡ i → is_some (row k) ≡ true → list_any (λ x. I.same x k) ks ≡ true
 
   -- a feed lists all items of the cell, and all its rows of each index
-  pub record Lists (i : ℕ) (f : Feed K V C) : Type 0 where
+  pub record ListsAll (i : ℕ) (f : Feed K V C) : Type 0 where
     pub items : AreAllOf i f.row (f.keys i)
     pub rows : (g : ℕ) → AreAllOf i (f.shown g) (f.row_keys i)

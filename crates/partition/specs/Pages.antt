@@ -18,7 +18,7 @@ use Rattle.item_store.specs.declared.table.TableItems.{TableItems}
 use Rattle.item_store.specs.Slots.{row_of}
 use Rattle.partition.specs.declared.cell.Partition.{Partition}
 use Rattle.partition.specs.Holds.{Holds}
-use Rattle.partition.specs.Listed.{Lists}
+use Rattle.partition.specs.Listed.{ListsAll}
 
 module _ {K V : Type 0} where
   -- the committed items among those that a table keeps, in the order of their keys
@@ -74,4 +74,4 @@ module _ {K V A F C D Q B : Type 0} (S : Service K V A F C D Q B) where
     -- of every state and feed that the cell i holds, where the feed lists all that is there, the answer is this
     abbrev pub SaysPage : ℕ → Partition K V C N O E P X Y Z → Q → Reply S → Type 0
     SaysPage i c page a =
-        (w : State K V A C) (f : Feed K V C) → Holds S i c w f → Lists (indexed S.core S.index) i f → a ≡ page_says w f i page
+        (w : State K V A C) (f : Feed K V C) → Holds S i c w f → ListsAll (indexed S.core S.index) i f → a ≡ page_says w f i page

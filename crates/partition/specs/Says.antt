@@ -65,8 +65,8 @@ module _ {K V A F C D Q B : Type 0} (S : Service K V A F C D Q B) where
     Says i c answer a = (w : State K V A C) (f : Feed K V C) → Holds S i c w f → a ≡ answer w f
 
     -- of every state and feed that the cell i holds the answer lists the items that transactions hold
-    abbrev pub Lists : ℕ → Partition K V C N O E P X Y Z → Reply S → Type 0
-    Lists i c a = (w : State K V A C) (f : Feed K V C) → Holds S i c w f → IsPendingList S w i a
+    abbrev pub SaysPendings : ℕ → Partition K V C N O E P X Y Z → Reply S → Type 0
+    SaysPendings i c a = (w : State K V A C) (f : Feed K V C) → Holds S i c w f → IsPendingList S w i a
 
     -- every state and feed that the cell i held, it holds after the message that was answered so
     abbrev pub Leaves : ℕ → Partition K V C N O E P X Y Z → Partition K V C N O E P X Y Z → ℕ → Asked S → Reply S → Type 0

@@ -5,14 +5,14 @@ ghost use Rattle.global_index.specs.Rows.{row_under};
 ghost use Rattle.item_store.specs.Counts.{tally};
 ghost use Rattle.item_store.specs.Changes.{slot_at};
 ghost use Rattle.local_index.specs.Tables.{claim_under};
-ghost use Rattle.partition.specs.Commands.{is_in, is_number};
-ghost use Rattle.partition.specs.Plans.{HasPlace, filled};
+ghost use Rattle.planned_changes.specs.Commands.{is_in, is_number};
+ghost use Rattle.partition.specs.Plans.{HasPlace, filled, HasRoom, LeftByPlan, SameButPlan};
 
 use crate::cell::Partition;
-use crate::plan::{CatalogPlan, MadeTable};
 use global_index::IndexRows;
 use item_store::ItemStore;
 use local_index::LocalIndexes;
+use planned_changes::{CatalogPlan, MadeTable};
 use prepared_changes::queue_all;
 use std::alloc::AllocError as NoMemory;
 
@@ -62,8 +62,6 @@ fn fill_table<K: Ord + Drop, V: Drop>(items: &mut ItemStore<K, V>, made: Option<
 }
 
 impl<K: Ord, V, C, N: Ord> Partition<K, V, C, N> {
-    ghost use Rattle.partition.specs.Plans.{HasRoom, LeftByPlan, SameButPlan};
-
     /// Carries out what is planned, if anything is.
     pub(crate) fn carry_out_plan(&mut self)
     where

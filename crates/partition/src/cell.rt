@@ -2,13 +2,12 @@
 
 ghost use Rattle.std.specs.Prelude.{◌≡◌, ◌+◌, ◌≤◌, length};
 ghost use Rattle.prepared_changes.specs.Prepared.{places_in};
-ghost use Rattle.partition.specs.Places.{places_of};
+ghost use Rattle.planned_changes.specs.Places.{places_of};
 
-use crate::plan::CatalogPlan;
-use crate::rules::CellRules;
 use global_index::{IndexRows, Marks, Outbox};
 use item_store::ItemStore;
 use local_index::LocalIndexes;
+use planned_changes::{CatalogPlan, CellRules};
 use prepared_changes::PreparedChanges;
 use txn_core::Rules;
 

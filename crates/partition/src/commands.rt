@@ -1,16 +1,15 @@
 //! Commands of the catalog, which change all cells at once: each cell plans its part, and when all have, each carries it out.
 
-ghost use Rattle.std.specs.Prelude.{◌≡◌, ℕ, None, OnOk, OnErr};
+ghost use Rattle.std.specs.Prelude.{◌≡◌, ℕ, None, IfOk, OnOk};
 ghost use Rattle.partition.specs.Carrying.{CarriesOut, CarriesOwnOut};
 ghost use Rattle.partition.specs.Changes.{Unchanged};
+ghost use Rattle.planned_changes.specs.Plans.{IsPlan};
 ghost use Rattle.partition.specs.Plans.{IsPlaced, IsPlanned};
 ghost use Rattle.partition.specs.Says.{Keeps};
 
 use crate::cell::PartitionOf;
-use crate::command_rules::{CommandRules, TableChange};
-use crate::planning::plan_of;
-use crate::rules::CellRules;
 use crate::store::open_table;
+use planned_changes::{CatalogPlan, CellRules, CommandRules, TableChange, plan_of};
 use std::alloc::{AllocError as NoMemory, Global};
 
 /// Makes the place of a table that a command makes.
@@ -26,6 +25,28 @@ fn make_place<R: CellRules>(
         TableChange::Makes { number } => open_table(alloc, &mut cell.items, number),
         _ => Ok(()),
     }
+}
+
+/// What a command will do to this cell.
+fn plan_here<R: CommandRules>(
+    alloc: Global,
+    cell: &PartitionOf<R>,
+    here: u32,
+    command: &R::Command,
+    moment: u64,
+) -> Result<CatalogPlan<R::Key, R::Value, R::Catalog>, NoMemory>
+    ensures { IfOk result (λ plan. IsPlan (R.protocol cell.now.partitions) R.target R.numbers here
+        cell.now.catalog cell.now.items command.now moment plan) }
+{
+    plan_of::<R>(
+        alloc,
+        cell.partitions,
+        here,
+        &cell.catalog,
+        &cell.items,
+        command,
+        moment,
+    )
 }
 
 /// Plans a command of the catalog in this cell, whose number is `here`, at a moment: all that carrying it out needs is made and
@@ -46,7 +67,7 @@ pub fn plan_catalog<R: CommandRules>(
 {
     let change = R::on_table(command, &cell.catalog)?;
     make_place::<R>(alloc, cell, change)?;
-    let plan = plan_of::<R>(alloc, cell, here, command, moment)?;
+    let plan = plan_here::<R>(alloc, cell, here, command, moment)?;
     cell.put_plan(plan)
 }
 

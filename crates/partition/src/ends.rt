@@ -9,7 +9,7 @@ ghost use Rattle.partition.specs.Knows.{LeftByApply, LeftByRelease, applied, rel
 ghost use Rattle.partition.specs.Says.{Leaves, Says, apply_says, release_says};
 
 use crate::cell::PartitionOf;
-use crate::rules::CellRules;
+use planned_changes::CellRules;
 use txn_core::{Answer, Reply};
 
 /// Whether the transaction of this number holds the item.

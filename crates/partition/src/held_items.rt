@@ -4,12 +4,12 @@ ghost use Rattle.std.specs.Prelude.{◌≡◌, ◌++◌, ℕ, [], IfOk, OnOk};
 ghost use Rattle.std.specs.BTreeMap.{IsOrdered};
 ghost use Rattle.txn_core.specs.declared.answer.Answer.{Answer};
 ghost use Rattle.partition.specs.Pendings.{AreOrdered, held_in_table, held_items};
-ghost use Rattle.partition.specs.Says.{Lists};
+ghost use Rattle.partition.specs.Says.{SaysPendings};
 
 use crate::cell::PartitionOf;
-use crate::rules::CellRules;
 use base_types::Seq;
 use item_store::{ItemStore, TableItems};
+use planned_changes::CellRules;
 use std::alloc::{AllocError as NoMemory, Global};
 use txn_core::{Answer, HeldItem, Reply};
 
@@ -55,7 +55,7 @@ fn all_held<R: CellRules>(
 /// A Pendings: the items of the cell that transactions hold, each once, with who holds it. It costs a look at the items of
 /// those tables of which some are held.
 pub fn pendings<R: CellRules>(alloc: Global, cell: &PartitionOf<R>) -> Result<Reply<R>, NoMemory>
-    ensures { IfOk result (λ a. (n i : ℕ) → Lists (R.protocol n) i cell.now a) }
+    ensures { IfOk result (λ a. (n i : ℕ) → SaysPendings (R.protocol n) i cell.now a) }
 {
     let held = all_held::<R>(alloc, &cell.items)?;
     Ok(Answer::PendingList {

@@ -17,35 +17,25 @@
 //! [`commit_catalog`] take no memory and have no error: [`prepare`] takes all that the end of its transaction needs.
 #![tactic(auto)]
 
-mod bringing;
 mod carrying;
 mod cell;
-mod changes;
-mod command_rules;
 mod commands;
 mod ends;
 mod feeds;
-mod founding;
 mod held_items;
 mod holds;
 mod in_the_way;
-mod index_changes;
 mod locals;
 mod page_rules;
 mod pages;
-mod plan;
-mod planning;
 mod prepares;
 mod reads;
-mod rules;
-mod served;
 mod start;
 mod steps;
 mod store;
 mod writes;
 
 pub use cell::{Partition, PartitionOf};
-pub use command_rules::{CommandRules, TableChange};
 pub use commands::{abandon_catalog, commit_catalog, plan_catalog};
 pub use ends::{apply, release};
 pub use feeds::{acknowledge, apply_index, peek_out};
@@ -54,12 +44,9 @@ pub use in_the_way::first_holder;
 pub use locals::local_entries;
 pub use page_rules::PageRules;
 pub use pages::page;
-// A contract can name a cell only if the types of its fields are exported.
-#[doc(hidden)]
-pub use plan::{CatalogPlan, MadeTable};
+pub use planned_changes::{CellRules, CommandRules, TableChange};
 pub use prepares::prepare;
 pub use reads::{get, read_version};
-pub use rules::CellRules;
 pub use start::{new, under};
 pub use steps::{is_served, step};
 pub use writes::write;

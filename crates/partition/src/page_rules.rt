@@ -1,8 +1,8 @@
 ghost use Rattle.std.specs.Prelude.{◌≡◌, ℕ, List, nat_eq, filter, IfOk};
 ghost use Rattle.partition.specs.Pages.{committed_among};
 
-use crate::rules::CellRules;
 use item_store::Slot;
+use planned_changes::CellRules;
 use std::alloc::{AllocError as NoMemory, Global};
 use std::collections::BTreeMap;
 

@@ -12,10 +12,9 @@ ghost use Rattle.partition.specs.Knows.{HeldFor, LeftByPrepare, kept_at, outcome
 ghost use Rattle.partition.specs.Says.{Keeps, Leaves, Says, prepare_says};
 
 use crate::cell::PartitionOf;
-use crate::index_changes::index_changes;
 use crate::reads::copy_of_row;
-use crate::rules::CellRules;
 use item_store::Pending;
+use planned_changes::{CellRules, index_changes};
 use std::alloc::{AllocError as NoMemory, Global};
 use txn_core::{Answer, Outcome, Reply, Stamp};
 

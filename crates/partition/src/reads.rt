@@ -6,7 +6,7 @@ ghost use Rattle.partition.specs.Knows.{got, versioned};
 ghost use Rattle.partition.specs.Says.{Says, get_says, version_says};
 
 use crate::cell::PartitionOf;
-use crate::rules::CellRules;
+use planned_changes::CellRules;
 use std::alloc::{AllocError as NoMemory, Global};
 use txn_core::{Answer, Reply, Rules};
 

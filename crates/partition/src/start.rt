@@ -6,10 +6,10 @@ ghost use Rattle.partition.specs.InStep.{IsInStep};
 ghost use Rattle.partition.specs.Says.{Stands, first_feed, first_state};
 
 use crate::cell::{Partition, PartitionOf};
-use crate::rules::CellRules;
 use global_index::{IndexRows, Marks, Outbox};
 use item_store::ItemStore;
 use local_index::LocalIndexes;
+use planned_changes::CellRules;
 use prepared_changes::PreparedChanges;
 use std::alloc::{AllocError as NoMemory, Global};
 

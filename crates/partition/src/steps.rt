@@ -1,6 +1,7 @@
 //! One message of those that a cell answers by itself.
 
 ghost use Rattle.std.specs.Prelude.{◌≡◌, ℕ, true, IfOk, OnErr};
+ghost use Rattle.txn_core.specs.Memory.{takes_no_memory};
 ghost use Rattle.partition.specs.InStep.{StaysInStep};
 ghost use Rattle.partition.specs.Steps.{StepAnswers, StepKeeps, StepStands, is_served};
 
@@ -12,8 +13,8 @@ use crate::page_rules::PageRules;
 use crate::pages::page;
 use crate::prepares::prepare;
 use crate::reads::{get, read_version};
-use crate::rules::CellRules;
 use crate::writes::write;
+use planned_changes::CellRules;
 use std::alloc::{AllocError as NoMemory, Global};
 use txn_core::{Asked, Message, Reply};
 
@@ -47,6 +48,7 @@ pub fn step<R: PageRules>(
     ensures stands { IfOk result (λ a. (n : ℕ) → StepStands (R.protocol n) cell.old cell.new message moment a) }
     ensures err { OnErr result ((n : ℕ) → StepKeeps (R.protocol n) cell.old cell.new message) }
     ensures in_step { (n : ℕ) → StaysInStep (R.protocol n) R.locals cell.old cell.new }
+    ensures sure { takes_no_memory message ≡ true → OnErr result ⊥ }
 {
     match message {
         Message::Get { key } => get::<R>(alloc, cell, &key),

@@ -12,9 +12,8 @@ ghost use Rattle.partition.specs.Knows.{LeftByWrite, kept_at, outcome_at, wrote}
 ghost use Rattle.partition.specs.Says.{Keeps, Leaves, Says, write_says};
 
 use crate::cell::PartitionOf;
-use crate::index_changes::index_changes;
 use crate::reads::copy_of_row;
-use crate::rules::CellRules;
+use planned_changes::{CellRules, index_changes};
 use std::alloc::{AllocError as NoMemory, Global};
 use txn_core::{Answer, Outcome, Reply, Stamp};
 

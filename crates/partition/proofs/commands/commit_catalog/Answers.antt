@@ -8,7 +8,7 @@ returns-clause-all g c = λ n i moment command es e planned is legal here.
     let p = planned.0 in
     stands S (g.met.R.Rules.lawful n) (g.met.R.CommandRules.commands n) command moment es e is legal g.met.R.Key.Ord.total (g.met.R.CellRules.ordered n) i
     c.args.cell.now c.carry_out_plan.new.self p planned.2
-    (c.carry_out_plan.ensures p planned.1 (has_room S g.R.CommandRules.target g.R.CommandRules.numbers i c.args.cell.now command moment p planned.2)) here
+    (c.carry_out_plan.ensures p planned.1 (has_room S g.R.CommandRules.target g.R.CommandRules.numbers i c.args.cell.now command moment p planned.2 planned.3)) here
 
 pub returns-clause-own : goal.returns-clause-own
 returns-clause-own g c = λ n i moment command es e planned is legal here.
@@ -18,5 +18,5 @@ returns-clause-own g c = λ n i moment command es e planned is legal here.
     to_own S law i c.carry_out_plan.new.self (e ∷ es) legal
     (stands S law (g.met.R.CommandRules.commands n) command moment es e is legal g.met.R.Key.Ord.total (g.met.R.CellRules.ordered n) i c.args.cell.now
     c.carry_out_plan.new.self p planned.2
-    (c.carry_out_plan.ensures p planned.1 (has_room S g.R.CommandRules.target g.R.CommandRules.numbers i c.args.cell.now command moment p planned.2))
+    (c.carry_out_plan.ensures p planned.1 (has_room S g.R.CommandRules.target g.R.CommandRules.numbers i c.args.cell.now command moment p planned.2 planned.3))
     (from_own S law i c.args.cell.now es legal.0 here))

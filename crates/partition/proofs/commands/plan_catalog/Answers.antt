@@ -1,8 +1,9 @@
-use Rattle.std.proofs.Common.{◌≡◌, sym, ◌∙◌, subst}
-use Rattle.partition.specs.Plans.{IsPlan}
+use Rattle.std.proofs.Common.{rules, ◌≡◌, sym, ◌∙◌, subst}
+use Rattle.planned_changes.specs.Plans.{IsPlan}
+use Rattle.partition.specs.Plans.{IsPlaced}
 use Rattle.partition.proofs.Changing.{unchanged}
 use Rattle.partition.proofs.Moved.{on_ok_with}
-use Rattle.partition.proofs.Planned.{plan_moved, same_but_plan}
+use Rattle.partition.proofs.Planned.{place_moved, plan_moved, same_but_plan}
 use Rattle.partition.proofs.commands.plan_catalog.Goals as goal
 
 pub returns-clause-planned : goal.returns-clause-planned
@@ -12,12 +13,14 @@ returns-clause-planned g c =
     let target = g.R.CommandRules.target in
     let numbers = g.R.CommandRules.numbers in
     let made = c.make_place.new.cell in
-    let one : made.partitions ≡ n = c.make_place.ensures.kept.beside.partitions ∙ sym is in (
+    let one : made.partitions ≡ n = c.make_place.ensures.kept.beside.partitions ∙ sym is in
+    let placed : IsPlaced (target c.args.command.now made.catalog) made.items.tables = search rules in (
       c.in_ok-plan.plan,
       put,
       plan_moved (g.R.Rules.protocol n) target numbers c.args.here made c.put_plan.new.self c.args.command.now c.args.moment c.in_ok-plan.plan
           c.put_plan.ensures.kept
-          (subst (λ m. IsPlan (g.R.Rules.protocol m) target numbers c.args.here made c.args.command.now c.args.moment c.in_ok-plan.plan) one c.in_ok-plan.ensures),
+          (subst (λ m. IsPlan (g.R.Rules.protocol m) target numbers c.args.here made.catalog made.items c.args.command.now c.args.moment c.in_ok-plan.plan) one c.in_ok-plan.ensures),
+      place_moved (g.R.Rules.protocol n) target made c.put_plan.new.self c.args.command.now c.put_plan.ensures.kept placed,
     ))
 
 pub returns-clause-kept : goal.returns-clause-kept

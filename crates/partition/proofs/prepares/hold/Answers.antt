@@ -5,7 +5,7 @@ use Rattle.item_store.specs.Slots.{holder_of, pending_of, row_of}
 use Rattle.item_store.specs.Changes.{slot_at}
 use Rattle.item_store.specs.Counts.{tally}
 use Rattle.prepared_changes.specs.Prepared.{moves_of, no_moves}
-use Rattle.partition.specs.Entries.{moves_by}
+use Rattle.planned_changes.specs.Entries.{moves_by}
 use Rattle.partition.specs.Changes.{IsUnprepared}
 use Rattle.partition.specs.Knows.{kept_at}
 use Rattle.partition.proofs.Holding.{held_plain, held_with}

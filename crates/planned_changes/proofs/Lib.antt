@@ -1,0 +1,5 @@
+pub mod Basics
+pub mod Keys
+pub mod Adding
+pub mod Foundings
+pub mod BroughtOver

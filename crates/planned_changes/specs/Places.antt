@@ -1,0 +1,12 @@
+-- The places of the outbox that a plan has set aside.
+use Rattle.std.specs.Prelude.{ℕ, length, Option, None, Some}
+use Rattle.std.specs.declared.cmp.Ord as ord
+use Rattle.std.specs.declared.cmp.PartialEq as eq
+use Rattle.std.specs.declared.cmp.PartialOrd as partial
+use Rattle.planned_changes.specs.declared.plan.CatalogPlan.{CatalogPlan}
+
+module _ {K V C : Type 0} {O : ord.Ghosts K} {E : eq.Ghosts K} {P : partial.Ghosts K} where
+  -- one for each change that a plan queues
+  abbrev pub places_of : Option (CatalogPlan K V C O E P) → ℕ
+  places_of None = 0
+  places_of (Some p) = length p.changes.items
