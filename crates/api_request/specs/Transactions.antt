@@ -1,5 +1,5 @@
 -- What the bodies of TransactWriteItems and TransactGetItems state (API Reference: TransactWriteItems, TransactGetItems).
-use Rattle.std.specs.Prelude.{◌≡◌, ◌≤◌, ◌<◌, ◌+◌, ◌⊎◌, ℕ, Bool, map, sum_by, Option, Some, None, unwrap_or, Result, Ok, Err, codes, bytes_eq}
+use Rattle.std.specs.Prelude.{◌≡◌, ◌≤◌, ◌<◌, ◌+◌, ◌⊎◌, ℕ, List, Bool, map, sum_by, Option, Some, None, unwrap_or, Result, Ok, Err, codes, bytes_eq}
 use Rattle.serde_json.specs.Data.{Data, Items, no_items, item}
 use Rattle.attr_value.specs.declared.value.Value.{Value}
 use Rattle.attr_value.specs.Sizes.{size, item_size}
@@ -115,10 +115,14 @@ pub record StatesTransactWrite (d : Data) (r : TransactWrite) : Type 0 where
   pub actions : AreParts action_asks StatesActionIn (list_at name.TransactItems d) (Ok r.actions)
   pub token : r.token ≡ stated_text name.ClientRequestToken d
 
--- actions that are too large together are refused before any of their expressions
+-- the refusal of actions that are too large together
+abbrev pub too_large : Refusal
+too_large = refusal.Body (fault.OutOfRange name.TransactItems)
+
+-- they are refused before any of their expressions
 abbrev pub IsWriteRefused : Items → Refusal → Type 0
 IsWriteRefused ds why =
-    ((most_bytes < total_size ds) × (why ≡ refusal.Body (fault.OutOfRange name.TransactItems)))
+    ((most_bytes < total_size ds) × (why ≡ too_large))
     ⊎ ((total_size ds ≤ most_bytes) × IsFirstRefused (each action_asks ds) why)
 
 abbrev pub IsTransactWrite : Data → Result TransactWrite Refusal → Type 0
@@ -157,3 +161,24 @@ of_code (shown.Check json) = ACheck (view json.now)
 
 abbrev pub value_size : Value → ℕ
 value_size v = size (tree_of v)
+
+-- the size of a change, beside values of this size
+abbrev pub size_beside : ℕ → Change → ℕ
+size_beside n (change.Put new) = item_size new
+size_beside n (change.Update key update) = item_size key + n
+size_beside n (change.Delete key) = item_size key + n
+size_beside n (change.Check key) = item_size key + n
+
+-- the size of an action that was read
+abbrev pub read_size : TransactAction → ℕ
+read_size r = size_beside (sum_by value_size r.values) r.change
+
+-- the actions of a transaction, or the first refusal of them
+abbrev pub AreActions : Items → Result (List TransactAction) Refusal → Type 0
+AreActions ds (Ok rs) = (total_size ds ≤ most_bytes) × AreParts action_asks StatesActionIn ds (Ok rs)
+AreActions ds (Err why) = IsWriteRefused ds why
+
+-- actions that were read stay where they are not too large together
+abbrev pub AreFitting : List TransactAction → Result (List TransactAction) Refusal → Type 0
+AreFitting all (Ok rs) = (rs ≡ all) × (sum_by read_size all ≤ most_bytes)
+AreFitting all (Err why) = (why ≡ too_large) × (most_bytes < sum_by read_size all)

@@ -8,11 +8,11 @@ ghost use Rattle.request_parts.specs.Members.{item_at};
 ghost use Rattle.request_parts.specs.Placeholders.{known};
 ghost use Rattle.request_parts.specs.Ends.{IsToldOf};
 ghost use Rattle.request_parts.specs.Asks.{IsPart};
-ghost use Rattle.api_request.specs.Transactions.{APut, AnUpdate, ADelete, ACheck, action_in, of_code, asks_of, StatesAction, shows_old, size_of, total_size, value_size};
+ghost use Rattle.api_request.specs.Transactions.{APut, AnUpdate, ADelete, ACheck, action_in, of_code, asks_of, StatesAction, shows_old, size_of, total_size, value_size, read_size};
 
 use crate::part::Part;
 use api_form::Name;
-use attr_value::Value;
+use attr_value::{Item, Value};
 use request_parts::{
     Conditional, Placed, Placeholders, RequestEnd, item_at, object_at, read_change, stated_text,
     text_at, values,
@@ -160,14 +160,46 @@ fn action_size(alloc: Global, json: &Json) -> Result<u64, NoMemory>
     }
 }
 
-/// The size of a key and of the values.
+/// The size of a key and of the values that a body states.
 fn keyed_size(alloc: Global, json: &Json) -> Result<u64, NoMemory>
     ensures { let d = view json.now in
         IfOk result (λ n. n ≡ min (item_size (item_at name.Key d) + sum_by size (known d).values) u64.MAX) }
 {
     let key = item_at(alloc, json, Name::Key)?;
     let values = values(alloc, json)?;
-    Ok(key.size().saturating_add(values_size(values.as_slice())))
+    Ok(with_values(&key, values.as_slice()))
+}
+
+/// The size of all actions together that were read, or the most that a number holds.
+#[tactic(auto, using(crate::proofs::Totals::both_add))]
+pub(crate) fn read_total(actions: &[TransactAction]) -> u64
+    ensures { result ≡ min (sum_by read_size actions.now) u64.MAX }
+{
+    let mut total = 0u64;
+    for action in actions {
+        total = total.saturating_add(read_size(action));
+    }
+    total
+}
+
+/// The size of an action that was read: of the item that is put, else of the key and the values.
+fn read_size(action: &TransactAction) -> u64
+    ensures { result ≡ min (read_size action.now) u64.MAX }
+{
+    match &action.change {
+        Change::Put(item) => item.size(),
+        Change::Update { key, update: _ } => with_values(key, action.values.as_slice()),
+        Change::Delete(key) => with_values(key, action.values.as_slice()),
+        Change::Check(key) => with_values(key, action.values.as_slice()),
+    }
+}
+
+/// The size of a key and of values together.
+#[tactic(auto, using(crate::proofs::Totals::both_add))]
+fn with_values(key: &Item, values: &[Value]) -> u64
+    ensures { result ≡ min (item_size key.now + sum_by value_size values.now) u64.MAX }
+{
+    key.size().saturating_add(values_size(values))
 }
 
 /// The size of values together.

@@ -1,17 +1,21 @@
 //! Requests on many items at one point.
 
-ghost use Rattle.serde_json.specs.View.{view};
+ghost use Rattle.std.specs.Prelude.{◌≡◌};
+ghost use Rattle.serde_json.specs.View.{view, items_view};
 ghost use Rattle.request_parts.specs.Ends.{IsToldOf};
-ghost use Rattle.request_parts.specs.Asks.{IsPart};
+ghost use Rattle.request_parts.specs.declared.refusal.RequestEnd.TheVariants as end;
+ghost use Rattle.request_parts.specs.Members.{each};
+ghost use Rattle.request_parts.specs.Asks.{IsPart, IsFirstRefused};
 ghost use Rattle.request_parts.specs.Parts.{projection_asks};
-ghost use Rattle.api_request.specs.Transactions.{StatesGet, IsTransactWrite, IsTransactGet};
+ghost use Rattle.api_request.specs.Transactions.{StatesGet, IsTransactWrite, IsTransactGet, AreActions, AreFitting, action_asks, too_large};
 
-use crate::action::total_size;
+use crate::action::{read_total, total_size};
 use crate::part::{Part, read_parts};
 use api_form::{Fault, Name};
+use base_types::Seq;
 use request_parts::{Projected, Refusal, RequestEnd, list_at, object_at, stated_copy};
 use serde_json::Value;
-use std::alloc::Global;
+use std::alloc::{AllocError as NoMemory, Global};
 use table_request::{TransactAction, TransactGet, TransactRead, TransactWrite};
 
 /// The most bytes of the items, keys and values of a TransactWriteItems.
@@ -22,14 +26,66 @@ const MOST_BYTES: u64 = 4_194_304;
 pub fn transact_write(alloc: Global, json: &Value) -> Result<TransactWrite, RequestEnd>
     ensures { IsToldOf (IsTransactWrite (view json.now)) result }
 {
-    let items = list_at(json, Name::TransactItems);
-    let total = total_size(alloc, items)?;
-    if total > MOST_BYTES {
-        return Err(RequestEnd::Refused(Refusal::Body(Fault::OutOfRange(Name::TransactItems))));
-    }
     let token = stated_copy(alloc, json, Name::ClientRequestToken)?;
-    let actions = read_parts::<TransactAction>(alloc, items)?;
+    let actions = read_actions(alloc, list_at(json, Name::TransactItems))?;
     Ok(TransactWrite { actions, token })
+}
+
+/// The actions that elements state, or why they are refused: they are too large together, or else an expression is refused.
+///
+/// Their size is taken of what was read, so that no item is made twice. Only where an expression is refused, and what is
+/// behind it was not read, is it taken of the JSON.
+fn read_actions(alloc: Global, items: &[Value]) -> Result<Seq<TransactAction>, RequestEnd>
+    ensures { IsToldOf (AreActions (items_view items.now)) result }
+{
+    match read_parts::<TransactAction>(alloc, items) {
+        Ok(actions) => fitting(actions),
+        Err(RequestEnd::Refused(refusal)) => refused(alloc, items, refusal),
+        Err(RequestEnd::NoMemory) => Err(RequestEnd::NoMemory),
+    }
+}
+
+/// The actions, unless they are too large together.
+#[tactic(auto, using(crate::proofs::Totals::fits, crate::proofs::Totals::fits_not))]
+fn fitting(actions: Seq<TransactAction>) -> Result<Seq<TransactAction>, RequestEnd>
+    ensures { IsToldOf (AreFitting actions) result }
+{
+    if read_total(actions.as_slice()) > MOST_BYTES {
+        drop(actions);
+        return Err(too_large());
+    }
+    Ok(actions)
+}
+
+/// Why actions are refused of which this is refused: that they are too large together comes before it.
+#[tactic(auto, using(crate::proofs::Totals::refused_large, crate::proofs::Totals::refused_within))]
+fn refused(
+    alloc: Global,
+    items: &[Value],
+    refusal: Refusal,
+) -> Result<Seq<TransactAction>, RequestEnd>
+    ensures { IsFirstRefused (each action_asks (items_view items.now)) refusal → IsToldOf (AreActions (items_view items.now)) result }
+{
+    match total_size(alloc, items) {
+        Ok(total) => {
+            if total > MOST_BYTES {
+                drop(refusal);
+                return Err(too_large());
+            }
+            Err(RequestEnd::Refused(refusal))
+        }
+        Err(NoMemory) => {
+            drop(refusal);
+            Err(RequestEnd::NoMemory)
+        }
+    }
+}
+
+/// The refusal of actions that are too large together.
+fn too_large() -> RequestEnd
+    ensures { result ≡ end.Refused too_large }
+{
+    RequestEnd::Refused(Refusal::Body(Fault::OutOfRange(Name::TransactItems)))
 }
 
 /// What the body of a TransactGetItems states (API Reference: TransactGetItems), or why the expression of a read is

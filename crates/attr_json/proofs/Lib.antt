@@ -2,6 +2,7 @@ pub mod Numbers
 pub mod Gathering
 pub mod Reading
 pub mod Members
+pub mod Only
 pub mod Loops
 pub mod Writing
 pub mod ReadBack

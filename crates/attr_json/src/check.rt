@@ -44,14 +44,13 @@ fn only_in(
 ) -> Result<Option<JsonFault>, NoMemory>
     ensures { IfOk result (λ fault. fault ≡ fault_in (only_of (members_view members.now.entries) levels)) }
 {
-    let mut entries = members.iter();
-    let Some((name, inner)) = entries.next() else {
+    if members.len() != 1 {
         return Ok(Some(JsonFault::NotOneMember));
-    };
-    let None = entries.next() else {
-        return Ok(Some(JsonFault::NotOneMember));
-    };
-    typed(alloc, name.as_str(), inner, levels)
+    }
+    match members.first_key_value() {
+        Some((name, inner)) => typed(alloc, name.as_str(), inner, levels),
+        None => Ok(Some(JsonFault::NotOneMember)),
+    }
 }
 
 /// The fault of what stands under the name of a type.

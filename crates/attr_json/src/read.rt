@@ -48,14 +48,13 @@ fn value_in(alloc: Global, json: &Json, levels: u32) -> Result<Value, JsonEnd>
 fn only_in(alloc: Global, members: &Map<String, Json>, levels: u32) -> Result<Value, JsonEnd>
     ensures { IsAnswer tree_of (only_of (members_view members.now.entries) levels) result }
 {
-    let mut entries = members.iter();
-    let Some((name, inner)) = entries.next() else {
+    if members.len() != 1 {
         return Err(JsonEnd::Fault(JsonFault::NotOneMember));
-    };
-    let None = entries.next() else {
-        return Err(JsonEnd::Fault(JsonFault::NotOneMember));
-    };
-    typed(alloc, name.as_str(), inner, levels)
+    }
+    match members.first_key_value() {
+        Some((name, inner)) => typed(alloc, name.as_str(), inner, levels),
+        None => Err(JsonEnd::Fault(JsonFault::NotOneMember)),
+    }
 }
 
 /// What stands under the name of a type.

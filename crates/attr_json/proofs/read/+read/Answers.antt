@@ -1,4 +1,4 @@
-use Rattle.std.proofs.Common.{◌≡◌, [], ◌∷◌, ◌++◌, drop, suc, Ok, sym, ap, ◌∙◌, subst, add-one, append_assoc, string_cmp}
+use Rattle.std.proofs.Common.{rules, ◌≡◌, [], ◌∷◌, ◌++◌, drop, suc, Ok, sym, ap, ◌∙◌, subst, add-one, append_assoc, string_cmp}
 use Rattle.std.specs.List.Sorted.{IsStrictlySortedBy}
 use Rattle.std.specs.Map.{keys_of}
 use Rattle.attr_value.specs.Tree.{Attributes}
@@ -13,6 +13,7 @@ use Rattle.attr_json.specs.Answers.{IsAnswer}
 use Rattle.attr_json.specs.Steps.{mapped}
 use Rattle.attr_json.specs.Values.{value_of, only_of, typed, array_value, elements_of, attributes_of}
 use Rattle.attr_json.proofs.Reading.{before, before-none, element_step}
+use Rattle.attr_json.proofs.Only.{first_alone, not_one}
 use Rattle.attr_json.proofs.Members.{Entry, member_step, member_fault, fault_along}
 use Rattle.attr_json.proofs.read.+read.Goals as goal
 
@@ -63,12 +64,22 @@ item_in-loop-name-preserved t c =
           ∙ ap (λ i. Ok i) (ap (λ n. put n (tree_of value) c.loop-name.item) (sym name) ∙ sym c.in_ok-put.ensures.ok),
     )
 
-pub only_in-returns : goal.only_in-returns
-only_in-returns t c =
+pub only_in-returns-then-len-ne1 : goal.only_in-returns-then-len-ne1
+only_in-returns-then-len-ne1 t c = not_one c.args.members.now.entries c.args.levels (λ one. c.if-len-ne1.true (c.len.ensures.len ∙ one))
+
+pub only_in-typed-requires : goal.only_in-typed-requires
+only_in-typed-requires t c =
+    let e : Entry = (c.in-Some.name.now, c.in-Some.inner.now) in
+    let whole : c.args.members.now.entries ≡ e ∷ [] =
+    first_alone c.args.members.now.entries e (sym c.len.ensures.len ∙ c.if-len-ne1.false) c.in-Some.ensures.first in
+    search rules
+
+pub only_in-returns-in-Some : goal.only_in-returns-in-Some
+only_in-returns-in-Some t c =
     let e : Entry = (c.in-Some.name.now, c.in-Some.inner.now) in
     let levels = c.args.levels in
     let whole : c.args.members.now.entries ≡ e ∷ [] =
-    sym c.iter-entries.ensures.rest ∙ c.in-Some.ensures.steps ∙ ap (λ es. e ∷ es) c.in-None.ensures.steps.0 in
+    first_alone c.args.members.now.entries e (sym c.len.ensures.len ∙ c.if-len-ne1.false) c.in-Some.ensures.first in
     subst (λ es. IsAnswer tree_of (only_of (members_view es) levels) c.typed.result) (sym whole)
     (subst (λ n. IsAnswer tree_of (typed n (view e.1) levels) c.typed.result) c.as_str.ensures.value c.typed.ensures)
 
