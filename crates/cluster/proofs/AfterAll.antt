@@ -13,6 +13,7 @@ use Rattle.partition.specs.Says.{Stands}
 use Rattle.control_cell.specs.declared.cell.ControlCell.{ControlCell}
 use Rattle.control_cell.specs.Holding.{Holds}
 use Rattle.cluster.specs.declared.cell.ClusterCell.{ClusterCell}
+use Rattle.cluster.specs.Commanding.{IsControl}
 use Rattle.cluster.specs.Events.{cell_of}
 use Rattle.cluster.specs.Standing.{IsInPlace, IsPartition, StandsFor}
 
@@ -48,6 +49,13 @@ module _ {R K V A F C D Q B : Type 0} (S : Service K V A F C D Q B) {O : ord.Gho
       → IsInPlace S.control i v
   in_place i (ClusterCell.Partition p) es stands = stands.0
   in_place i (ClusterCell.Control c) es stands = stands.0
+
+  -- a cell that stands in the control cell's place is it
+  pub is_control :
+      (i : ℕ) (v : ClusterCell (Partition K V C N O E P X Y Z) (ControlCell R K V A F C D Q B)) (es : History S) → i ≡ S.control
+      → StandsFor S i v es → IsControl v
+  is_control i (ClusterCell.Partition p) es at stands = let below = stands.0 in absurd (omega arith)
+  is_control i (ClusterCell.Control c) es at stands = tt
 
   -- a partition that stands for its entries of a history
   pub partition_stands :

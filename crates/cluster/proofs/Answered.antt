@@ -1,5 +1,6 @@
 -- What the cells answer to a command, and where nothing changes.
-use Rattle.std.proofs.Common.{◌≡◌, ℕ, false, ◌∷◌, None, Some, inl, inr, refl, sym, ap, ◌∙◌, subst}
+use Rattle.std.proofs.Common.{◌≡◌, ℕ, false, List, ◌∷◌, None, Some, inl, inr, refl, sym, ap, ◌∙◌, subst}
+use Rattle.std.specs.Prelude.{Box}
 use Rattle.std.specs.declared.cmp.Ord as ord
 use Rattle.std.specs.declared.cmp.PartialEq as eq
 use Rattle.std.specs.declared.cmp.PartialOrd as partial
@@ -19,10 +20,12 @@ use Rattle.txn_core.proofs.Exports.{cells_answer}
 use Rattle.partition.specs.declared.cell.Partition.{Partition}
 use Rattle.partition.specs.Holds.{Holds as Keeps}
 use Rattle.control_cell.specs.declared.cell.ControlCell.{ControlCell}
+use Rattle.control_cell.specs.declared.commands.CatalogPlan.{CatalogPlan}
+use Rattle.control_cell.specs.Plans.{IsPlan}
 use Rattle.control_cell.specs.Holding.{IsEntry, OthersLeaveIt, is_of_control}
 use Rattle.cluster.specs.declared.cell.ClusterCell.{ClusterCell}
 use Rattle.cluster.specs.Standing.{StandsFor}
-use Rattle.cluster.specs.Commanding.{TellsFirst, own}
+use Rattle.cluster.specs.Commanding.{AllStand, AllStandWith, TellsFirst, own}
 use Rattle.cluster.proofs.Commanded.{of_each}
 
 module _ {K V A F C D Q B : Type 0} (S : Service K V A F C D Q B) where
@@ -48,6 +51,35 @@ module _ {K V A F C D Q B : Type 0} (S : Service K V A F C D Q B) where
     ruling_answers ruling is clear ruled =
         (cells_answer S law es legal moment d (ruling_answer S ruling)).1
         (subst (λ o. IsRuledByCells S (own S es) d moment o (ruling_answer S ruling)) (sym is) (inr (ap (λ r. ruling_answer S r) (sym ruled), clear)))
+
+  -- where the control cell has planned the command: what is refused by its name, what is held up, and what the catalog says
+  module _ (law : IsServiceLawful S) (es : History S) (legal : IsLegal S es) (moment : ℕ) (d : D) (i : ℕ) (at : S.control ≡ i) (plan : CatalogPlan B C) (says : IsPlan S (own S es i).catalog d moment plan) where
+    there : (next : CatalogPlan B C) → plan ≡ next → IsPlan S (own S es S.control).catalog d moment next
+    there next is = subst (λ (z : ℕ × CatalogPlan B C). IsPlan S (own S es z.0).catalog d moment z.1) (λ j. (sym at j, is j)) says
+
+    pub refused_planned : (told : B) → plan ≡ CatalogPlan.Refused told → IsAnswer S es moment (Message.Command d) (Answer.Refused told)
+    refused_planned told is = refused_answers law es legal moment d told (there (CatalogPlan.Refused told) is)
+
+    pub denied_held :
+        (told : B) (n : ℕ) → plan ≡ CatalogPlan.Denied told → TellsFirst S (own S es) d (Some n)
+        → IsAnswer S es moment (Message.Command d) (Answer.Held n)
+    denied_held told n is first = held_answers law es legal moment d n (there (CatalogPlan.Denied told) is).0 first
+
+    pub denied_planned :
+        (told : B) → plan ≡ CatalogPlan.Denied told → TellsFirst S (own S es) d None → IsAnswer S es moment (Message.Command d) (Answer.Refused told)
+    denied_planned told is clear =
+        let h = there (CatalogPlan.Denied told) is in ruling_answers law es legal moment d (Ruling.Refuses told) h.0 clear h.1
+
+    pub carried_held :
+        (told : B) (next : C) (n : ℕ) → plan ≡ CatalogPlan.Carried told next → TellsFirst S (own S es) d (Some n)
+        → IsAnswer S es moment (Message.Command d) (Answer.Held n)
+    carried_held told next n is first = held_answers law es legal moment d n (there (CatalogPlan.Carried told next) is).0 first
+
+    pub carried_planned :
+        (told : B) (next : C) → plan ≡ CatalogPlan.Carried told next → TellsFirst S (own S es) d None
+        → IsAnswer S es moment (Message.Command d) (Answer.Changed told)
+    carried_planned told next is clear =
+        let h = there (CatalogPlan.Carried told next) is in ruling_answers law es legal moment d (Ruling.Carries told) h.0 clear h.1.0
 
   module _ {O : ord.Ghosts K} {E : eq.Ghosts K} {P : partial.Ghosts K} {N : Type 0} {X : ord.Ghosts N} {Y : eq.Ghosts N} {Z : partial.Ghosts N} where
     -- a command that changes nothing leaves what a partition holds
@@ -80,3 +112,10 @@ module _ {K V A F C D Q B : Type 0} (S : Service K V A F C D Q B) where
         let other = ap (λ x. is_of_control S x e.answer) is.message_is ∙ (ap is_changed is.answer_is ∙ same) in
         subst (λ xs. StandsFor {R = R} S {O = O} {E = E} {P = P} {N = N} {X = X} {Y = Y} {Z = Z} i (ClusterCell.Control c) xs) (sym (of_each S i es e over))
         (stands.0, leave (of_cell i es) e c stands.1 other)
+
+    module _ {G : Type 0} where
+      -- with a command that changes nothing all cells stand as they are
+      pub all_left :
+          {R : Type 0} → OthersLeaveIt R S → (cells : List (Box (ClusterCell (Partition K V C N O E P X Y Z) (ControlCell R K V A F C D Q B)) G))
+          (es : History S) (moment : ℕ) (d : D) (a : Reply S) → is_changed a ≡ false → AllStand S cells es → AllStandWith S cells es d moment a
+      all_left leave cells es moment d a same stand e is legal k b at = command_leaves leave k b.value es e moment d a same is legal (stand k b at)

@@ -7,7 +7,7 @@ use Rattle.txn_core.specs.Service.{Service, Event, History}
 use Rattle.txn_core.specs.Legal.{IsLegal, sent_to}
 use Rattle.txn_core.specs.Cells.{of_cell, reaches}
 use Rattle.partition.specs.declared.cell.Partition.{Partition}
-use Rattle.partition.specs.declared.command_rules.TableChange.{TableChange}
+use Rattle.planned_changes.specs.declared.command_rules.TableChange.{TableChange}
 use Rattle.partition.specs.Carrying.{CarriesOwnOut, IsCarriedOut}
 use Rattle.control_cell.specs.declared.cell.ControlCell.{ControlCell}
 use Rattle.control_cell.specs.Holding.{Holds}

@@ -1,6 +1,7 @@
 -- The cells in the order of their numbers, of which one is changed.
-use Rattle.std.proofs.Common.{◌≡◌, ℕ, zero, suc, ◌+◌, ◌<◌, ◌≤◌, List, [], ◌∷◌, Some, length, sym, ap, ◌∙◌, subst, arith}
+use Rattle.std.proofs.Common.{◌≡◌, ℕ, zero, suc, ◌+◌, ◌<◌, ◌≤◌, List, [], ◌∷◌, Some, length, reverse, sym, ap, ◌∙◌, subst, arith}
 use Rattle.std.specs.Prelude.{slice_get, slice_set}
+use Rattle.turnstile.specs.Histories.{at_cell}
 use Rattle.turnstile.proofs.Basics.{Some-injective, Some-ne-None, below_get}
 use Rattle.std.specs.Prelude.{Box, slice_index_or}
 use Rattle.std.proofs.lemmas.Option.{slice_get-get_or}
@@ -9,12 +10,14 @@ use Rattle.std.specs.declared.cmp.PartialEq as eq
 use Rattle.std.specs.declared.cmp.PartialOrd as partial
 use Rattle.txn_core.specs.Service.{Service, Event, History}
 use Rattle.txn_core.specs.Legal.{IsLegal}
-use Rattle.partition.specs.declared.command_rules.TableChange.{TableChange}
+use Rattle.planned_changes.specs.declared.command_rules.TableChange.{TableChange}
 use Rattle.partition.specs.Carrying.{IsCarriedOut}
 use Rattle.txn_core.specs.Cells.{of_cell}
+use Rattle.txn_core.proofs.Exports.{of_cell_reversed}
 use Rattle.partition.specs.declared.cell.Partition.{Partition}
 use Rattle.control_cell.specs.declared.cell.ControlCell.{ControlCell}
 use Rattle.cluster.specs.declared.cell.ClusterCell.{ClusterCell}
+use Rattle.cluster.specs.Events.{cell_of}
 use Rattle.cluster.specs.Standing.{StandsFor}
 use Rattle.cluster.specs.Commanding.{AllStand, AllStandAfter, CarriedBefore, CarriesPlanned, EachSo, HasPlanned, KeepsAll, PlannedBefore, TakesCatalog, own}
 
@@ -60,6 +63,17 @@ module _ {R K V A F C D Q B : Type 0} (S : Service K V A F C D Q B) {O : ord.Gho
       → AllStand S cells es → AllStand S (slice_set cells i b) es
   stand_left cells es i b below is stand =
       one_changed (λ k x. StandsFor S k x.value (of_cell k es)) cells i b (λ k x at apart. stand k x at) (stand i b (lent cells i b below is))
+
+  -- that each stands for its entries in what a pass sees, the oldest first, and the newest first
+  pub each_newest :
+      (cells : List (Box (ClusterCell (Partition K V C N O E P X Y Z) (ControlCell R K V A F C D Q B)) G)) (front : History S)
+      → EachSo cells (λ i b. StandsFor S i b.value (reverse (at_cell cell_of i front))) → AllStand S cells (reverse front)
+  each_newest cells front each i b at = subst (λ es. StandsFor S i b.value es) (sym (of_cell_reversed i front)) (each i b at)
+
+  pub each_oldest :
+      (cells : List (Box (ClusterCell (Partition K V C N O E P X Y Z) (ControlCell R K V A F C D Q B)) G)) (front : History S)
+      → AllStand S cells (reverse front) → EachSo cells (λ i b. StandsFor S i b.value (reverse (at_cell cell_of i front)))
+  each_oldest cells front stand i b at = subst (λ es. StandsFor S i b.value es) (of_cell_reversed i front) (stand i b at)
 
   module _ (target : D → C → TableChange) (numbers : C → ℕ → List ℕ) where
     -- the next partition carries out what it has planned

@@ -9,7 +9,7 @@ use Rattle.txn_core.specs.State.{State}
 use Rattle.txn_core.specs.Legal.{state, IsLegal}
 use Rattle.txn_core.specs.Cells.{of_cell, IsClearThere, IsFirstHolder}
 use Rattle.partition.specs.declared.cell.Partition.{Partition}
-use Rattle.partition.specs.declared.command_rules.TableChange.{TableChange}
+use Rattle.planned_changes.specs.declared.command_rules.TableChange.{TableChange}
 use Rattle.partition.specs.Carrying.{IsCarriedOut}
 use Rattle.partition.specs.Plans.{IsPlanned}
 use Rattle.control_cell.specs.declared.cell.ControlCell.{ControlCell}

@@ -28,7 +28,7 @@ module _ {K V A F C D Q B : Type 0} (S : Service K V A F C D Q B) where
     pub ends : Ends pass_of p.number p.front (event_of p cell m a) q.front
     pub legal : IsLegalLog S q.front
 
-  -- from p to q the pass took one turn for one unit and counted nothing
+  -- from p to q the pass used one unit and counted nothing
   pub record AddsNone (p q : PassView (Event S)) : Type 0 where
     pub pass : q ≡ record p { used = p.used + 1; front = q.front }
     pub trail : Trail pass_of p.number p.front [] q.front

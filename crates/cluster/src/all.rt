@@ -112,7 +112,7 @@ fn carry_out_each<R: CommandRules + PageRules>(
 }
 
 /// Carries a command out, to which this is the catalog afterwards. Where memory is refused all cells stand as before.
-fn carry_out<R: CommandRules + PageRules>(
+pub(crate) fn carry_out<R: CommandRules + PageRules>(
     turnstile: &Turnstile<TableWorld<R>>,
     alloc: Global,
     pass: &Pass<TableWorld<R>>,

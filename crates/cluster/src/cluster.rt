@@ -1,9 +1,11 @@
 //! Partitions and the control cell, each behind a turn.
 
-ghost use Rattle.std.specs.Prelude.{◌≡◌, ◌↔◌, ◌<◌, ◌≤◌, ℕ, true, Some, [], length, slice_get, IfOk, Err};
+ghost use Rattle.std.specs.Prelude.{◌≡◌, ◌≢◌, ◌↔◌, ◌<◌, ◌≤◌, ℕ, true, None, Some, [], length, slice_get, IfOk, Err};
 ghost use Rattle.turnstile.specs.Histories.{IsTimely, Trail, longer, own};
 ghost use Rattle.turnstile.specs.Passes.{first_passes, most_units};
+ghost use Rattle.txn_core.specs.declared.message.Message.{Message};
 ghost use Rattle.txn_core.specs.Legal.{sent_to};
+ghost use Rattle.txn_core.specs.Memory.{takes_no_memory};
 ghost use Rattle.partition.specs.Steps.{is_served};
 ghost use Rattle.control_cell.specs.Holding.{goes_to_control};
 ghost use Rattle.cluster.specs.Events.{moment_of, pass_of};
@@ -13,11 +15,12 @@ ghost use Rattle.cluster.specs.Closing.{AreAfterAll};
 
 use crate::cell::CellOf;
 use crate::closing::{Cells, split};
+use crate::command_step::ask_all;
 use crate::start::first_cells;
 use crate::step::{StepError, ask};
 use crate::world::TableWorld;
 use base_types::Seq;
-use partition::{PageRules, PartitionOf};
+use partition::{CommandRules, PageRules, PartitionOf};
 use std::alloc::{AllocError as NoMemory, Global};
 use std::marker::Model;
 use std::sync::Wait;
@@ -102,7 +105,8 @@ impl<R: PageRules> Cluster<R> {
     }
 
     /// Has a partition answer a message, at the moment of the pass and for one unit of it. The error is [`StepError::Spent`] where no
-    /// unit is left, and else [`StepError::NoMemory`]; then nothing is counted, and the cell is as it was.
+    /// unit is left, and else [`StepError::NoMemory`], which never comes for a message that takes no memory; then nothing is
+    /// counted, and the cell is as it was.
     pub fn step<T: Wait>(
         &self,
         rt: &T,
@@ -122,6 +126,7 @@ impl<R: PageRules> Cluster<R> {
         ensures no_memory { result ≡ Err StepError.NoMemory → AddsNone (R.protocol (partitions_of self.now)) pass.old pass.new }
         ensures spent { result ≡ Err StepError.Spent ↔ (pass.old.used ≡ most_units) }
         ensures unchanged { result ≡ Err StepError.Spent → pass.new ≡ pass.old }
+        ensures sure { takes_no_memory message ≡ true → result ≢ Err StepError.NoMemory }
     {
         ask(&self.turnstile, rt, alloc, pass, cell, message)
     }
@@ -145,8 +150,31 @@ impl<R: PageRules> Cluster<R> {
         ensures no_memory { result ≡ Err StepError.NoMemory → AddsNone (R.protocol (partitions_of self.now)) pass.old pass.new }
         ensures spent { result ≡ Err StepError.Spent ↔ (pass.old.used ≡ most_units) }
         ensures unchanged { result ≡ Err StepError.Spent → pass.new ≡ pass.old }
+        ensures sure { takes_no_memory message ≡ true → result ≢ Err StepError.NoMemory }
     {
         ask(&self.turnstile, rt, alloc, pass, self.partitions(), message)
+    }
+
+    /// Has all cells answer a command, at the moment of the pass and for one unit of it. The turns of all cells are taken, in their order;
+    /// the command is refused by its name, else held up by a transaction that holds an item of its table, else refused by the catalog, or
+    /// carried out in all cells. The errors are those of [`step`](Cluster::step).
+    pub fn step_all<T: Wait>(
+        &self,
+        rt: &T,
+        alloc: Global,
+        pass: &mut Pass<TableWorld<R>>,
+        command: R::Command,
+    ) -> Result<Reply<R>, StepError>
+    where
+        R: CommandRules,
+        requires of { pass.old.turnstile ≡ self.now.id }
+        requires free { pass.old.turns ≡ [] }
+        ensures ok { IfOk result (λ a. Adds (R.protocol (partitions_of self.now)) pass.old None (Message.Command command) a pass.new) }
+        ensures no_memory { result ≡ Err StepError.NoMemory → AddsNone (R.protocol (partitions_of self.now)) pass.old pass.new }
+        ensures spent { result ≡ Err StepError.Spent ↔ (pass.old.used ≡ most_units) }
+        ensures unchanged { result ≡ Err StepError.Spent → pass.new ≡ pass.old }
+    {
+        ask_all(&self.turnstile, rt, alloc, pass, &command)
     }
 
     /// The cells after all steps. It takes no memory.

@@ -3,10 +3,10 @@
 //! A [`Cluster`] has some partitions, the cells from 0 on, and after them the control cell. Threads that work on it have a
 //! [`Pass`](turnstile::Pass) each. A step takes the turn of one cell, has it answer a message, and counts an entry. What the layer above can rely on:
 //!
-//! - [`Cluster::step`] and [`Cluster::step_ledger`] add one own entry, of the message and its answer at the pass's moment, at the
-//!   end of a history that is legal by the protocol of transactions (`txn_core`), and in which others' entries alone came in
-//!   since the pass looked last. So the laws of `txn_core` hold of what the pass has then seen. Where they answer an error they
-//!   add nothing.
+//! - [`Cluster::step`], [`Cluster::step_ledger`] and, of a command over all cells, [`Cluster::step_all`] add one own entry, of the
+//!   message and its answer at the pass's moment, at the end of a history that is legal by the protocol of transactions
+//!   (`txn_core`), and in which others' entries alone came in since the pass looked last. So the laws of `txn_core` hold of what
+//!   the pass has then seen. Where they answer an error they add nothing.
 //! - [`Cluster::meet`] lets two passes see what the other had seen, and [`Cluster::close`] gives the cells after the one history
 //!   that begins with what each pass has seen.
 //!
@@ -14,9 +14,11 @@
 #![tactic(auto)]
 
 mod all;
+mod answering;
 mod cell;
 mod closing;
 mod cluster;
+mod command_step;
 mod commanding;
 mod serve;
 mod start;

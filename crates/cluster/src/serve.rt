@@ -1,6 +1,7 @@
 //! One message at the cell that it goes to.
 
-ghost use Rattle.std.specs.Prelude.{ℕ, IfOk, OnErr};
+ghost use Rattle.std.specs.Prelude.{◌≡◌, ℕ, true, IfOk, OnErr};
+ghost use Rattle.txn_core.specs.Memory.{takes_no_memory};
 ghost use Rattle.cluster.specs.Serving.{ServeAnswers, ServeKeeps, ServeStands, Serves};
 
 use crate::cell::{CellOf, ClusterCell};
@@ -22,6 +23,7 @@ where
     ensures answers { IfOk result (λ a. (n : ℕ) → ServeAnswers (R.protocol n) cell.old message moment a) }
     ensures stands { IfOk result (λ a. (n : ℕ) → ServeStands (R.protocol n) cell.old cell.new message moment a) }
     ensures err { OnErr result ((n : ℕ) → ServeKeeps (R.protocol n) cell.old cell.new message) }
+    ensures sure { takes_no_memory message ≡ true → OnErr result ⊥ }
 {
     own_entries_tell_it::<R>();
     unchanged_holds::<R>();

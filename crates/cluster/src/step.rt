@@ -1,11 +1,12 @@
 //! One step: the turn of a cell is taken, the cell answers a message, and the entry is counted.
 
-ghost use Rattle.std.specs.Prelude.{◌≡◌, ◌↔◌, ◌+◌, ◌≤◌, true, false, Some, [], ◌∷◌, reverse, IfOk, Err};
+ghost use Rattle.std.specs.Prelude.{◌≡◌, ◌≢◌, ◌↔◌, ◌+◌, ◌≤◌, true, false, Some, [], ◌∷◌, reverse, IfOk, Err};
 ghost use Rattle.turnstile.specs.Histories.{Ends, IsTimely, at_cell};
 ghost use Rattle.turnstile.specs.Kept.{ticket};
 ghost use Rattle.turnstile.specs.Passes.{most_units};
 ghost use Rattle.txn_core.specs.Cells.{of_cell};
 ghost use Rattle.txn_core.specs.Legal.{sent_to};
+ghost use Rattle.txn_core.specs.Memory.{takes_no_memory};
 ghost use Rattle.cluster.specs.Events.{cell_of, event_of, moment_of, pass_of};
 ghost use Rattle.cluster.specs.World.{IsLegalLog};
 ghost use Rattle.cluster.specs.Standing.{StandsFor};
@@ -66,8 +67,8 @@ fn count<E: EntryOf<TableWorld<R>, Event<R>>, R: PageRules>(
     turnstile.commit_entry::<E>(pass, turn);
 }
 
-// Tells what holds of a pass.
-fn facts<R: PageRules>(turnstile: &Turnstile<TableWorld<R>>, pass: &Pass<TableWorld<R>>)
+/// Tells what holds of a pass.
+pub(crate) fn facts<R: PageRules>(turnstile: &Turnstile<TableWorld<R>>, pass: &Pass<TableWorld<R>>)
     requires { pass.now.turnstile ≡ turnstile.now.id }
     ensures legal { IsLegalLog (R.protocol (partitions_of turnstile.now)) pass.now.front }
     ensures timely { IsTimely pass_of moment_of pass.now.number pass.now.moment pass.now.front }
@@ -97,6 +98,7 @@ where
     ensures no_memory { result ≡ Err StepError.NoMemory → AddsNone (R.protocol (partitions_of turnstile.now)) pass.old pass.new }
     ensures spent { result ≡ Err StepError.Spent ↔ (pass.old.used ≡ most_units) }
     ensures unchanged { result ≡ Err StepError.Spent → pass.new ≡ pass.old }
+    ensures sure { takes_no_memory message ≡ true → result ≢ Err StepError.NoMemory }
 {
     let Ok(mut turn) = turnstile.enter(pass, rt, cell) else {
         return Err(StepError::Spent);

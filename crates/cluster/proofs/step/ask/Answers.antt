@@ -1,4 +1,4 @@
-use Rattle.std.proofs.Common.{◌-◌, ◌+◌, [], ◌∷◌, ap, ◌∙◌}
+use Rattle.std.proofs.Common.{◌-◌, ◌+◌, [], ◌∷◌, Some, ap, ◌∙◌}
 use Rattle.turnstile.specs.Kept.{ticket}
 use Rattle.cluster.proofs.Counting.{added}
 use Rattle.cluster.proofs.Serving.{serves}
@@ -42,6 +42,6 @@ pub returns-in-Ok-serve-clause-ok : goal.returns-in-Ok-serve-clause-ok
 returns-in-Ok-serve-clause-ok g c =
     let n = c.args.turnstile.now.id.slots in
     let S = g.R.Rules.protocol (n - 1) in
-    added S c.args.pass.now c.enter.new.pass c.count.new.pass c.leave.new.pass (ticket c.args.cell c.in-Ok.turn.number ∷ []) c.in-Ok.turn.cell
-    c.args.cell c.of-asked.result.value c.args.message c.in-Ok-serve.answer c.in-Ok.ensures.turn.0 c.of-asked.ensures c.requires.free
+    added S c.args.pass.now c.enter.new.pass c.count.new.pass c.leave.new.pass (ticket c.args.cell c.in-Ok.turn.number ∷ []) (Some c.in-Ok.turn.cell)
+    (Some c.args.cell) c.of-asked.result.value c.args.message c.in-Ok-serve.answer (ap Some c.in-Ok.ensures.turn.0) c.of-asked.ensures c.requires.free
     c.in-Ok.ensures.pass c.count.ensures.pass c.leave.ensures c.in-Ok.ensures.trail c.count.ensures.ends c.facts-in-Ok-serve.ensures.legal
