@@ -1,0 +1,43 @@
+use Rattle.std.proofs.Common.{◌-◌, ◌+◌, sym, ap, ◌∙◌, subst}
+use Rattle.txn_core.specs.Driver.{course_left}
+use Rattle.coordinator.specs.Drives.{Ends}
+use Rattle.coordinator.proofs.Closing.{ends_closed, ends_failed, ends_stopped, given_up_goes_on}
+use Rattle.coordinator.proofs.run.drive_on.Goals as goal
+
+pub returns-in-Err-clause-ends : goal.returns-in-Err-clause-ends
+returns-in-Err-clause-ends g c =
+    let S = g.R.Rules.protocol (c.args.cluster.now.id.slots - 1) in
+    let d = c.args.driver in
+    subst (λ end. Ends S (course_left d.course + 1) c.args.pass.now d c.take_steps.new.pass end) (sym c.given_up.ensures)
+    (ends_failed S c.args.pass.now c.take_steps.new.pass d c.in-Err.error c.in-Err.ensures.err)
+
+pub returns-in-Err-clause-stopped : goal.returns-in-Err-clause-stopped
+returns-in-Err-clause-stopped g c = λ e. absurd (given_up_goes_on c.in-Err.error (sym c.given_up.ensures ∙ e))
+
+pub close-requires-clause-of : goal.close-requires-clause-of
+close-requires-clause-of g c = ap (λ z. z.turnstile) c.in-Ok.ensures.ok.added.pass ∙ c.requires.of
+
+pub close-requires-clause-free : goal.close-requires-clause-free
+close-requires-clause-free g c = ap (λ z. z.turns) c.in-Ok.ensures.ok.added.pass ∙ c.requires.free
+
+pub close-requires-clause-driver : goal.close-requires-clause-driver
+close-requires-clause-driver g c = c.in-Ok.ensures.ok.knows
+
+pub close-requires-clause-end : goal.close-requires-clause-end
+close-requires-clause-end g c = c.in-Ok.ensures.ended c.in-Go.is
+
+pub returns-in-Go-clause-ends : goal.returns-in-Go-clause-ends
+returns-in-Go-clause-ends g c =
+    ends_closed (g.R.Rules.protocol (c.args.cluster.now.id.slots - 1)) c.args.pass.now c.take_steps.new.pass c.args.driver c.close.new.pass
+    c.take_steps.new.driver c.close.result c.in-Ok.ensures.ok c.close.ensures.ends
+
+pub returns-in-Go-clause-stopped : goal.returns-in-Go-clause-stopped
+returns-in-Go-clause-stopped g c = λ e. absurd (c.close.ensures.not_stopped e)
+
+pub returns-in-Stop-clause-ends : goal.returns-in-Stop-clause-ends
+returns-in-Stop-clause-ends g c =
+    ends_stopped (g.R.Rules.protocol (c.args.cluster.now.id.slots - 1)) c.args.pass.now c.take_steps.new.pass c.args.driver c.take_steps.new.driver
+    c.in-Ok.ensures.ok (c.in-Ok.ensures.there c.in-Stop.is)
+
+pub returns-in-Stop-clause-stopped : goal.returns-in-Stop-clause-stopped
+returns-in-Stop-clause-stopped g c = λ _. c.in-Ok.ensures.stopped c.in-Stop.is

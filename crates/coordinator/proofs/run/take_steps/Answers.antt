@@ -1,0 +1,48 @@
+use Rattle.std.proofs.Common.{◌-◌, sym, ap, ◌∙◌, subst, arith}
+use Rattle.coordinator.specs.Driving.{Fails}
+use Rattle.coordinator.proofs.Driven.{fails_on, goes_on, handed_on, rests}
+use Rattle.coordinator.proofs.run.take_steps.Goals as goal
+
+pub loop-point-init : goal.loop-point-init
+loop-point-init g c =
+    record {
+      advances = rests (g.R.Rules.protocol (c.args.cluster.now.id.slots - 1)) c.args.pass.now c.args.driver.now c.requires.driver;
+      later = omega arith;
+    }
+
+pub advance-requires-clause-of : goal.advance-requires-clause-of
+advance-requires-clause-of g c = ap (λ z. z.turnstile) c.loop-point.invariant.advances.added.pass ∙ c.requires.of
+
+pub advance-requires-clause-free : goal.advance-requires-clause-free
+advance-requires-clause-free g c = ap (λ z. z.turns) c.loop-point.invariant.advances.added.pass ∙ c.requires.free
+
+pub advance-requires-clause-driver : goal.advance-requires-clause-driver
+advance-requires-clause-driver g c = c.loop-point.invariant.advances.knows
+
+pub loop-point-preserved : goal.loop-point-preserved
+loop-point-preserved g c =
+    let inv = c.loop-point.invariant in
+    let before = inv.later in
+    let now = c.is_stopped.ensures.later in
+    record {
+      advances =
+          goes_on (g.R.Rules.protocol (c.args.cluster.now.id.slots - 1)) c.args.pass.now c.loop-point.pass c.advance.new.pass c.args.driver.now
+          c.loop-point.driver c.advance.new.driver inv.advances c.in_ok-point.ensures.ok;
+      later = omega arith;
+    }
+
+pub returns-then-is_stopped-clause-ok : goal.returns-then-is_stopped-clause-ok
+returns-then-is_stopped-clause-ok g c =
+    goes_on (g.R.Rules.protocol (c.args.cluster.now.id.slots - 1)) c.args.pass.now c.loop-point.pass c.advance.new.pass c.args.driver.now
+    c.loop-point.driver c.advance.new.driver c.loop-point.invariant.advances c.in_ok-point.ensures.ok
+
+pub returns-in_err-point-clause-err : goal.returns-in_err-point-clause-err
+returns-in_err-point-clause-err g c =
+    let S = g.R.Rules.protocol (c.args.cluster.now.id.slots - 1) in
+    let p = c.args.pass.now in
+    let q = c.advance.new.pass in
+    let d = c.args.driver.now in
+    let v = c.in_err-point.field-0.0 in
+    handed_on c.from_residual.result (λ e. Fails S p d e q) _ c.from_residual.ensures.1
+    (λ e same. subst (λ z. Fails S p d z q) (sym same)
+    (fails_on S p c.loop-point.pass q d c.loop-point.driver v c.loop-point.invariant.advances c.in_err-point.ensures.err))
