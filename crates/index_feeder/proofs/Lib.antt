@@ -1,0 +1,3 @@
+mod Fed
+mod Made
+mod Drained

@@ -1,0 +1,83 @@
+//! One feed of a partition.
+
+ghost use Rattle.std.specs.Prelude.{◌≡◌, ◌<◌, [], IfOk, IfErr, Err};
+ghost use Rattle.turnstile.specs.Passes.{most_units};
+ghost use Rattle.cluster.specs.Steps.{partitions_of};
+ghost use Rattle.cluster.specs.declared.step.StepError.{StepError};
+ghost use Rattle.index_feeder.specs.Feeds.{Feeds, FeedsPartly};
+
+use cluster::{Cluster, StepError, TableWorld};
+use own_entries::ask;
+use partition::PageRules;
+use std::alloc::Global;
+use std::sync::Wait;
+use turnstile::Pass;
+use txn_core::{Answer, Message};
+
+/// What became of one feed.
+#[derive(Clone, Copy, Debug, PartialEq, Eq)]
+pub enum Feed {
+    /// The first change of the outbox was applied and acknowledged.
+    Fed,
+    /// The outbox was empty.
+    Empty,
+}
+
+/// Feeds the first change in a partition's outbox: it is shown, applied in the cell where its row lives, and acknowledged, for one
+/// unit each. Where the outbox is empty one unit is used.
+///
+/// The errors are those of [`step`](Cluster::step): [`StepError::Spent`] where no unit is left. A change that was shown and not
+/// acknowledged then is fed again by the next feed of the partition, whoever's it is.
+pub fn feed_one<R: PageRules, T: Wait>(
+    cluster: &Cluster<R>,
+    rt: &T,
+    alloc: Global,
+    pass: &mut Pass<TableWorld<R>>,
+    cell: u32,
+) -> Result<Feed, StepError>
+where
+    R::Fault: Copy,
+    requires of { pass.old.turnstile ≡ cluster.now.id }
+    requires free { pass.old.turns ≡ [] }
+    requires cell { cell < partitions_of cluster.now }
+    ensures ok { IfOk result (λ feed. Feeds (R.protocol (partitions_of cluster.now)) pass.old cell feed pass.new) }
+    ensures err { IfErr result (λ why. FeedsPartly (R.protocol (partitions_of cluster.now)) pass.old cell why pass.new) }
+    ensures spent { pass.old.used ≡ most_units → result ≡ Err StepError.Spent }
+{
+    let shown = ask(
+        cluster,
+        rt,
+        alloc,
+        pass,
+        cell,
+        Message::PeekOut { source: cell },
+    )?;
+    match shown {
+        Answer::Out {
+            sequence,
+            index,
+            target,
+            row_key,
+            after,
+        } => {
+            let message = Message::ApplyIndex {
+                source: cell,
+                sequence,
+                index,
+                row_key,
+                after,
+            };
+            let applied = ask(cluster, rt, alloc, pass, target, message)?;
+            drop(applied);
+            let message = Message::Ack {
+                source: cell,
+                sequence,
+            };
+            let acknowledged = ask(cluster, rt, alloc, pass, cell, message)?;
+            drop(acknowledged);
+            Ok(Feed::Fed)
+        }
+        Answer::Empty => Ok(Feed::Empty),
+        _ => unreachable!(),
+    }
+}
