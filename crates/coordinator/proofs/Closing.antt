@@ -1,5 +1,5 @@
 -- How a drive ends.
-use Rattle.std.proofs.Common.{◌≡◌, ◌⊎◌, inl, inr, ℕ, ◌+◌, ◌*◌, ◌≤◌, true, false, ◌||◌, List, [], ◌∷◌, ◌++◌, length, reverse, Option, None, Some, IfSome, IfNone, refl, sym, ap, ◌∙◌, subst, arith, eq-eqb, length-append}
+use Rattle.std.proofs.Common.{◌≡◌, ◌≢◌, ◌⊎◌, inl, inr, ℕ, ◌+◌, ◌*◌, ◌≤◌, true, false, ◌||◌, List, [], ◌∷◌, ◌++◌, length, reverse, Option, None, Some, IfSome, IfNone, refl, sym, ap, ◌∙◌, subst, arith, eq-eqb, length-append}
 use Rattle.std.specs.List.{list_all}
 use Rattle.std.proofs.lemmas.Bool.{cond_both}
 use Rattle.std.proofs.lemmas.List.{append-nil, append_assoc}
@@ -18,13 +18,14 @@ use Rattle.txn_core.specs.Serial.{begun_actions}
 use Rattle.txn_core.specs.Service.{Service, IsServiceLawful, Event, History}
 use Rattle.txn_core.proofs.Exports.{beginning_is_tail, begun_stays, had_stays, left, ended as course_ended, reasons_recalled}
 use Rattle.cluster.specs.declared.step.StepError.{StepError}
+use Rattle.own_entries.proofs.Counting.{counts_none}
 use Rattle.cluster.specs.Events.{event_of}
 use Rattle.coordinator.specs.declared.driver.Driver.{Driver}
 use Rattle.coordinator.specs.declared.drive_end.DriveEnd.{DriveEnd}
 use Rattle.coordinator.specs.declared.record.Record.{Record}
 use Rattle.coordinator.specs.Driving.{is_gone, is_driving, is_done, finds_none, IsNext, AllDrive, found_none, ended, sent_done, FoundGone, IsDriver, DrivenBy, Advances, Fails, Recalls, FindsNone, Misses, Begins, recalled as recalled_by}
 use Rattle.coordinator.specs.Drives.{is_none, cancelled, given_up, IsCancelled, IsEnd, Ends, Drives}
-use Rattle.coordinator.proofs.Moving.{added_on, each_append, stays, with_spare}
+use Rattle.coordinator.proofs.Moving.{added_after, added_by, each_append, exactly, until_added, until_exact, until_spent}
 use Rattle.coordinator.proofs.Driven.{any_back, any_front, found_on, none_both}
 use Rattle.coordinator.proofs.Finishing.{some_weaker}
 
@@ -43,6 +44,11 @@ module _ {V F : Type 0} where
   pub given_up_goes_on : (error : StepError) → given_up {V = V} {F = F} error ≡ DriveEnd.Stopped → ⊥
   given_up_goes_on StepError.Spent e = cc
   given_up_goes_on StepError.NoMemory e = cc
+
+  -- an end without want of memory is of a step that had memory
+  pub remembers : (error : StepError) → given_up {V = V} {F = F} error ≢ DriveEnd.NoMemory → error ≢ StepError.NoMemory
+  remembers StepError.Spent sure e = cc
+  remembers StepError.NoMemory sure e = sure refl
 
 module _ {K V A F C D Q B : Type 0} (S : Service K V A F C D Q B) where
   -- the end of a cancel with these reasons
@@ -76,7 +82,8 @@ module _ {K V A F C D Q B : Type 0} (S : Service K V A F C D Q B) where
     at_once end is =
         record {
           own = [];
-          added = stays S 1 p p refl;
+          added = added_by S 1 0 p [] p (omega arith) (counts_none S p);
+          exact = λ _. exactly S p [] p (counts_none S p);
           each = tt;
           few = omega arith;
           is = λ older h. subst (λ xs. IsEnd S p d.number xs end) (sym (append-nil older)) (is older h);
@@ -125,7 +132,8 @@ module _ {K V A F C D Q B : Type 0} (S : Service K V A F C D Q B) where
           let still = begun_stays S law (e ∷ h.later.newer) (reverse p.front) h.later.legal n d.stamp is.actions is.begun in
           record {
             own = e ∷ [];
-            added = with_spare S p q (e ∷ []) h.added;
+            added = added_by S 1 0 p (e ∷ []) q (omega arith) h.added;
+            exact = λ _. exactly S p (e ∷ []) q h.added;
             each = (eq-eqb n n refl, tt);
             few = omega arith;
             is = λ older by.
@@ -149,7 +157,8 @@ module _ {K V A F C D Q B : Type 0} (S : Service K V A F C D Q B) where
           let e : Event S = event_of p h.cell (Message.Recall n) Answer.Unknown in
           record {
             own = e ∷ [];
-            added = with_spare S p q (e ∷ []) h.added;
+            added = added_by S 1 0 p (e ∷ []) q (omega arith) h.added;
+            exact = λ _. exactly S p (e ∷ []) q h.added;
             each = (eq-eqb n n refl, tt);
             few = omega arith;
             is = λ older by. record {
@@ -163,13 +172,14 @@ module _ {K V A F C D Q B : Type 0} (S : Service K V A F C D Q B) where
           let n = d.number in
           record {
             own = h.own;
-            added = h.added;
+            added = until_added S p h.own q error h.added;
+            exact = λ sure. until_exact S p h.own q error h.added (remembers error sure);
             each = h.each;
             few = h.few;
             is = λ older by.
                 given_up_end q n (older ++ h.own) error
                 (none_both (λ x. finds_none n x.message x.answer) older h.own (none_gone older by) h.there)
-                (λ _. inr (any_front (λ x. is_done n x.message) older h.own (done older by))) h.spent;
+                (λ _. inr (any_front (λ x. is_done n x.message) older h.own (done older by))) (until_spent S p h.own q error h.added);
           }
 
   -- the ends of a driver that went on
@@ -179,10 +189,13 @@ module _ {K V A F C D Q B : Type 0} (S : Service K V A F C D Q B) where
         let few = h.few in
         record {
           own = h.own;
-          added = h.added;
+          added = until_added S p h.own q error h.added;
+          exact = λ sure. until_exact S p h.own q error h.added (remembers error sure);
           each = h.each;
           few = omega arith;
-          is = λ older by. given_up_end q d.number (older ++ h.own) error (h.there older by) (λ e. inl (h.early e older by)) h.spent;
+          is = λ older by.
+              given_up_end q d.number (older ++ h.own) error (h.there older by) (λ e. inl (h.early e older by))
+              (until_spent S p h.own q error h.added);
         }
 
     pub ends_stopped : (e : Driver A V F) → Advances S p d q e → is_gone e.fate ≡ false → Ends S (course_left d.course + 1) p d q DriveEnd.Stopped
@@ -190,7 +203,8 @@ module _ {K V A F C D Q B : Type 0} (S : Service K V A F C D Q B) where
         let fewer = h.fewer in
         record {
           own = h.own;
-          added = with_spare S p q h.own h.added;
+          added = added_by S 1 0 p h.own q (omega arith) h.added;
+          exact = λ _. exactly S p h.own q h.added;
           each = h.each;
           few = omega arith;
           is = λ older by. record {
@@ -206,9 +220,11 @@ module _ {K V A F C D Q B : Type 0} (S : Service K V A F C D Q B) where
         let fewer = one.fewer in
         let few = two.few in
         let long = length-append one.own two.own in
+        let units = one.added.units in
         record {
           own = one.own ++ two.own;
-          added = added_on S 0 1 p q r one.own two.own one.added two.added;
+          added = added_after S 1 p q r one.own two.own one.added two.added;
+          exact = λ sure. (let later = two.exact sure in omega arith);
           each = each_append (λ x. is_driving d.number x.message ≡ true) one.own two.own one.each (subst (λ k. AllDrive S k two.own) one.same two.each);
           few = omega arith;
           is = λ older by.
@@ -223,7 +239,8 @@ module _ {K V A F C D Q B : Type 0} (S : Service K V A F C D Q B) where
         let e : Event S = event_of p h.cell (Message.Recall n) Answer.Unknown in
         record {
           own = e ∷ [];
-          added = with_spare S p q (e ∷ []) h.added;
+          added = added_by S 1 0 p (e ∷ []) q (omega arith) h.added;
+          exact = λ _. exactly S p (e ∷ []) q h.added;
           each = (eq-eqb n n refl, tt);
           few = omega arith;
           is = record { gone = sym (ap (λ b. b || false) (eq-eqb n n refl)); cause = tt };
@@ -234,14 +251,15 @@ module _ {K V A F C D Q B : Type 0} (S : Service K V A F C D Q B) where
         let few = h.few in
         record {
           own = h.own;
-          added = h.added;
+          added = until_added S p h.own q error h.added;
+          exact = λ sure. until_exact S p h.own q error h.added (remembers error sure);
           each = h.each;
           few = omega arith;
-          is = given_up_end q n h.own error h.there (λ _. inl h.early) h.spent;
+          is = given_up_end q n h.own error h.there (λ _. inl h.early) (until_spent S p h.own q error h.added);
         }
 
   -- a course has at most two moves an action left, and two more
-  few_left : (told : Told) → moves_left told ≤ 2 * told.actions + 2
+  pub few_left : (told : Told) → moves_left told ≤ 2 * told.actions + 2
   few_left told = at_fate told.fate
     where
       at_fate : (f : Fate) → moves_at f told ≤ 2 * told.actions + 2
@@ -269,9 +287,11 @@ module _ {K V A F C D Q B : Type 0} (S : Service K V A F C D Q B) where
       let few = one.few in
       let more = two.few in
       let long = length-append one.own two.own in
+      let units = one.added.units in
       record {
         own = one.own ++ two.own;
-        added = added_on S 0 1 p q r one.own two.own one.added two.added;
+        added = added_after S 1 p q r one.own two.own one.added two.added;
+        exact = λ sure. (let later = two.exact sure in omega arith);
         each = each_append (λ x. is_driving n x.message ≡ true) one.own two.own one.each (subst (λ k. AllDrive S k two.own) one.same two.each);
         few = omega arith;
         is = subst (λ k. IsEnd S r k (one.own ++ two.own) end) one.same (two.is one.own one.driven);

@@ -17,10 +17,11 @@ use Rattle.txn_core.specs.Answers.{decide_answer, has_record}
 use Rattle.txn_core.proofs.Exports.{begun_stays, told_stays, decided, may_commit, may_cancel, decision_lessens, left, ended}
 use Rattle.turnstile.specs.Passes.{PassView}
 use Rattle.cluster.specs.declared.step.StepError.{StepError}
+use Rattle.own_entries.specs.Counts.{Counts}
 use Rattle.cluster.specs.Events.{event_of}
 use Rattle.cluster.specs.Steps.{IsLater}
 use Rattle.coordinator.specs.declared.driver.Driver.{Driver}
-use Rattle.coordinator.specs.Driving.{is_gone, finds_none, carried_reasons, IsDriver, IsNext, Added, DrivenBy, Advances, Fails}
+use Rattle.coordinator.specs.Driving.{is_gone, finds_none, carried_reasons, IsDriver, IsNext, DrivenBy, Advances, Fails}
 use Rattle.coordinator.proofs.Driven.{advanced, driven_on}
 use Rattle.coordinator.proofs.Knowing.{none_there}
 
@@ -239,7 +240,7 @@ module _ {K V A F C D Q B : Type 0} (S : Service K V A F C D Q B) where
       (d new : Driver A V F) → IsDriver S (reverse p.front) (record d { carried = made }) → d.fate ≡ Undecided
       → IsLater S (reverse p.front) (event_of p cell (Message.Decide d.number commit reasons) (Answer.Decided g first)) (reverse q.front)
       → ((told : Told) → IsToldSo d.course told → IsToldSo new.course (with_fate told g)) → new ≡ record d { course = new.course; fate = g }
-      → Added S 0 p (event_of p cell (Message.Decide d.number commit reasons) (Answer.Decided g first) ∷ []) q → Advances S p d q new
+      → Counts S p (event_of p cell (Message.Decide d.number commit reasons) (Answer.Decided g first) ∷ []) 0 q → Advances S p d q new
   decided_on law p q cell commit reasons made g first d new is none step course same added =
       let es = reverse p.front in
       let later = reverse q.front in
@@ -315,5 +316,4 @@ module _ {K V A F C D Q B : Type 0} (S : Service K V A F C D Q B) where
         few = h.few;
         there = λ older by. h.there older (driven_without (reverse p.front) older d made by);
         early = λ memory older by. h.early memory older (driven_without (reverse p.front) older d made by);
-        spent = h.spent;
       }

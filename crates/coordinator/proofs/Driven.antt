@@ -17,15 +17,17 @@ use Rattle.txn_core.specs.Serial.{begun_actions}
 use Rattle.txn_core.specs.Legal.{prepares}
 use Rattle.txn_core.specs.Service.{Service, Event, History}
 use Rattle.cluster.specs.declared.step.StepError.{StepError}
+use Rattle.own_entries.specs.Counts.{Counts, CountsUntil}
+use Rattle.own_entries.proofs.Counting.{counts_none, counts_on, counts_until}
 use Rattle.coordinator.specs.declared.driver.Driver.{Driver}
-use Rattle.coordinator.specs.Driving.{is_gone, is_driving, is_ending, is_done, finds_none, IsNext, Added, AllDrive, found_none, ended, sent_done, FoundGone, IsDriver, DrivenBy, Advances, Fails}
-use Rattle.coordinator.proofs.Moving.{added_on, each_append, stays}
+use Rattle.coordinator.specs.Driving.{is_gone, is_driving, is_ending, is_done, finds_none, IsNext, AllDrive, found_none, ended, sent_done, FoundGone, IsDriver, DrivenBy, Advances, Fails}
+use Rattle.coordinator.proofs.Moving.{each_append}
 
 pub or_false : (b : Bool) → (b || false) ≡ b
 or_false true = refl
 or_false false = refl
 
-any_last : {X : Type 0} (f : X → Bool) (xs : List X) (x : X) → list_any f (xs ++ x ∷ []) ≡ (list_any f xs || f x)
+pub any_last : {X : Type 0} (f : X → Bool) (xs : List X) (x : X) → list_any f (xs ++ x ∷ []) ≡ (list_any f xs || f x)
 any_last f xs x = list_any-append f xs (x ∷ []) ∙ ap (λ b. list_any f xs || b) (or_false (f x))
 
 pub any_front : {X : Type 0} (f : X → Bool) (xs ys : List X) → list_any f xs ≡ true → list_any f (xs ++ ys) ≡ true
@@ -107,7 +109,7 @@ module _ {K V A F C D Q B : Type 0} (S : Service K V A F C D Q B) where
 
   -- one step
   pub advanced :
-      (p q : PassView (Event S)) (e : Event S) (d new : Driver A V F) → is_driving d.number e.message ≡ true → Added S 0 p (e ∷ []) q
+      (p q : PassView (Event S)) (e : Event S) (d new : Driver A V F) → is_driving d.number e.message ≡ true → Counts S p (e ∷ []) 0 q
       → course_left new.course < course_left d.course → new.number ≡ d.number → IsDriver S (reverse q.front) new
       → ((own : List (Event S)) → DrivenBy S (reverse p.front) own d → DrivenBy S (reverse q.front) (own ++ e ∷ []) new)
       → Advances S p d q new
@@ -119,7 +121,7 @@ module _ {K V A F C D Q B : Type 0} (S : Service K V A F C D Q B) where
   rests p d knows =
       record {
         own = [];
-        added = stays S 0 p p refl;
+        added = counts_none S p;
         each = tt;
         fewer = omega arith;
         same = refl;
@@ -135,7 +137,7 @@ module _ {K V A F C D Q B : Type 0} (S : Service K V A F C D Q B) where
       let long = length-append one.own two.own in
       record {
         own = one.own ++ two.own;
-        added = added_on S 0 0 p q r one.own two.own one.added two.added;
+        added = counts_on S p one.own 0 q two.own 0 r one.added two.added;
         each = each_append (λ x. is_driving d.number x.message ≡ true) one.own two.own one.each (subst (λ k. AllDrive S k two.own) one.same two.each);
         fewer = omega arith;
         same = two.same ∙ one.same;
@@ -152,7 +154,7 @@ module _ {K V A F C D Q B : Type 0} (S : Service K V A F C D Q B) where
       let long = length-append one.own two.own in
       record {
         own = one.own ++ two.own;
-        added = added_on S 0 1 p q r one.own two.own one.added two.added;
+        added = counts_until S p one.own q two.own error r one.added two.added;
         each = each_append (λ x. is_driving d.number x.message ≡ true) one.own two.own one.each (subst (λ k. AllDrive S k two.own) one.same two.each);
         few = omega arith;
         there = λ older h.
@@ -161,16 +163,15 @@ module _ {K V A F C D Q B : Type 0} (S : Service K V A F C D Q B) where
         early = λ memory older h.
             ap (λ xs. ended S d.number xs) (sym (append_assoc older one.own two.own))
             ∙ subst (λ k. ended S k ((older ++ one.own) ++ two.own) ≡ false) one.same (two.early memory (older ++ one.own) (one.driven older h));
-        spent = two.spent;
       }
 
   -- a step that was given up: no unit was left, or before the decision there was no memory
   pub failed :
-      (p q : PassView (Event S)) (d : Driver A V F) (error : StepError) (own : List (Event S)) → Added S 1 p own q → AllDrive S d.number own
+      (p q : PassView (Event S)) (d : Driver A V F) (error : StepError) (own : List (Event S)) → CountsUntil S p own error q → AllDrive S d.number own
       → length own ≤ course_left d.course → is_gone d.fate ≡ false → found_none S d.number own ≡ false
-      → (error ≡ StepError.NoMemory → (d.fate ≡ Undecided) × (ended S d.number own ≡ false)) → (error ≡ StepError.Spent → q.used ≡ most_units)
+      → (error ≡ StepError.NoMemory → (d.fate ≡ Undecided) × (ended S d.number own ≡ false))
       → Fails S p d error q
-  failed p q d error own added each few on there early spent =
+  failed p q d error own added each few on there early =
       record {
         own = own;
         added = added;
@@ -180,37 +181,30 @@ module _ {K V A F C D Q B : Type 0} (S : Service K V A F C D Q B) where
         early = λ memory older h.
             let before = early memory in
             none_both (λ e. is_ending d.number e.message) older own (h.undecided before.0) before.1;
-        spent = spent;
       }
 
   pub spent_now :
       (p q : PassView (Event S)) (es : History S) (d : Driver A V F) (m : Move) → q ≡ p → p.used ≡ most_units → IsDriver S es d
       → IsNext d.course m → (m ≡ Move.End → ⊥) → Fails S p d StepError.Spent q
   spent_now p q es d m same used is next on =
-      failed p q d StepError.Spent [] (stays S 1 p q same) tt (omega arith)
-      (ap is_gone is.fate ∙ not_gone is.told m (next is.told is.told_so) on) refl (λ e. absurd (cc))
-      (λ _. ap (λ (z : PassView (Event S)). z.used) same ∙ used)
+      failed p q d StepError.Spent []
+      (subst (λ (z : PassView (Event S)). Counts S p [] 0 z) (sym same) (counts_none S p), ap (λ (z : PassView (Event S)). z.used) same ∙ used) tt
+      (omega arith) (ap is_gone is.fate ∙ not_gone is.told m (next is.told is.told_so) on) refl (λ e. absurd (cc))
 
   -- before the decision
   pub given_up_early :
-      (p q : PassView (Event S)) (d : Driver A V F) (error : StepError) → d.fate ≡ Undecided → Added S 1 p [] q
-      → (error ≡ StepError.Spent → q.used ≡ most_units) → Fails S p d error q
-  given_up_early p q d error none added spent =
-      failed p q d error [] added tt (omega arith) (ap is_gone none) refl (λ _. (none, refl)) spent
+      (p q : PassView (Event S)) (d : Driver A V F) (error : StepError) → d.fate ≡ Undecided → CountsUntil S p [] error q
+      → Fails S p d error q
+  given_up_early p q d error none added = failed p q d error [] added tt (omega arith) (ap is_gone none) refl (λ _. (none, refl))
 
   -- after it
   pub given_up_late :
       (p q : PassView (Event S)) (d : Driver A V F) (error : StepError) → is_gone d.fate ≡ false → (error ≡ StepError.NoMemory → ⊥)
-      → Added S 1 p [] q → (error ≡ StepError.Spent → q.used ≡ most_units) → Fails S p d error q
-  given_up_late p q d error there sure added spent = failed p q d error [] added tt (omega arith) there refl (λ e. absurd (sure e)) spent
+      → CountsUntil S p [] error q → Fails S p d error q
+  given_up_late p q d error there sure added = failed p q d error [] added tt (omega arith) there refl (λ e. absurd (sure e))
 
 -- what a message's error says
-module _ {E X : Type 0} (p q : PassView E) (r : Result X StepError) (error : StepError) (is : r ≡ Err error) where
-  pub used_up : (r ≡ Err StepError.Spent ↔ (p.used ≡ most_units)) → (r ≡ Err StepError.Spent → q ≡ p) → error ≡ StepError.Spent → q.used ≡ most_units
-  used_up spent same e =
-      let so = is ∙ ap (λ (x : StepError). Err x) e in
-      ap (λ (z : PassView E). z.used) (same so) ∙ spent.0 so
-
+module _ {X : Type 0} (r : Result X StepError) (error : StepError) (is : r ≡ Err error) where
   pub has_memory : (r ≡ Err StepError.NoMemory → ⊥) → error ≡ StepError.NoMemory → ⊥
   has_memory sure e = sure (is ∙ ap (λ (x : StepError). Err x) e)
 

@@ -22,8 +22,9 @@ use Rattle.turnstile.specs.Passes.{PassView}
 use Rattle.partition.specs.Steps.{is_served}
 use Rattle.cluster.specs.Events.{event_of}
 use Rattle.cluster.specs.Steps.{IsLater}
+use Rattle.own_entries.specs.Counts.{Counts}
 use Rattle.coordinator.specs.declared.driver.Driver.{Driver}
-use Rattle.coordinator.specs.Driving.{is_gone, is_driving, is_done, finds_none, last_message, last_move, IsDriver, IsNext, Added, DrivenBy, Advances}
+use Rattle.coordinator.specs.Driving.{is_gone, is_driving, is_done, finds_none, last_message, last_move, IsDriver, IsNext, DrivenBy, Advances}
 use Rattle.coordinator.proofs.Deciding.{last_within, no_cancel}
 use Rattle.coordinator.proofs.Driven.{advanced, driven_on, or_false}
 
@@ -335,13 +336,13 @@ module _ {K V A F C D Q B : Type 0} (S : Service K V A F C D Q B) where
         → IsDriver S (reverse p.front) d → IsNext d.course (last_move d.fate place) → d.actions.items ≡ x ∷ new.actions.items
         → key ≡ S.core.key_of x → m ≡ last_message d.fate d.number key → IsLater S (reverse p.front) (event_of p cell m a) (reverse q.front)
         → ((told : Told) → IsToldSo d.course told → IsToldSo new.course (with_done told))
-        → new ≡ record d { course = new.course; actions = new.actions } → Added S 0 p (event_of p cell m a ∷ []) q → Advances S p d q new
+        → new ≡ record d { course = new.course; actions = new.actions } → Counts S p (event_of p cell m a ∷ []) 0 q → Advances S p d q new
     settled_on p q cell place x key m a d new is next popped key_is m_is step so same added =
         let es = reverse p.front in
         let later = reverse q.front in
         let its = subst (λ (y : Asked S). IsLater S es (event_of p cell y a) later) m_is step in
         advanced S p q (event_of p cell (last_message d.fate d.number key) a) d new (last_drives d.fate d.number key)
-        (subst (λ (y : Asked S). Added S 0 p (event_of p cell y a ∷ []) q) m_is added) (settled_less es d new.course place is next so)
+        (subst (λ (y : Asked S). Counts S p (event_of p cell y a ∷ []) 0 q) m_is added) (settled_less es d new.course place is next so)
         (ap (λ (z : Driver A V F). z.number) same) (settled es later p cell place x key a d new is next popped key_is its so same)
         (settled_by es later p cell place x key a d new is next popped key_is its so same)
 
@@ -349,7 +350,7 @@ module _ {K V A F C D Q B : Type 0} (S : Service K V A F C D Q B) where
         (p q : PassView (Event S)) (cell : Option ℕ) (a : Reply S) (d new : Driver A V F) → IsDriver S (reverse p.front) d → IsNext d.course Move.Done
         → IsLater S (reverse p.front) (event_of p cell (Message.Done d.number) a) (reverse q.front)
         → ((told : Told) → IsToldSo d.course told → IsToldSo new.course (with_done told)) → new ≡ record d { course = new.course }
-        → Added S 0 p (event_of p cell (Message.Done d.number) a ∷ []) q → Advances S p d q new
+        → Counts S p (event_of p cell (Message.Done d.number) a ∷ []) 0 q → Advances S p d q new
     finished_all p q cell a d new is next step so same added =
         let es = reverse p.front in
         let later = reverse q.front in

@@ -24,11 +24,11 @@ use Rattle.txn_core.proofs.Exports.{begun_stays, told_stays, reasons_stay, prepa
 use Rattle.txn_core.proofs.Drives.{prepare_next}
 use Rattle.turnstile.specs.Passes.{PassView}
 use Rattle.cluster.specs.declared.step.StepError.{StepError}
+use Rattle.own_entries.specs.Counts.{Counts}
 use Rattle.cluster.specs.Events.{event_of}
 use Rattle.cluster.specs.Steps.{IsLater}
 use Rattle.coordinator.specs.declared.driver.Driver.{Driver}
-use Rattle.coordinator.specs.Driving.{is_gone, IsDriver, IsNext, IsReady, Notes, Added, DrivenBy, Advances, Fails as FailsAt}
-use Rattle.coordinator.proofs.Moving.{with_spare}
+use Rattle.coordinator.specs.Driving.{is_gone, IsDriver, IsNext, IsReady, Notes, DrivenBy, Advances, Fails as FailsAt}
 use Rattle.coordinator.proofs.Driven.{TellsGone, advanced, driven_on, failed, or_false}
 
 pub undecided_is : (f : Fate) → is_undecided f ≡ true → f ≡ Undecided
@@ -232,7 +232,7 @@ module _ {K V A F C D Q B : Type 0} (S : Service K V A F C D Q B) where
       IsServiceLawful S → (p q : PassView (Event S)) (cell : Option ℕ) (place : ℕ) (x : A) (a : Reply S) (d mid new : Driver A V F)
       → IsDriver S (reverse p.front) d → IsNext d.course (Move.Prepare place) → slice_get d.actions.items place ≡ Some x
       → IsLater S (reverse p.front) (event_of p cell (Message.Prepare d.number d.stamp x) a) (reverse q.front)
-      → Added S 0 p (event_of p cell (Message.Prepare d.number d.stamp x) a ∷ []) q → Notes d place a mid
+      → Counts S p (event_of p cell (Message.Prepare d.number d.stamp x) a ∷ []) 0 q → Notes d place a mid
       → new ≡ record mid { carried = new.carried; copy = new.copy }
       → ((told : Told) → IsToldSo mid.course told → next_move told ≡ Move.Cancel → IsReady new) → Advances S p d q new
   prepared_on law p q cell place x a d mid new is next at step added notes same ready =
@@ -247,7 +247,7 @@ module _ {K V A F C D Q B : Type 0} (S : Service K V A F C D Q B) where
   -- where it was answered and there was no memory to take that down
   pub prepared_in_vain :
       (p q : PassView (Event S)) (es : History S) (cell : Option ℕ) (place : ℕ) (x : A) (a : Reply S) (d : Driver A V F) → IsDriver S es d
-      → IsNext d.course (Move.Prepare place) → Added S 0 p (event_of p cell (Message.Prepare d.number d.stamp x) a ∷ []) q
+      → IsNext d.course (Move.Prepare place) → Counts S p (event_of p cell (Message.Prepare d.number d.stamp x) a ∷ []) 0 q
       → FailsAt S p d StepError.NoMemory q
   prepared_in_vain p q es cell place x a d is next added =
       let told = is.told in
@@ -255,5 +255,5 @@ module _ {K V A F C D Q B : Type 0} (S : Service K V A F C D Q B) where
       let before = left d.course told is.told_so in
       let undecided = is.fate ∙ preparing es d place is next in
       let e : Event S = event_of p cell (Message.Prepare d.number d.stamp x) a in
-      failed S p q d StepError.NoMemory (e ∷ []) (with_spare S p q (e ∷ []) added) (eq-eqb d.number d.number refl, tt) (omega arith)
-      (ap is_gone undecided) refl (λ _. (undecided, refl)) (λ e. absurd (cc))
+      failed S p q d StepError.NoMemory (e ∷ []) (inl added) (eq-eqb d.number d.number refl, tt) (omega arith)
+      (ap is_gone undecided) refl (λ _. (undecided, refl))

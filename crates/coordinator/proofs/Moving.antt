@@ -1,13 +1,13 @@
 -- What a pass added, step after step.
-use Rattle.std.proofs.Common.{◌≡◌, ℕ, ◌+◌, List, [], ◌∷◌, ◌++◌, Option, Result, Ok, Err, OnErr, refl, sym, ap, ◌∙◌, subst, arith, length-append}
+use Rattle.std.proofs.Common.{◌≡◌, ◌≢◌, inl, inr, ℕ, ◌+◌, ◌≤◌, List, [], ◌∷◌, ◌++◌, length, refl, sym, ap, ◌∙◌, subst, arith, length-append}
 use Rattle.std.specs.List.{AllByRecursion}
 use Rattle.turnstile.specs.Histories.{Trail}
-use Rattle.turnstile.specs.Passes.{PassView}
-use Rattle.turnstile.proofs.Histories.{trail_end, trail_on, trail_self}
-use Rattle.txn_core.specs.Service.{Service, Asked, Reply, Event}
+use Rattle.turnstile.specs.Passes.{PassView, most_units}
+use Rattle.turnstile.proofs.Histories.{trail_on}
+use Rattle.txn_core.specs.Service.{Service, Event}
 use Rattle.cluster.specs.declared.step.StepError.{StepError}
-use Rattle.cluster.specs.Events.{pass_of, event_of}
-use Rattle.cluster.specs.Steps.{Adds, AddsNone}
+use Rattle.cluster.specs.Events.{pass_of}
+use Rattle.own_entries.specs.Counts.{Counts, CountsUntil}
 use Rattle.coordinator.specs.Driving.{Added}
 
 pub each_append : {X : Type 0} (T : X → Type 0) (xs ys : List X) → AllByRecursion T xs → AllByRecursion T ys → AllByRecursion T (xs ++ ys)
@@ -15,30 +15,16 @@ each_append T [] ys h k = k
 each_append T (x ∷ xs) ys h k = (h.0, each_append T xs ys h.1 k)
 
 module _ {K V A F C D Q B : Type 0} (S : Service K V A F C D Q B) where
-  pub stays : (spare : ℕ) (p q : PassView (Event S)) → q ≡ p → Added S spare p [] q
-  stays spare p q same =
-      subst (λ (z : PassView (Event S)). Added S spare p [] z) (sym same)
-      record { pass = refl; trail = trail_self pass_of p.number p.front; units = omega arith }
+  -- what was counted was added
+  pub added_by :
+      (spare more : ℕ) (p : PassView (Event S)) (own : List (Event S)) (q : PassView (Event S)) → more ≤ spare → Counts S p own more q
+      → Added S spare p own q
+  added_by spare more p own q few h = let units = h.units in record { pass = h.pass; trail = h.trail; units = omega arith }
 
-  pub added_one :
-      (p q : PassView (Event S)) (cell : Option ℕ) (m : Asked S) (a : Reply S) → Adds S p cell m a q
-      → Added S 0 p (event_of p cell m a ∷ []) q
-  added_one p q cell m a adds =
-      let used : q.used ≡ p.used + 1 = ap (λ (z : PassView (Event S)). z.used) adds.pass in
-      record {
-        pass = adds.pass ∙ (λ j. record p { used = sym used j; front = q.front });
-        trail = trail_end pass_of p.number p.front (event_of p cell m a) q.front refl adds.ends;
-        units = omega arith;
-      }
-
-  added_none : (p q : PassView (Event S)) → AddsNone S p q → Added S 1 p [] q
-  added_none p q none =
-      let used : q.used ≡ p.used + 1 = ap (λ (z : PassView (Event S)). z.used) none.pass in
-      record { pass = none.pass ∙ (λ j. record p { used = sym used j; front = q.front }); trail = none.trail; units = omega arith }
-
-  pub added_on :
-      (s t : ℕ) (p q r : PassView (Event S)) (xs ys : List (Event S)) → Added S s p xs q → Added S t q ys r → Added S (s + t) p (xs ++ ys) r
-  added_on s t p q r xs ys one two =
+  -- and one stretch after another
+  pub added_after :
+      (spare : ℕ) (p q r : PassView (Event S)) (xs ys : List (Event S)) → Counts S p xs 0 q → Added S spare q ys r → Added S spare p (xs ++ ys) r
+  added_after spare p q r xs ys one two =
       let number : q.number ≡ p.number = ap (λ (z : PassView (Event S)). z.number) one.pass in
       let units = one.units in
       let later = two.units in
@@ -51,14 +37,20 @@ module _ {K V A F C D Q B : Type 0} (S : Service K V A F C D Q B) where
         units = omega arith;
       }
 
-  -- a unit more than was used
-  pub with_spare : (p q : PassView (Event S)) (own : List (Event S)) → Added S 0 p own q → Added S 1 p own q
-  with_spare p q own m = let units = m.units in record { pass = m.pass; trail = m.trail; units = omega arith }
+  -- what was counted until an error: one unit more at most, for want of memory alone; for want of units none is left
+  module _ (p : PassView (Event S)) (own : List (Event S)) (q : PassView (Event S)) where
+    pub until_added : (error : StepError) → CountsUntil S p own error q → Added S 1 p own q
+    until_added StepError.Spent h = added_by 1 0 p own q (omega arith) h.0
+    until_added StepError.NoMemory (inl h) = added_by 1 0 p own q (omega arith) h
+    until_added StepError.NoMemory (inr h) = added_by 1 1 p own q (omega arith) h
 
-  -- a step that was not taken
-  pub step_err :
-      (p q : PassView (Event S)) (r : Result (Reply S) StepError) → (r ≡ Err StepError.NoMemory → AddsNone S p q)
-      → (r ≡ Err StepError.Spent → q ≡ p) → OnErr r (Added S 1 p [] q)
-  step_err p q (Ok a) none same = tt
-  step_err p q (Err StepError.Spent) none same = stays 1 p q (same refl)
-  step_err p q (Err StepError.NoMemory) none same = added_none p q (none refl)
+    pub until_exact : (error : StepError) → CountsUntil S p own error q → error ≢ StepError.NoMemory → q.used ≡ p.used + length own
+    until_exact StepError.Spent h sure = let units = h.0.units in omega arith
+    until_exact StepError.NoMemory h sure = absurd (sure refl)
+
+    pub until_spent : (error : StepError) → CountsUntil S p own error q → error ≡ StepError.Spent → q.used ≡ most_units
+    until_spent StepError.Spent h e = h.1
+    until_spent StepError.NoMemory h e = absurd (cc)
+
+    pub exactly : Counts S p own 0 q → q.used ≡ p.used + length own
+    exactly h = let units = h.units in omega arith

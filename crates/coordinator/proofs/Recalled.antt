@@ -45,7 +45,7 @@ module _ {K V A F C D Q B : Type 0} (S : Service K V A F C D Q B) where
       is_recalled K V A F B (has_record l n) (l.fate n) (l.stamp n) (l.actions n) (reasons_of past n) a step.legal.1.answer known unknown
 
   -- no record tells that its number is gone
-  never_gone : (es : List (Effect K A D)) (n : ℕ) → (state_after S.core es).ledger.fate n ≡ Fate.Gone → ⊥
+  pub never_gone : (es : List (Effect K A D)) (n : ℕ) → (state_after S.core es).ledger.fate n ≡ Fate.Gone → ⊥
   never_gone [] n h = cc
   never_gone (Commits m ∷ es) n h =
       cond_both (nat_eq m n) Fate.Committed ((state_after S.core es).ledger.fate n) (λ f. f ≡ Fate.Gone → ⊥) (λ _ k. cc) (λ _ k. never_gone es n k) h
@@ -66,7 +66,7 @@ module _ {K V A F C D Q B : Type 0} (S : Service K V A F C D Q B) where
   not_gone Fate.Gone h = absurd (h refl)
 
   -- with no verdict yet a cancel is not what comes next
-  starts_on : (k : ℕ) (fate : Fate) → next_move (with_fate (told_nothing k) fate) ≡ Move.Cancel → ⊥
+  pub starts_on : (k : ℕ) (fate : Fate) → next_move (with_fate (told_nothing k) fate) ≡ Move.Cancel → ⊥
   starts_on k fate e = at_fate fate e (undecided_before (with_fate (told_nothing k) fate) Move.Cancel e (λ i h. cc) (λ i h. cc) (λ h. cc) (λ h. cc))
     where
       at_fate : (f : Fate) → next_move (with_fate (told_nothing k) f) ≡ Move.Cancel → f ≡ Fate.Undecided → ⊥

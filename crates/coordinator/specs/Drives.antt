@@ -1,5 +1,5 @@
 -- How a transaction is driven to its end, and what own entries say of it.
-use Rattle.std.specs.Prelude.{◌≡◌, ◌⊎◌, ℕ, ◌+◌, ◌*◌, ◌≤◌, Bool, true, false, List, ◌++◌, length, reverse, Option, IfSome, if◌then◌else◌}
+use Rattle.std.specs.Prelude.{◌≡◌, ◌≢◌, ◌⊎◌, ℕ, ◌+◌, ◌*◌, ◌≤◌, Bool, true, false, List, ◌++◌, length, reverse, Option, IfSome, if◌then◌else◌}
 use Rattle.std.specs.List.{list_all}
 use Rattle.turnstile.specs.Passes.{PassView, most_units}
 use Rattle.txn_core.specs.declared.reason.Reason.{Reason}
@@ -54,10 +54,12 @@ module _ {K V A F C D Q B : Type 0} (S : Service K V A F C D Q B) where
     pub gone : is_gone_end end ≡ found_none S n own
     pub cause : HasCause q n own end
 
-  -- from d at p the driver came to this end at q, by at most so many own entries
+  -- from d at p the driver came to this end at q, by at most so many own entries, for one unit each; where memory was refused one
+  -- unit more may be used
   pub record Ends (most : ℕ) (p : PassView (Event S)) (d : Driver A V F) (q : PassView (Event S)) (end : DriveEnd V F) : Type 0 where
     pub own : List (Event S)
     pub added : Added S 1 p own q
+    pub exact : end ≢ DriveEnd.NoMemory → q.used ≡ p.used + length own
     pub each : AllDrive S d.number own
     pub few : length own ≤ most
     pub is : (older : List (Event S)) → DrivenBy S (reverse p.front) older d → IsEnd q d.number (older ++ own) end
@@ -67,6 +69,7 @@ module _ {K V A F C D Q B : Type 0} (S : Service K V A F C D Q B) where
   pub record Drives (n : ℕ) (p q : PassView (Event S)) (end : DriveEnd V F) : Type 0 where
     pub own : List (Event S)
     pub added : Added S 1 p own q
+    pub exact : end ≢ DriveEnd.NoMemory → q.used ≡ p.used + length own
     pub each : AllDrive S n own
     pub few : length own ≤ 2 * length (begun_actions (effects (reverse q.front)) n) + 4
     pub is : IsEnd q n own end

@@ -2,7 +2,7 @@
 use Rattle.std.specs.Prelude.{◌≡◌, ℕ, ◌+◌, ◌≤◌, Bool, true, false, ◌&&◌, nat_eq, List, [], ◌∷◌, ◌++◌, length, map, drop, reverse, slice_get, Option, Some, is_some, IfSome, if◌then◌else◌}
 use Rattle.std.specs.List.{list_any, AllByRecursion}
 use Rattle.turnstile.specs.Histories.{Trail}
-use Rattle.turnstile.specs.Passes.{PassView, most_units}
+use Rattle.turnstile.specs.Passes.{PassView}
 use Rattle.txn_core.specs.declared.message.Message.{Message}
 use Rattle.txn_core.specs.declared.answer.Answer.{Answer}
 use Rattle.txn_core.specs.declared.verdict.Verdict.{Verdict}
@@ -20,6 +20,7 @@ use Rattle.txn_core.specs.Service.{Service, Event, History}
 use Rattle.cluster.specs.Events.{pass_of, event_of}
 use Rattle.cluster.specs.Steps.{IsLater}
 use Rattle.cluster.specs.declared.step.StepError.{StepError}
+use Rattle.own_entries.specs.Counts.{Counts, CountsUntil}
 use Rattle.coordinator.specs.declared.driver.Driver.{Driver}
 use Rattle.coordinator.specs.declared.record.Record.{Record}
 
@@ -89,7 +90,7 @@ module _ {A V F : Type 0} where
     pub same : new ≡ record d { course = new.course; found = new.found; no_table = new.no_table }
 
 module _ {K V A F C D Q B : Type 0} (S : Service K V A F C D Q B) where
-  -- from p to q the pass added these own entries and no other, for one unit each and so many more
+  -- from p to q the pass added these own entries and no other, for one unit each and at most so many more
   pub record Added (spare : ℕ) (p : PassView (Event S)) (own : List (Event S)) (q : PassView (Event S)) : Type 0 where
     pub pass : q ≡ record p { used = q.used; front = q.front }
     pub trail : Trail pass_of p.number p.front own q.front
@@ -139,7 +140,7 @@ module _ {K V A F C D Q B : Type 0} (S : Service K V A F C D Q B) where
   -- from d at p the driver went on to e at q, each own entry for a move and a unit
   pub record Advances (p : PassView (Event S)) (d : Driver A V F) (q : PassView (Event S)) (e : Driver A V F) : Type 0 where
     pub own : List (Event S)
-    pub added : Added 0 p own q
+    pub added : Counts S p own 0 q
     pub each : AllDrive d.number own
     pub fewer : length own + course_left e.course ≤ course_left d.course
     pub same : e.number ≡ d.number
@@ -149,13 +150,12 @@ module _ {K V A F C D Q B : Type 0} (S : Service K V A F C D Q B) where
   -- from d at p the driver went on and then gave up: without memory before the decision alone, or without a unit
   pub record Fails (p : PassView (Event S)) (d : Driver A V F) (error : StepError) (q : PassView (Event S)) : Type 0 where
     pub own : List (Event S)
-    pub added : Added 1 p own q
+    pub added : CountsUntil S p own error q
     pub each : AllDrive d.number own
     pub few : length own ≤ course_left d.course
     pub there : (older : List (Event S)) → DrivenBy (reverse p.front) older d → found_none d.number (older ++ own) ≡ false
     pub early :
         error ≡ StepError.NoMemory → (older : List (Event S)) → DrivenBy (reverse p.front) older d → ended d.number (older ++ own) ≡ false
-    pub spent : error ≡ StepError.Spent → q.used ≡ most_units
 
   -- a Recall of the number that was answered by this record
   abbrev pub recalled : PassView (Event S) → Option ℕ → ℕ → Record A V F → Event S
@@ -164,28 +164,27 @@ module _ {K V A F C D Q B : Type 0} (S : Service K V A F C D Q B) where
   -- the record of the number was asked for, and this is it
   pub record Recalls (n : ℕ) (p : PassView (Event S)) (r : Record A V F) (q : PassView (Event S)) : Type 0 where
     pub cell : Option ℕ
-    pub added : Added 0 p (recalled p cell n r ∷ []) q
+    pub added : Counts S p (recalled p cell n r ∷ []) 0 q
     pub later : IsLater S (reverse p.front) (recalled p cell n r) (reverse q.front)
 
   -- it was asked for, and there is none
   pub record FindsNone (n : ℕ) (p q : PassView (Event S)) : Type 0 where
     pub cell : Option ℕ
-    pub added : Added 0 p (event_of p cell (Message.Recall n) Answer.Unknown ∷ []) q
+    pub added : Counts S p (event_of p cell (Message.Recall n) Answer.Unknown ∷ []) 0 q
 
   -- it was asked for, and then no more was done, for want of memory or of a unit
   pub record Misses (n : ℕ) (p : PassView (Event S)) (error : StepError) (q : PassView (Event S)) : Type 0 where
     pub own : List (Event S)
-    pub added : Added 1 p own q
+    pub added : CountsUntil S p own error q
     pub few : length own ≤ 1
     pub each : AllDrive n own
     pub there : found_none n own ≡ false
     pub early : ended n own ≡ false
-    pub spent : error ≡ StepError.Spent → q.used ≡ most_units
 
   -- from p to q the record of the number was asked for, and the driver begins with it
   pub record Begins (n : ℕ) (p q : PassView (Event S)) (d : Driver A V F) : Type 0 where
     pub own : List (Event S)
-    pub added : Added 0 p own q
+    pub added : Counts S p own 0 q
     pub few : length own ≤ 1
     pub each : AllDrive n own
     pub same : d.number ≡ n

@@ -12,9 +12,9 @@ ghost use Rattle.cluster.specs.declared.step.StepError.{StepError};
 ghost use Rattle.coordinator.specs.Driving.{Advances, Fails, IsDriver, IsNext};
 
 use crate::driver::DriverOf;
-use crate::message::ask_ledger;
 use base_types::Seq;
 use cluster::{Cluster, StepError, TableWorld};
+use own_entries::ask_ledger;
 use partition::PageRules;
 use std::alloc::Global;
 use std::mem;

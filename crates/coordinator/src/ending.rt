@@ -9,8 +9,8 @@ ghost use Rattle.cluster.specs.declared.step.StepError.{StepError};
 ghost use Rattle.coordinator.specs.Driving.{Advances, Fails, IsDriver, IsNext, last_message, last_move};
 
 use crate::driver::DriverOf;
-use crate::message::{ask_ledger, ask_partition};
 use cluster::{Cluster, StepError, TableWorld};
+use own_entries::{ask, ask_ledger};
 use partition::PageRules;
 use std::alloc::Global;
 use std::sync::Wait;
@@ -54,7 +54,7 @@ where
     let key = R::into_key(action);
     let cell = cluster.cell_of(&key);
     let message = last_message::<R>(driver.fate, driver.number, key);
-    let answer = ask_partition(cluster, rt, alloc, pass, cell, message)?;
+    let answer = ask(cluster, rt, alloc, pass, cell, message)?;
     drop(answer);
     driver.course.took_done();
     Ok(())

@@ -16,7 +16,6 @@ mod decision;
 mod drive_end;
 mod driver;
 mod ending;
-mod message;
 mod preparation;
 mod reasons;
 mod record;

@@ -9,10 +9,10 @@ ghost use Rattle.cluster.specs.declared.step.StepError.{StepError};
 ghost use Rattle.coordinator.specs.Driving.{Advances, Fails, IsDriver, IsNext};
 
 use crate::driver::DriverOf;
-use crate::message::ask_partition;
 use crate::reasons::make_ready;
 use crate::verdict::note;
 use cluster::{Cluster, StepError, TableWorld};
+use own_entries::ask;
 use partition::PageRules;
 use std::alloc::{AllocError as NoMemory, Global};
 use std::sync::Wait;
@@ -68,7 +68,7 @@ where
         stamp,
         action,
     };
-    let answer = ask_partition(cluster, rt, alloc, pass, cell, message)?;
+    let answer = ask(cluster, rt, alloc, pass, cell, message)?;
     note::<R>(driver, place, answer)?;
     make_ready::<R>(alloc, driver)?;
     Ok(())

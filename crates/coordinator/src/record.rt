@@ -8,9 +8,9 @@ ghost use Rattle.cluster.specs.declared.step.StepError.{StepError};
 ghost use Rattle.coordinator.specs.Driving.{Begins, FindsNone, Misses, Recalls};
 
 use crate::driver::{Driver, DriverOf};
-use crate::message::ask_ledger;
 use base_types::Seq;
 use cluster::{Cluster, StepError, TableWorld};
+use own_entries::ask_ledger;
 use partition::PageRules;
 use std::alloc::Global;
 use std::collections::VecDeque;

@@ -53,6 +53,7 @@ where
     ensures ended { IfOk result (λ pace. pace ≡ Pace.Go → IsNext driver.new.course Move.End) }
     ensures stopped { IfOk result (λ pace. pace ≡ Pace.Stop → Rose (G.stops gate.old) (G.stops gate.new)) }
     ensures there { IfOk result (λ pace. pace ≡ Pace.Stop → is_gone driver.new.fate ≡ false) }
+    ensures later { G.stops gate.old ≤ G.stops gate.new }
     ensures err { IfErr result (λ error. Fails (R.protocol (partitions_of cluster.now)) pass.old driver.old error pass.new) }
 {
     while let Some(point) = advance(cluster, rt, alloc, pass, driver)? {
@@ -153,6 +154,7 @@ where
     requires driver { IsDriver (R.protocol (partitions_of cluster.now)) (reverse pass.old.front) driver }
     ensures ends { Ends (R.protocol (partitions_of cluster.now)) (course_left driver.course + 1) pass.old driver pass.new result }
     ensures stopped { result ≡ DriveEnd.Stopped → Rose (G.stops gate.old) (G.stops gate.new) }
+    ensures later { G.stops gate.old ≤ G.stops gate.new }
 {
     let pace = match take_steps(cluster, rt, alloc, pass, &mut driver, gate) {
         Ok(pace) => pace,
@@ -185,6 +187,7 @@ where
     requires free { pass.old.turns ≡ [] }
     ensures drives { Drives (R.protocol (partitions_of cluster.now)) number pass.old pass.new result }
     ensures stopped { result ≡ DriveEnd.Stopped → Rose (G.stops gate.old) (G.stops gate.new) }
+    ensures later { G.stops gate.old ≤ G.stops gate.new }
 {
     let found = match recall(cluster, rt, alloc, pass, number) {
         Ok(found) => found,

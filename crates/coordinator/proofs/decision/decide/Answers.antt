@@ -1,10 +1,11 @@
-use Rattle.std.proofs.Common.{◌-◌, Some, Err, refl, sym, reverse, subst, ◌∷◌, []}
+use Rattle.std.proofs.Common.{◌-◌, Some, refl, sym, reverse, subst, ◌∷◌, []}
 use Rattle.txn_core.specs.declared.message.Message.{Message}
 use Rattle.cluster.specs.Events.{event_of}
 use Rattle.cluster.specs.Steps.{IsLater}
-use Rattle.coordinator.specs.Driving.{Added, Fails}
+use Rattle.own_entries.specs.Counts.{Counts}
+use Rattle.coordinator.specs.Driving.{Fails}
 use Rattle.coordinator.proofs.Deciding.{decided_on, fated_first, fated_less, is_answered}
-use Rattle.coordinator.proofs.Driven.{given_up_early, handed_on, used_up}
+use Rattle.coordinator.proofs.Driven.{given_up_early, handed_on}
 use Rattle.coordinator.proofs.decision.decide.Goals as goal
 
 pub unreachable-requires : goal.unreachable-requires
@@ -24,7 +25,7 @@ returns-clause-ok g c =
     decided_on S (g.met.R.Rules.lawful n) p q (Some n) c.args.commit c.args.reasons c.requires.driver.0 c.in-Decided.fate c.in-Decided.first d
     (record d { course = c.took_fate.new.self; fate = c.in-Decided.fate }) c.requires.driver.1 c.requires.undecided
     (subst (λ y. IsLater S (reverse p.front) (event_of p (Some n) m y) (reverse q.front)) c.in-Decided.is c.in_ok-answer.ensures.later)
-    c.took_fate.ensures refl (subst (λ y. Added S 0 p (event_of p (Some n) m y ∷ []) q) c.in-Decided.is c.in_ok-answer.ensures.ok)
+    c.took_fate.ensures refl (subst (λ y. Counts S p (event_of p (Some n) m y ∷ []) 0 q) c.in-Decided.is c.in_ok-answer.ensures.ok)
 
 pub returns-clause-fate : goal.returns-clause-fate
 returns-clause-fate g c = λ first.
@@ -74,5 +75,4 @@ returns-in_err-answer-clause-err g c =
     let v = c.in_err-answer.field-0.0 in
     handed_on c.from_residual.result (λ e. Fails S p d e q) _ c.from_residual.ensures.1
     (λ e same. subst (λ z. Fails S p d z q) (sym same)
-    (given_up_early S p q d v c.requires.undecided c.in_err-answer.ensures.err
-    (used_up p q (Err v) v refl c.in_err-answer.ensures.spent c.in_err-answer.ensures.unchanged)))
+    (given_up_early S p q d v c.requires.undecided c.in_err-answer.ensures.err))

@@ -12,22 +12,22 @@ unreachable-requires g c =
     c.pop_front.ensures.rest
     (some_left S (reverse c.args.pass.now.front) c.args.driver.now c.requires.next.0 c.requires.driver c.requires.next.1)
 
-pub ask_partition-requires-clause-served : goal.ask_partition-requires-clause-served
-ask_partition-requires-clause-served g c =
+pub ask-requires-clause-served : goal.ask-requires-clause-served
+ask-requires-clause-served g c =
     let n = c.args.cluster.now.id.slots - 1 in
     let d = c.args.driver.now in
     subst (λ m. is_served n m ≡ true) (sym c.last_message-message.ensures)
     (last_served (g.R.Rules.protocol n) n d.fate d.number c.into_key-key.result)
 
-pub ask_partition-requires-clause-sent : goal.ask_partition-requires-clause-sent
-ask_partition-requires-clause-sent g c =
+pub ask-requires-clause-sent : goal.ask-requires-clause-sent
+ask-requires-clause-sent g c =
     let S = g.R.Rules.protocol (c.args.cluster.now.id.slots - 1) in
     let d = c.args.driver.now in
     subst (λ m. sent_to S m ≡ Some c.cell_of-cell.result) (sym c.last_message-message.ensures)
     (last_sent S d.fate d.number c.into_key-key.result ∙ ap Some (sym c.cell_of-cell.ensures.cell))
 
-pub ask_partition-requires-clause-may : goal.ask_partition-requires-clause-may
-ask_partition-requires-clause-may g c =
+pub ask-requires-clause-may : goal.ask-requires-clause-may
+ask-requires-clause-may g c =
     let S = g.R.Rules.protocol (c.args.cluster.now.id.slots - 1) in
     let p = c.args.pass.now in
     subst (λ m. Allowed S (reverse p.front) p.number m) (sym c.last_message-message.ensures)
@@ -37,7 +37,7 @@ pub returns-clause-ok : goal.returns-clause-ok
 returns-clause-ok g c =
     let n = c.args.cluster.now.id.slots - 1 in
     let d = c.args.driver.now in
-    settled_on (g.R.Rules.protocol n) (g.met.R.Rules.lawful n) c.args.pass.now c.ask_partition.new.pass (Some c.cell_of-cell.result)
+    settled_on (g.R.Rules.protocol n) (g.met.R.Rules.lawful n) c.args.pass.now c.ask.new.pass (Some c.cell_of-cell.result)
     c.requires.next.0 c.in-Some.action c.into_key-key.result c.last_message-message.result c.in_ok-answer.answer d
     (record d { course = c.took_done.new.self; actions = c.pop_front.new.self }) c.requires.driver c.requires.next.1
     (c.pop_front.ensures.items ∙ ap (λ o. option_to_list o ++ c.pop_front.new.self.items) c.in-Some.is)

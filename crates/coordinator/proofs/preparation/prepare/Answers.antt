@@ -1,8 +1,8 @@
-use Rattle.std.proofs.Common.{◌-◌, Some, refl, reverse, sym, ◌∙◌, subst, arith}
+use Rattle.std.proofs.Common.{◌-◌, inl, Some, refl, reverse, sym, ◌∙◌, subst, arith}
 use Rattle.cluster.specs.declared.step.StepError.{StepError}
+use Rattle.own_entries.proofs.Counting.{counts_none}
 use Rattle.coordinator.specs.Driving.{Fails}
 use Rattle.coordinator.proofs.Driven.{given_up_early, handed_on, spent_now}
-use Rattle.coordinator.proofs.Moving.{stays}
 use Rattle.coordinator.proofs.Knowing.{may_prepare_next, noted_less, place_within, prepared_in_vain, prepared_on, preparing, told_verdict}
 use Rattle.coordinator.proofs.preparation.prepare.Goals as goal
 
@@ -11,8 +11,8 @@ copy_of_action-requires g c =
     place_within (g.R.Rules.protocol (c.args.cluster.now.id.slots - 1)) (reverse c.args.pass.now.front) c.args.driver.now c.args.place c.requires.driver
     c.requires.next
 
-pub ask_partition-requires-clause-may : goal.ask_partition-requires-clause-may
-ask_partition-requires-clause-may g c =
+pub ask-requires-clause-may : goal.ask-requires-clause-may
+ask-requires-clause-may g c =
     let n = c.args.cluster.now.id.slots - 1 in
     may_prepare_next (g.R.Rules.protocol n) (g.met.R.Rules.lawful n) (reverse c.args.pass.now.front) c.args.driver.now c.args.pass.now.number
     c.args.place c.in_ok-action.action c.facts.ensures.legal c.requires.driver c.requires.next c.in_ok-action.ensures
@@ -20,14 +20,14 @@ ask_partition-requires-clause-may g c =
 pub note-requires : goal.note-requires
 note-requires g c =
     let n = c.args.cluster.now.id.slots - 1 in
-    told_verdict (g.R.Rules.protocol n) (reverse c.args.pass.now.front) (reverse c.ask_partition.new.pass.front) c.args.pass.now
+    told_verdict (g.R.Rules.protocol n) (reverse c.args.pass.now.front) (reverse c.ask.new.pass.front) c.args.pass.now
     (Some c.cell_of-cell.result) c.args.driver.now.number c.args.driver.now.stamp c.in_ok-action.action c.in_ok-answer.answer
     c.in_ok-answer.ensures.later
 
 pub returns-clause-ok : goal.returns-clause-ok
 returns-clause-ok g c =
     let n = c.args.cluster.now.id.slots - 1 in
-    prepared_on (g.R.Rules.protocol n) (g.met.R.Rules.lawful n) c.args.pass.now c.ask_partition.new.pass (Some c.cell_of-cell.result) c.args.place
+    prepared_on (g.R.Rules.protocol n) (g.met.R.Rules.lawful n) c.args.pass.now c.ask.new.pass (Some c.cell_of-cell.result) c.args.place
     c.in_ok-action.action c.in_ok-answer.answer c.args.driver.now c.note.new.driver c.make_ready.new.driver c.requires.driver c.requires.next
     c.in_ok-action.ensures c.in_ok-answer.ensures.later c.in_ok-answer.ensures.ok c.in_ok-note.ensures c.in_ok-make_ready.ensures.same
     c.in_ok-make_ready.ensures.ready
@@ -53,13 +53,13 @@ returns-in_err-action-clause-err g c =
     let d = c.args.driver.now in
     let undecided = c.requires.driver.fate ∙ preparing S (reverse p.front) d c.args.place c.requires.driver c.requires.next in
     handed_on c.from_residual.result (λ e. Fails S p d e p) _ c.from_residual.ensures.1
-    (λ e same. subst (λ z. Fails S p d z p) (sym same) (given_up_early S p p d StepError.NoMemory undecided (stays S 1 p p refl) (λ k. absurd (cc))))
+    (λ e same. subst (λ z. Fails S p d z p) (sym same) (given_up_early S p p d StepError.NoMemory undecided (inl (counts_none S p))))
 
 pub returns-in_err-note-clause-err : goal.returns-in_err-note-clause-err
 returns-in_err-note-clause-err g c =
     let S = g.R.Rules.protocol (c.args.cluster.now.id.slots - 1) in
     let p = c.args.pass.now in
-    let q = c.ask_partition.new.pass in
+    let q = c.ask.new.pass in
     let d = c.args.driver.now in
     handed_on c.from_residual-in_err-note.result (λ e. Fails S p d e q) _ c.from_residual-in_err-note.ensures.1
     (λ e same. subst (λ z. Fails S p d z q) (sym same)
@@ -70,7 +70,7 @@ pub returns-in_err-make_ready-clause-err : goal.returns-in_err-make_ready-clause
 returns-in_err-make_ready-clause-err g c =
     let S = g.R.Rules.protocol (c.args.cluster.now.id.slots - 1) in
     let p = c.args.pass.now in
-    let q = c.ask_partition.new.pass in
+    let q = c.ask.new.pass in
     let d = c.args.driver.now in
     handed_on c.from_residual-in_err-make_ready.result (λ e. Fails S p d e q) _ c.from_residual-in_err-make_ready.ensures.1
     (λ e same. subst (λ z. Fails S p d z q) (sym same)

@@ -1,6 +1,6 @@
-use Rattle.std.proofs.Common.{◌-◌, IfSome, refl, ◌∙◌, subst}
+use Rattle.std.proofs.Common.{◌-◌, [], ◌∷◌, IfSome, inl, refl, ◌∙◌, subst, arith, eq-eqb}
 use Rattle.txn_core.specs.Driver.{told_nothing}
-use Rattle.coordinator.specs.Driving.{Recalls}
+use Rattle.coordinator.specs.Driving.{Recalls, recalled}
 use Rattle.coordinator.proofs.Recalled.{begins}
 use Rattle.coordinator.proofs.record.recall.Goals as goal
 
@@ -21,4 +21,19 @@ returns-clause-driver g c =
       tables = refl;
       reasons = c.reasons_of_cancel.ensures;
       fate = refl;
+    }
+
+pub returns-in_default-try_from-clause-err : goal.returns-in_default-try_from-clause-err
+returns-in_default-try_from-clause-err g c =
+    let S = g.R.Rules.protocol (c.args.cluster.now.id.slots - 1) in
+    let p = c.args.pass.now in
+    let n = c.args.number in
+    let h = subst (λ o. IfSome o (λ r. Recalls S n p r c.ask_record.new.pass)) c.in-Some.is c.in_ok-record.ensures.known in
+    record {
+      own = recalled S p h.cell n c.in-Some.record ∷ [];
+      added = inl h.added;
+      few = omega arith;
+      each = (eq-eqb n n refl, tt);
+      there = refl;
+      early = refl;
     }
