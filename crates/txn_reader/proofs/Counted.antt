@@ -1,5 +1,5 @@
 -- Reads, one after another.
-use Rattle.std.proofs.Common.{◌≡◌, ℕ, ◌<◌, Bool, true, false, List, [], ◌∷◌, ◌++◌, length, get_or, Option, Some, slice_get, inl, inr, refl, sym, ap, ◌∙◌, subst, append-nil}
+use Rattle.std.proofs.Common.{◌≡◌, ℕ, ◌+◌, ◌<◌, Bool, true, false, List, [], ◌∷◌, ◌++◌, length, get_or, Option, None, Some, slice_get, inl, inr, refl, sym, ap, ◌∙◌, subst, arith, append-nil, length-append}
 use Rattle.std.proofs.lemmas.Option.{slice_get_read}
 use Rattle.turnstile.specs.Passes.{PassView}
 use Rattle.txn_core.specs.declared.message.Message.{Message}
@@ -16,13 +16,7 @@ use Rattle.own_entries.proofs.Counting.{counts_none, counts_on, counts_until, sa
 use Rattle.txn_reader.specs.declared.item_version.ItemVersion.{ItemVersion}
 use Rattle.txn_reader.specs.declared.read_end.ReadEnd.{ReadEnd}
 use Rattle.txn_reader.specs.Reasons.{IsRuled}
-use Rattle.txn_reader.specs.Reads.{reads, misses, round, MissesAfter, StopsAfter, IsEarlier, IsCutShort, Ends}
-
--- the key at the place of a loop is that behind as many reads
-pub its_key :
-    {K : Type 0} (keys : List K) (many place : ℕ) (key : K) → many ≡ place → place < length keys → key ≡ get_or keys place key
-    → slice_get keys many ≡ Some key
-its_key keys many place key same within is = ap (slice_get keys) same ∙ slice_get_read keys (length keys) place key refl within is
+use Rattle.txn_reader.specs.Reads.{reads, misses, IsRead, round, MissesAfter, StopsAfter, IsEarlier, IsCutShort, Ends}
 
 -- a ReadVersion is answered by a version or by Stale
 no_other :
@@ -83,32 +77,42 @@ module _ {K V A F C D Q B : Type 0} (S : Service K V A F C D Q B) where
   same_round p xs a q counts keys found = ap (λ (z : PassView (Event S)). round S z keys found) counts.pass
 
   module _ (p q : PassView (Event S)) (keys : List K) (found : List (ItemVersion V)) (so : Counts S p (round S p keys found) 0 q) where
-    -- the round goes on
-    pub counts_more :
-        (key : K) (v : ItemVersion V) (r : PassView (Event S)) → slice_get keys (length found) ≡ Some key
-        → Counts S q (reads S q key v ∷ []) 0 r → Counts S p (round S p keys (found ++ v ∷ [])) 0 r
-    counts_more key v r at read =
-        subst (λ es. Counts S p es 0 r) (sym (round_more p keys found key v at))
-        (counts_on S p (round S p keys found) 0 q (reads S p key v ∷ []) 0 r so
-        (subst (λ e. Counts S q (e ∷ []) 0 r)
-        (same_event S p (round S p keys found) 0 q so (Some (S.core.cell_of key)) (Message.ReadVersion key) (Answer.Version v.item v.version v.held))
-        read))
+    -- the round goes on with the key at its place, whose item was read; or the table of that key is gone
+    module _ (place : ℕ) (key : K) (many : length found ≡ place) (within : place < length keys) (its : key ≡ get_or keys place key)
+        (read : Option (ItemVersion V)) (r : PassView (Event S)) (is_read : IsRead S q key read r) where
+      at : slice_get keys (length found) ≡ Some key
+      at = ap (slice_get keys) many ∙ slice_get_read keys (length keys) place key refl within its
 
-    -- the next table is gone
-    pub counts_miss :
-        (key : K) (r : PassView (Event S)) → slice_get keys (length found) ≡ Some key → Counts S q (misses S q key ∷ []) 0 r
-        → MissesAfter S [] p keys (length found) r
-    counts_miss key r at missed =
-        record {
-          found = found;
-          many = refl;
-          key = key;
-          its = at;
-          counts =
-              counts_on S p (round S p keys found) 0 q (misses S p key ∷ []) 0 r so
-              (subst (λ e. Counts S q (e ∷ []) 0 r)
-              (same_event S p (round S p keys found) 0 q so (Some (S.core.cell_of key)) (Message.ReadVersion key) Answer.Stale) missed);
-        }
+      module _ (v : ItemVersion V) (some : read ≡ Some v) where
+        pub counts_more : Counts S p (round S p keys (found ++ v ∷ [])) 0 r
+        counts_more =
+            subst (λ es. Counts S p es 0 r) (sym (round_more p keys found key v at))
+            (counts_on S p (round S p keys found) 0 q (reads S p key v ∷ []) 0 r so
+            (subst (λ e. Counts S q (e ∷ []) 0 r)
+            (same_event S p (round S p keys found) 0 q so (Some (S.core.cell_of key)) (Message.ReadVersion key)
+            (Answer.Version v.item v.version v.held))
+            (subst (λ (z : Option (ItemVersion V)). IsRead S q key z r) some is_read)))
+
+        -- and keeps what was found
+        pub goes_on : (kept : List (ItemVersion V)) → kept ≡ found ++ v ∷ [] → Counts S p (round S p keys kept) 0 r × (length kept ≡ place + 1)
+        goes_on kept more =
+            let long = length-append found (v ∷ []) in
+            let all = ap length more in
+            (subst (λ (z : List (ItemVersion V)). Counts S p (round S p keys z) 0 r) (sym more) counts_more, omega arith)
+
+      pub counts_miss : read ≡ None → (count : ℕ) → count ≡ length found → MissesAfter S [] p keys count r
+      counts_miss none count is =
+          record {
+            found = found;
+            many = sym is;
+            key = key;
+            its = ap (slice_get keys) is ∙ at;
+            counts =
+                counts_on S p (round S p keys found) 0 q (misses S p key ∷ []) 0 r so
+                (subst (λ e. Counts S q (e ∷ []) 0 r)
+                (same_event S p (round S p keys found) 0 q so (Some (S.core.cell_of key)) (Message.ReadVersion key) Answer.Stale)
+                (subst (λ (z : Option (ItemVersion V)). IsRead S q key z r) none is_read));
+          }
 
     -- it was ended
     pub stops :

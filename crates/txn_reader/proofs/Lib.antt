@@ -1,3 +1,4 @@
 mod Counted
 mod Points
+mod Told
 mod Units
