@@ -5,3 +5,7 @@ pub mod Deciding
 pub mod Finishing
 pub mod Recalled
 pub mod Closing
+pub mod Differing
+pub mod Drawn
+pub mod Writing
+pub mod Total

@@ -1,6 +1,10 @@
 //! What the driver of one transaction keeps.
 
+ghost use Rattle.std.specs.Prelude.{◌<◌, ◌^◌, length};
+ghost use Rattle.coordinator.specs.Writes.{StartsWith};
+
 use base_types::Seq;
+use std::alloc::Global;
 use std::collections::VecDeque;
 use txn_core::{Course, Fate, Reason, Rules, Stamp};
 
@@ -29,3 +33,30 @@ pub struct Driver<A, V, F> {
 
 /// A driver under these rules.
 pub type DriverOf<R> = Driver<<R as Rules>::Action, <R as Rules>::Value, <R as Rules>::Fault>;
+
+impl<A, V, F> Driver<A, V, F> {
+    /// The driver of a transaction that was begun with this number and stamp, and with these actions. Nothing was told of it yet.
+    pub(crate) fn begun(
+        alloc: Global,
+        number: u64,
+        stamp: Stamp,
+        actions: Seq<A>,
+    ) -> Driver<A, V, F>
+        requires { length actions < 2 ^ 32 }
+        ensures { StartsWith number stamp actions result }
+    {
+        let course = Course::start(actions.len() as u32);
+        Driver {
+            number,
+            stamp,
+            actions: VecDeque::from(Vec::from(actions)),
+            found: Seq::new(alloc),
+            no_table: None,
+            carried: Seq::new(alloc),
+            copy: Seq::new(alloc),
+            reasons: None,
+            fate: Fate::Undecided,
+            course,
+        }
+    }
+}

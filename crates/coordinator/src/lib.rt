@@ -1,4 +1,5 @@
-//! Drivers of transactions: each step of a transaction's course, from its record to its end.
+//! Transactions on a cluster: each step of a transaction's course, from its record to its end, and a whole one, from its Begin to its
+//! Forget.
 //!
 //! A [`Driver`] keeps what it was told of one transaction, and takes the steps of the transaction's [`Course`](txn_core::Course)
 //! on a cluster: [`recall`] begins with the record, and [`advance`] takes the step that comes next, which is [`prepare`], [`commit`],
@@ -9,17 +10,25 @@
 //! - Each step adds at most one own entry, a message on its transaction, and leaves the course fewer moves.
 //! - A step is given up for want of a unit exactly where the pass has none left. From the decision on, its own message among them,
 //!   no step takes memory.
+//!
+//! [`transact_write`] begins a transaction of its own and drives it so, or follows what its token stands for. Its own entries are Begins
+//! with its token and its actions, of which one at most draws a number, messages that drive the number that a Begin named, and at last the
+//! Forget of the number that it drew (`specs/Writes.antt`). That number is never found gone, whatever other drivers do.
 #![tactic(auto)]
 
+mod apart;
 mod course;
 mod decision;
 mod drive_end;
 mod driver;
 mod ending;
+mod parameters;
 mod preparation;
 mod reasons;
 mod record;
 mod run;
+mod transact_end;
+mod transaction;
 mod verdict;
 
 pub use course::advance;
@@ -30,3 +39,5 @@ pub use ending::{finish, settle};
 pub use preparation::prepare;
 pub use record::recall;
 pub use run::drive;
+pub use transact_end::{TransactEnd, TransactEndOf};
+pub use transaction::transact_write;

@@ -1,0 +1,218 @@
+-- All own entries of a transaction that was written.
+use Rattle.std.proofs.Common.{◌≡◌, ◌≢◌, inl, inr, ℕ, zero, suc, ◌+◌, ◌≤◌, Bool, true, false, cond, List, [], ◌∷◌, ◌++◌, length, Option, None, Some, refl, sym, ap, ◌∙◌, subst, arith, length-append}
+use Rattle.std.specs.List.{filter, AllByRecursion}
+use Rattle.std.proofs.lemmas.List.Elements.{filter-append}
+use Rattle.turnstile.specs.Histories.{Trail}
+use Rattle.turnstile.specs.Passes.{PassView}
+use Rattle.turnstile.proofs.Histories.{trail_on}
+use Rattle.txn_core.specs.declared.message.Message.{Message}
+use Rattle.txn_core.specs.declared.answer.Answer.{Answer}
+use Rattle.txn_core.specs.Service.{Service, Asked, Reply, Event}
+use Rattle.cluster.specs.declared.step.StepError.{StepError}
+use Rattle.cluster.specs.Events.{pass_of, event_of}
+use Rattle.own_entries.specs.Counts.{Counts}
+use Rattle.own_entries.proofs.Counting.{counts_none}
+use Rattle.coordinator.specs.declared.drive_end.DriveEnd.{DriveEnd}
+use Rattle.coordinator.specs.declared.transact_end.TransactEnd.{TransactEnd}
+use Rattle.coordinator.specs.Driving.{is_driving, Added, AllDrive}
+use Rattle.coordinator.specs.Drives.{is_gone_end}
+use Rattle.coordinator.specs.Writes.{ended_by, unanswered, draws_some, Forgets, ForgetsDone, RunsDrawn, Follows, Turns, TurnsAgain, Writes, IsOfWrite, AddsWriting}
+use Rattle.coordinator.proofs.Moving.{added_after, added_by, each_append, exactly, until_added, until_exact}
+use Rattle.coordinator.proofs.Writing.{none_by}
+
+module _ {K V A F C D Q B : Type 0} (S : Service K V A F C D Q B) (token : Option (List ℕ)) (actions : List A) where
+  -- how many of these drew a number
+  abbrev drew : List (Event S) → ℕ
+  drew own = length (filter (λ e. draws_some e.message e.answer) own)
+
+  abbrev Each : List (Event S) → Type 0
+  Each own = AllByRecursion (λ e. IsOfWrite S token actions e.message) own
+
+  drew_append : (xs ys : List (Event S)) → drew (xs ++ ys) ≡ drew xs + drew ys
+  drew_append xs ys =
+      ap length (filter-append (λ (e : Event S). draws_some e.message e.answer) xs ys)
+      ∙ length-append (filter (λ (e : Event S). draws_some e.message e.answer) xs) (filter (λ (e : Event S). draws_some e.message e.answer) ys)
+
+  -- entries that drive belong to the writing and draw nothing
+  drives_of : (n : ℕ) (m : Asked S) (a : Reply S) → is_driving n m ≡ true → IsOfWrite S token actions m × (draws_some m a ≡ false)
+  drives_of n (Message.Recall k) a h = (tt, refl)
+  drives_of n (Message.Prepare k stamp action) a h = (tt, refl)
+  drives_of n (Message.Decide k commit reasons) a h = (tt, refl)
+  drives_of n (Message.Apply k key) a h = (tt, refl)
+  drives_of n (Message.Release k key) a h = (tt, refl)
+  drives_of n (Message.Done k) a h = (tt, refl)
+  drives_of n _ a h = absurd (cc)
+
+  all_drive : (n : ℕ) (own : List (Event S)) → AllDrive S n own → Each own × (drew own ≡ 0)
+  all_drive n [] each = (tt, refl)
+  all_drive n (e ∷ own) each =
+      let here = drives_of n e.message e.answer each.0 in
+      let rest = all_drive n own each.1 in
+      ((here.0, rest.0), ap (λ b. length (cond b (e ∷ filter (λ (x : Event S). draws_some x.message x.answer) own) (filter (λ (x : Event S). draws_some x.message x.answer) own))) here.1 ∙ rest.1)
+
+  drew_one : (e : Event S) → drew (e ∷ []) ≤ 1
+  drew_one e = by_case (draws_some e.message e.answer)
+    where
+      by_case : (b : Bool) → length (cond b (e ∷ []) []) ≤ 1
+      by_case true = omega arith
+      by_case false = omega arith
+
+  -- some own entries between two moments of the pass: exactly a unit each where this is so, and at most so many drew a number
+  record Part (sure : Type 0) (most : ℕ) (p q : PassView (Event S)) : Type 0 where
+    pub own : List (Event S)
+    pub added : Added S 1 p own q
+    pub exact : sure → q.used ≡ p.used + length own
+    pub each : Each own
+    pub few : drew own ≤ most
+
+  counted : (sure : Type 0) (most : ℕ) (p q : PassView (Event S)) (own : List (Event S)) → Counts S p own 0 q → Each own → drew own ≤ most → Part sure most p q
+  counted sure most p q own h each few =
+      record { own = own; added = added_by S 1 0 p own q (omega arith) h; exact = λ _. exactly S p own q h; each = each; few = few }
+
+  -- two stretches, of which only the last may use more
+  behind : (sure : Type 0) (i j : ℕ) (p q r : PassView (Event S)) (xs : List (Event S)) → Counts S p xs 0 q → Each xs → drew xs ≤ i → Part sure j q r → Part sure (i + j) p r
+  behind sure i j p q r xs one each few two =
+      let units = one.units in
+      let long = length-append xs two.own in
+      let all = drew_append xs two.own in
+      let more = two.few in
+      record {
+        own = xs ++ two.own;
+        added = added_after S 1 p q r xs two.own one two.added;
+        exact = λ s. (let later = two.exact s in omega arith);
+        each = each_append (λ e. IsOfWrite S token actions e.message) xs two.own each two.each;
+        few = omega arith;
+      }
+
+  added_before : (p q r : PassView (Event S)) (xs ys : List (Event S)) → Added S 1 p xs q → Counts S q ys 0 r → Added S 1 p (xs ++ ys) r
+  added_before p q r xs ys one two =
+      let number : q.number ≡ p.number = ap (λ (z : PassView (Event S)). z.number) one.pass in
+      let units = one.units in
+      let later = two.units in
+      let long = length-append xs ys in
+      record {
+        pass = two.pass ∙ ap (λ (z : PassView (Event S)). record z { used = r.used; front = r.front }) one.pass;
+        trail =
+            trail_on pass_of p.number p.front xs q.front ys r.front one.trail
+            (subst (λ k. Trail pass_of k q.front ys r.front) number two.trail);
+        units = omega arith;
+      }
+
+  -- the Forget
+  record Last (p q : PassView (Event S)) : Type 0 where
+    pub own : List (Event S)
+    pub counts : Counts S p own 0 q
+    pub each : Each own
+    pub none : drew own ≡ 0
+
+  nothing : (p q : PassView (Event S)) → q ≡ p → Last p q
+  nothing p q same = record { own = []; counts = subst (λ (z : PassView (Event S)). Counts S p [] 0 z) (sym same) (counts_none S p); each = tt; none = refl }
+
+  forget_part : (p q : PassView (Event S)) (n : ℕ) → Forgets S p n q → Last p q
+  forget_part p q n (inl h) = record { own = _; counts = h.1; each = (tt, tt); none = refl }
+  forget_part p q n (inr h) = nothing p q h.0
+
+  last_part : (driven : DriveEnd V F) (p q : PassView (Event S)) (n : ℕ) → ForgetsDone S driven p n q → Last p q
+  last_part DriveEnd.Committed p q n h = forget_part p q n h
+  last_part (DriveEnd.Cancelled reasons) p q n h = forget_part p q n h
+  last_part (DriveEnd.NoTable place) p q n h = forget_part p q n h
+  last_part DriveEnd.Gone p q n h = nothing p q h
+  last_part DriveEnd.Stopped p q n h = nothing p q h
+  last_part DriveEnd.Spent p q n h = nothing p q h
+  last_part DriveEnd.NoMemory p q n h = nothing p q h
+
+  drawn_part :
+      (n : ℕ) (stamp : _) (p q : PassView (Event S)) (driven : DriveEnd V F) → RunsDrawn S n stamp actions p driven q → Part (driven ≢ DriveEnd.NoMemory) 0 p q
+  drawn_part n stamp p q driven h =
+      let last = last_part driven h.middle q n h.forgets in
+      let drives = all_drive n h.own h.each in
+      let units = last.counts.units in
+      let long = length-append h.own last.own in
+      let all = drew_append h.own last.own in
+      let one = drives.1 in
+      let two = last.none in
+      record {
+        own = h.own ++ last.own;
+        added = added_before p h.middle q h.own last.own h.added last.counts;
+        exact = λ sure. (let before = h.exact sure in omega arith);
+        each = each_append (λ e. IsOfWrite S token actions e.message) h.own last.own drives.0 last.each;
+        few = omega arith;
+      }
+
+  sure_of : (driven : DriveEnd V F) (end : Option (TransactEnd V F)) → end ≡ ended_by driven → end ≢ Some TransactEnd.NoMemory → driven ≢ DriveEnd.NoMemory
+  sure_of driven end is sure e = sure (is ∙ ap ended_by e)
+
+  weaker : (one two : Type 0) (i j : ℕ) (p q : PassView (Event S)) → (two → one) → i ≤ j → Part one i p q → Part two j p q
+  weaker one two i j p q f le h =
+      let few = h.few in record { own = h.own; added = h.added; exact = λ s. h.exact (f s); each = h.each; few = omega arith }
+
+  at_once : (sure : Type 0) (p q : PassView (Event S)) → q ≡ p → Part sure 0 p q
+  at_once sure p q same = let l = nothing p q same in counted sure 0 p q l.own l.counts l.each (let none = l.none in omega arith)
+
+  -- what follows a Begin draws nothing
+  follow_part : (a : Reply S) (p q : PassView (Event S)) (end : Option (TransactEnd V F)) → Follows S actions a p end q → Part (end ≢ Some TransactEnd.NoMemory) 0 p q
+  follow_part (Answer.Begun n stamp) p q end h = weaker _ _ 0 0 p q (sure_of h.0 end h.2) (omega arith) (drawn_part n stamp p q h.0 h.1)
+  follow_part (Answer.Running n) p q end h =
+      let drives = all_drive n h.1.own h.1.each in
+      let none = drives.1 in
+      record { own = h.1.own; added = h.1.added; exact = λ sure. h.1.exact (sure_of h.0 end h.2 sure); each = drives.0; few = omega arith }
+  follow_part (Answer.Repeat n) p q end h = at_once _ p q h.0
+  follow_part (Answer.Mismatch n) p q end h = at_once _ p q h.0
+  follow_part Answer.Stale p q end h = at_once _ p q h.0
+  follow_part _ p q end h = absurd h
+
+  unanswered_sure : (why : StepError) (end : Option (TransactEnd V F)) → end ≡ Some (unanswered why) → end ≢ Some TransactEnd.NoMemory → why ≢ StepError.NoMemory
+  unanswered_sure why end is sure e = sure (is ∙ ap (λ w. Some (unanswered w)) e)
+
+  turn_part : (p q : PassView (Event S)) (end : Option (TransactEnd V F)) → Turns S token actions p end q → Part (end ≢ Some TransactEnd.NoMemory) 1 p q
+  turn_part p q end (inl h) =
+      let e : Event S = event_of p h.cell (Message.Begin token actions) h.answer in
+      behind _ 1 0 p h.middle q (e ∷ []) h.begin ((refl, refl), tt) (drew_one e) (follow_part h.answer h.middle q end h.follows)
+  turn_part p q end (inr h) =
+      record {
+        own = [];
+        added = until_added S p [] q h.0 h.1;
+        exact = λ sure. until_exact S p [] q h.0 h.1 (unanswered_sure h.0 end h.2 sure);
+        each = tt;
+        few = omega arith;
+      }
+
+  -- one after which the Begin is sent again drew nothing
+  again_by :
+      (p m q : PassView (Event S)) (cell : Option ℕ) (a : Reply S) → Counts S p (event_of p cell (Message.Begin token actions) a ∷ []) 0 m
+      → Follows S actions a m None q → Part (Unit {0}) 0 p q
+  again_by p m q cell (Answer.Running n) counts h =
+      let part = follow_part (Answer.Running n) m q None h in
+      behind (Unit {0}) 0 0 p m q _ counts ((refl, refl), tt) (omega arith)
+      (weaker _ (Unit {0}) 0 0 m q (λ _ e. (let k : None ≡ Some TransactEnd.NoMemory = e in cc)) (omega arith) part)
+  again_by p m q cell (Answer.Begun n stamp) counts h =
+      let gone = none_by h.0 (sym h.2) in absurd (let e = sym (ap is_gone_end gone) ∙ h.1.there in cc)
+  again_by p m q cell (Answer.Repeat n) counts h = absurd (let e = h.1 in cc)
+  again_by p m q cell (Answer.Mismatch n) counts h = absurd (let e = h.1 in cc)
+  again_by p m q cell Answer.Stale counts h = absurd (let e = h.1 in cc)
+  again_by p m q cell _ counts h = absurd h
+
+  again_turn : (p q : PassView (Event S)) → Turns S token actions p None q → Part (Unit {0}) 0 p q
+  again_turn p q (inl h) = again_by p h.middle q h.cell h.answer h.begin h.follows
+  again_turn p q (inr h) = absurd (let e = h.2 in cc)
+
+  counts_of : (most : ℕ) (p q : PassView (Event S)) (h : Part (Unit {0}) most p q) → Counts S p h.own 0 q
+  counts_of most p q h = let units = h.exact tt in record { pass = h.added.pass; trail = h.added.trail; units = omega arith }
+
+  again_part : (p : PassView (Event S)) (k : ℕ) (q : PassView (Event S)) → TurnsAgain S token actions p k q → Part (Unit {0}) 0 p q
+  again_part p zero q h = at_once (Unit {0}) p q h
+  again_part p (suc k) q h =
+      let before = again_part p k h.0 h.1 in
+      behind (Unit {0}) 0 0 p h.0 q before.own (counts_of 0 p h.0 before) before.each before.few (again_turn h.0 q h.2)
+
+  -- so all of them
+  pub adds_writing : (p q : PassView (Event S)) (end : TransactEnd V F) → Writes S token actions p end q → AddsWriting S token actions p end q
+  adds_writing p q end h =
+      let before = again_part p h.again h.last h.before in
+      let all = behind _ 0 1 p h.last q before.own (counts_of 0 p h.last before) before.each before.few (turn_part h.last q (Some end) h.turn) in
+      record { own = all.own; added = all.added; exact = λ sure. all.exact (λ e. sure (let k : Some end ≡ Some TransactEnd.NoMemory = e in cc)); each = all.each; once = all.few }
+
+  -- nothing was sent
+  pub adds_none : (p : PassView (Event S)) (end : TransactEnd V F) → AddsWriting S token actions p end p
+  adds_none p end =
+      record { own = []; added = added_by S 1 0 p [] p (omega arith) (counts_none S p); exact = λ _. exactly S p [] p (counts_none S p); each = tt; once = omega arith }

@@ -1,0 +1,42 @@
+use Rattle.std.proofs.Common.{◌-◌, Some, reverse, sym, ap, subst}
+use Rattle.std.specs.Option.{option_copied}
+use Rattle.txn_core.specs.declared.message.Message.{Message}
+use Rattle.txn_core.specs.Legal.{Allowed}
+use Rattle.cluster.specs.Events.{event_of}
+use Rattle.cluster.specs.Steps.{IsLater}
+use Rattle.coordinator.specs.Writes.{IsDrawn}
+use Rattle.coordinator.proofs.Drawn.{drawn}
+use Rattle.coordinator.proofs.Writing.{begin_told, may_begin}
+use Rattle.coordinator.proofs.transaction.begin.Goals as goal
+
+pub ask_ledger-requires-clause-may : goal.ask_ledger-requires-clause-may
+ask_ledger-requires-clause-may g c =
+    let S = g.R.Rules.protocol (c.args.cluster.now.id.slots - 1) in
+    let p = c.args.pass.now in
+    subst (λ m. Allowed S (reverse p.front) p.number m) (sym c.in-Ok-begin_message.ensures)
+    (may_begin S c.args.actions.now c.requires.some c.requires.few c.requires.apart)
+
+pub follow-requires-clause-told : goal.follow-requires-clause-told
+follow-requires-clause-told g c =
+    let n = c.args.cluster.now.id.slots - 1 in
+    let S = g.R.Rules.protocol n in
+    let p = c.args.pass.now in
+    let q = c.ask_ledger.new.pass in
+    let a = c.in-Ok-ask_ledger.answer in
+    begin_told S (reverse p.front) (reverse q.front) p (Some n) (option_copied c.args.token) c.args.actions.now a
+    (subst (λ m. IsLater S (reverse p.front) (event_of p (Some n) m a) (reverse q.front)) c.in-Ok-begin_message.ensures
+    c.in-Ok-ask_ledger.ensures.later)
+
+pub follow-requires-clause-drawn : goal.follow-requires-clause-drawn
+follow-requires-clause-drawn g c = λ number stamp is.
+    let n = c.args.cluster.now.id.slots - 1 in
+    let S = g.R.Rules.protocol n in
+    let p = c.args.pass.now in
+    let q = c.ask_ledger.new.pass in
+    let token = option_copied c.args.token in
+    let step =
+    subst (λ m. IsLater S (reverse p.front) (event_of p (Some n) m c.in-Ok-ask_ledger.answer) (reverse q.front)) c.in-Ok-begin_message.ensures
+    c.in-Ok-ask_ledger.ensures.later in
+    subst (λ xs. IsDrawn S q number stamp xs) (sym c.in-Ok.ensures)
+    (drawn S (g.met.R.Rules.lawful n) p q (Some n) token c.args.actions.now number stamp (ap (λ z. z.number) c.in-Ok-ask_ledger.ensures.ok.pass)
+    (subst (λ y. IsLater S (reverse p.front) (event_of p (Some n) (Message.Begin token c.args.actions.now) y) (reverse q.front)) is step))

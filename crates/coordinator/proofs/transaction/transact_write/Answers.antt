@@ -1,0 +1,36 @@
+use Rattle.std.proofs.Common.{◌-◌, ◌∙◌, sym}
+use Rattle.std.specs.Option.{option_copied}
+use Rattle.coordinator.specs.declared.transact_end.TransactEnd.{TransactEnd}
+use Rattle.coordinator.proofs.Total.{adds_none, adds_writing}
+use Rattle.coordinator.proofs.Writing.{writes_none}
+use Rattle.coordinator.proofs.transaction.transact_write.Goals as goal
+
+pub returns-in_default-clause-writes : goal.returns-in_default-clause-writes
+returns-in_default-clause-writes g c = λ _.
+    writes_none (g.R.Rules.protocol (c.args.cluster.now.id.slots - 1)) (option_copied c.args.token) c.args.actions.now c.args.pass.now
+
+pub returns-in_default-clause-own : goal.returns-in_default-clause-own
+returns-in_default-clause-own g c =
+    adds_none (g.R.Rules.protocol (c.args.cluster.now.id.slots - 1)) (option_copied c.args.token) c.args.actions.now c.args.pass.now
+    TransactEnd.NoMemory
+
+pub returns-then-not-apart-clause-writes : goal.returns-then-not-apart-clause-writes
+returns-then-not-apart-clause-writes g c = λ is.
+    absurd (let e = sym (sym (c.in-Ok.ensures (c.args.cluster.now.id.slots - 1)) ∙ c.if-not-apart.true) ∙ is in cc)
+
+pub returns-then-not-apart-clause-own : goal.returns-then-not-apart-clause-own
+returns-then-not-apart-clause-own g c =
+    adds_none (g.R.Rules.protocol (c.args.cluster.now.id.slots - 1)) (option_copied c.args.token) c.args.actions.now c.args.pass.now
+    TransactEnd.Twice
+
+pub write_apart-requires-clause-apart : goal.write_apart-requires-clause-apart
+write_apart-requires-clause-apart g c = sym (c.in-Ok.ensures (c.args.cluster.now.id.slots - 1)) ∙ c.if-not-apart.false
+
+pub returns-clause-twice : goal.returns-clause-twice
+returns-clause-twice g c = λ no.
+    absurd (let e = sym (sym (c.in-Ok.ensures (c.args.cluster.now.id.slots - 1)) ∙ c.if-not-apart.false) ∙ no in cc)
+
+pub returns-clause-own : goal.returns-clause-own
+returns-clause-own g c =
+    adds_writing (g.R.Rules.protocol (c.args.cluster.now.id.slots - 1)) (option_copied c.args.token) c.args.actions.now c.args.pass.now
+    c.write_apart.new.pass c.write_apart.result c.write_apart.ensures.writes
