@@ -1,22 +1,30 @@
 -- All own entries of a transaction that was written.
-use Rattle.std.proofs.Common.{◌≡◌, ◌≢◌, inl, inr, ℕ, zero, suc, ◌+◌, ◌≤◌, Bool, true, false, cond, List, [], ◌∷◌, ◌++◌, length, Option, None, Some, refl, sym, ap, ◌∙◌, subst, arith, length-append}
-use Rattle.std.specs.List.{filter, AllByRecursion}
+use Rattle.std.proofs.Common.{◌≡◌, ◌≢◌, inl, inr, ℕ, zero, suc, ◌+◌, ◌≤◌, Bool, true, false, cond, List, [], ◌∷◌, ◌++◌, length, Option, None, Some, refl, sym, ap, ◌∙◌, subst, arith, length-append, ◌&&◌, reverse, eq-eqb, IfSome}
+use Rattle.std.specs.List.{list_any, filter, AllByRecursion}
+use Rattle.std.proofs.lemmas.Bool.{or_right}
+use Rattle.std.proofs.lemmas.List.{append-nil}
 use Rattle.std.proofs.lemmas.List.Elements.{filter-append}
-use Rattle.turnstile.specs.Histories.{Trail}
+use Rattle.turnstile.specs.Histories.{Has, Trail}
 use Rattle.turnstile.specs.Passes.{PassView}
 use Rattle.turnstile.proofs.Histories.{trail_on}
 use Rattle.txn_core.specs.declared.message.Message.{Message}
 use Rattle.txn_core.specs.declared.answer.Answer.{Answer}
-use Rattle.txn_core.specs.Service.{Service, Asked, Reply, Event}
+use Rattle.txn_core.specs.History.{Had, commits, finishes, is_stale}
+use Rattle.txn_core.specs.Legal.{prepares}
+use Rattle.txn_core.specs.Service.{IsServiceLawful, Service, Asked, Reply, Event}
 use Rattle.cluster.specs.declared.step.StepError.{StepError}
+use Rattle.txn_core.proofs.Exports.{had_more, repeats_are_done}
+use Rattle.cluster.specs.Steps.{IsLater}
 use Rattle.cluster.specs.Events.{pass_of, event_of}
-use Rattle.own_entries.specs.Counts.{Counts}
+use Rattle.own_entries.specs.Counts.{Counts, CountsUntil}
 use Rattle.own_entries.proofs.Counting.{counts_none}
 use Rattle.coordinator.specs.declared.drive_end.DriveEnd.{DriveEnd}
 use Rattle.coordinator.specs.declared.transact_end.TransactEnd.{TransactEnd}
-use Rattle.coordinator.specs.Driving.{is_driving, Added, AllDrive}
-use Rattle.coordinator.specs.Drives.{is_gone_end}
-use Rattle.coordinator.specs.Writes.{ended_by, unanswered, draws_some, Forgets, ForgetsDone, RunsDrawn, Follows, Turns, TurnsAgain, Writes, IsOfWrite, AddsWriting}
+use Rattle.coordinator.specs.Driving.{is_driving, is_done, Added, AllDrive}
+use Rattle.coordinator.specs.Drives.{is_gone_end, IsEnd}
+use Rattle.coordinator.specs.Writes.{ended_by, unanswered, draws_some, Forgets, ForgetsDone, RunsDrawn, Follows, Turns, TurnsAgain, Writes, IsOfWrite, WasAnswered, WasNamed, EndsBy, AddsWriting}
+use Rattle.coordinator.proofs.Driven.{any_back, any_front}
+use Rattle.coordinator.proofs.Finishing.{some_weaker}
 use Rattle.coordinator.proofs.Moving.{added_after, added_by, each_append, exactly, until_added, until_exact}
 use Rattle.coordinator.proofs.Writing.{none_by}
 
@@ -205,14 +213,136 @@ module _ {K V A F C D Q B : Type 0} (S : Service K V A F C D Q B) (token : Optio
       let before = again_part p k h.0 h.1 in
       behind (Unit {0}) 0 0 p h.0 q before.own (counts_of 0 p h.0 before) before.each before.few (again_turn h.0 q h.2)
 
+  has_back : (xs ys : List (Event S)) (e : Event S) → Has ys e → Has (xs ++ ys) e
+  has_back [] ys e h = h
+  has_back (x ∷ xs) ys e h = inr (has_back xs ys e h)
+
+  -- what some of these entries pass, all of them do
+  abbrev Within : List (Event S) → List (Event S) → Type 0
+  Within xs own = (f : Event S → Bool) → list_any f xs ≡ true → list_any f own ≡ true
+
+  -- the end of a number that an own Begin named
+  driven_cause :
+      (driven : DriveEnd V F) (end : TransactEnd V F) (n : ℕ) (xs own : List (Event S)) (q : PassView (Event S)) → Some end ≡ ended_by driven
+      → IsEnd S q n xs driven → WasNamed S token actions own n → Within xs own → EndsBy S token actions own q end
+  driven_cause DriveEnd.Committed end n xs own q e is named up =
+      let same : TransactEnd.Committed ≡ end = cc in
+      subst (λ z. EndsBy S token actions own q z) same (n, named, is.cause.0, inl (up (λ x. is_done n x.message) is.cause.1))
+  driven_cause (DriveEnd.Cancelled reasons) end n xs own q e is named up =
+      let same : TransactEnd.Cancelled reasons ≡ end = cc in
+      let c = is.cause.0 in
+      subst (λ z. EndsBy S token actions own q z) same
+      (n, named, record { cancelled = c.cancelled; reasons_are = c.reasons_are; done = up (λ x. is_done n x.message) c.done }, is.cause.1)
+  driven_cause (DriveEnd.NoTable place) end n xs own q e is named up =
+      let same : TransactEnd.NoTable place ≡ end = cc in
+      let c = is.cause.1 in
+      subst (λ z. EndsBy S token actions own q z) same (
+        n,
+        named,
+        is.cause.0,
+        record { cancelled = c.cancelled; reasons_are = c.reasons_are; done = up (λ x. is_done n x.message) c.done },
+        is.cause.2,
+        some_weaker place is.cause.3
+            (λ at f. record {
+              action = f.action;
+              its_place = f.its_place;
+              stale = up (λ x. prepares S n (S.core.key_of f.action) x.message && is_stale x.answer) f.stale;
+            }),
+      )
+  driven_cause DriveEnd.Gone end n xs own q e is named up = absurd (cc)
+  driven_cause DriveEnd.Stopped end n xs own q e is named up =
+      let same : TransactEnd.Stopped ≡ end = cc in subst (λ z. EndsBy S token actions own q z) same tt
+  driven_cause DriveEnd.Spent end n xs own q e is named up =
+      let same : TransactEnd.Spent ≡ end = cc in subst (λ z. EndsBy S token actions own q z) same is.cause
+  driven_cause DriveEnd.NoMemory end n xs own q e is named up =
+      let same : TransactEnd.NoMemory ≡ end = cc in subst (λ z. EndsBy S token actions own q z) same tt
+
+  -- what came of a Begin that was answered, behind other own entries
+  module _ (law : IsServiceLawful S) (older : List (Event S)) (p m : PassView (Event S)) (cell : Option ℕ) where
+    abbrev begin_of : Reply S → Event S
+    begin_of a = event_of p cell (Message.Begin token actions) a
+
+    answered_so : (a : Reply S) (rest : List (Event S)) → WasAnswered S token actions (older ++ (begin_of a ∷ rest)) a
+    answered_so a rest = (begin_of a, has_back older (begin_of a ∷ rest) (begin_of a) (inl refl), refl, refl)
+
+    within : (a : Reply S) (xs ys : List (Event S)) → Within xs (older ++ (begin_of a ∷ (xs ++ ys)))
+    within a xs ys f h =
+        any_back f older (begin_of a ∷ (xs ++ ys)) (or_right (f (begin_of a)) (list_any f (xs ++ ys)) (any_front f xs ys h))
+
+    follow_cause :
+        (a : Reply S) (q : PassView (Event S)) (end : TransactEnd V F) (h : Follows S actions a m (Some end) q)
+        → IsLater S (reverse p.front) (begin_of a) (reverse m.front)
+        → EndsBy S token actions (older ++ (begin_of a ∷ (follow_part a m q (Some end) h).own)) q end
+    unfolding follow_part weaker drawn_part at_once counted nothing
+    follow_cause (Answer.Begun n stamp) q end h later =
+        let a : Reply S = Answer.Begun n stamp in
+        let last = last_part h.0 h.1.middle q n h.1.forgets in
+        driven_cause h.0 end n h.1.own (older ++ (begin_of a ∷ (h.1.own ++ last.own))) q h.2 h.1.is
+        (a, answered_so a (h.1.own ++ last.own), eq-eqb n n refl) (within a h.1.own last.own)
+    follow_cause (Answer.Running n) q end h later =
+        let a : Reply S = Answer.Running n in
+        driven_cause h.0 end n h.1.own (older ++ (begin_of a ∷ h.1.own)) q h.2 h.1.is (a, answered_so a h.1.own, eq-eqb n n refl)
+        (subst (λ ys. Within h.1.own (older ++ (begin_of a ∷ ys))) (append-nil h.1.own) (within a h.1.own []))
+    follow_cause (Answer.Repeat n) q end h later =
+        let a : Reply S = Answer.Repeat n in
+        let es = later.newer ++ reverse p.front in
+        let done = repeats_are_done S law es later.legal.0 p.moment token actions n later.legal.1.answer in
+        let front : reverse m.front ≡ reverse q.front = ap (λ (z : PassView (Event S)). reverse z.front) (sym h.0) in
+        let same : TransactEnd.Committed ≡ end = (let e = h.1 in cc) in
+        subst (λ z. EndsBy S token actions (older ++ (begin_of a ∷ [])) q z) same (
+          n,
+          (a, answered_so a [], eq-eqb n n refl),
+          subst (λ xs. Had (commits n) xs) (later.is ∙ front) (had_more (commits n) (begin_of a) es done.committed),
+          inr (subst (λ xs. Had (finishes n) xs) (later.is ∙ front) (had_more (finishes n) (begin_of a) es done.done)),
+        )
+    follow_cause (Answer.Mismatch n) q end h later =
+        let same : TransactEnd.Mismatch n ≡ end = (let e = h.1 in cc) in
+        subst (λ z. EndsBy S token actions (older ++ (begin_of (Answer.Mismatch n) ∷ [])) q z) same (answered_so (Answer.Mismatch n) [])
+    follow_cause Answer.Stale q end h later =
+        let same : TransactEnd.Stale ≡ end = (let e = h.1 in cc) in
+        subst (λ z. EndsBy S token actions (older ++ (begin_of Answer.Stale ∷ [])) q z) same (answered_so Answer.Stale [])
+    follow_cause _ q end h later = absurd h
+
+  unanswered_cause :
+      (why : StepError) (p q : PassView (Event S)) (own : List (Event S)) (end : TransactEnd V F) → CountsUntil S p [] why q
+      → Some end ≡ Some (unanswered why) → EndsBy S token actions own q end
+  unanswered_cause StepError.Spent p q own end h e =
+      let same : TransactEnd.Spent ≡ end = cc in subst (λ z. EndsBy S token actions own q z) same h.1
+  unanswered_cause StepError.NoMemory p q own end h e =
+      let same : TransactEnd.NoMemory ≡ end = cc in subst (λ z. EndsBy S token actions own q z) same tt
+
+  turn_cause :
+      IsServiceLawful S → (older : List (Event S)) (p q : PassView (Event S)) (end : TransactEnd V F) (h : Turns S token actions p (Some end) q)
+      → EndsBy S token actions (older ++ (turn_part p q (Some end) h).own) q end
+  unfolding turn_part behind
+  turn_cause law older p q end (inl h) = follow_cause law older p h.middle h.cell h.answer q end h.follows h.later
+  turn_cause law older p q end (inr h) = unanswered_cause h.0 p q (older ++ []) end h.1 h.2
+
   -- so all of them
-  pub adds_writing : (p q : PassView (Event S)) (end : TransactEnd V F) → Writes S token actions p end q → AddsWriting S token actions p end q
-  adds_writing p q end h =
+  pub adds_writing :
+      IsServiceLawful S → (p q : PassView (Event S)) (end : TransactEnd V F) → Writes S token actions p end q
+      → AddsWriting S token actions p end q
+  unfolding behind
+  adds_writing law p q end h =
       let before = again_part p h.again h.last h.before in
       let all = behind _ 0 1 p h.last q before.own (counts_of 0 p h.last before) before.each before.few (turn_part h.last q (Some end) h.turn) in
-      record { own = all.own; added = all.added; exact = λ sure. all.exact (λ e. sure (let k : Some end ≡ Some TransactEnd.NoMemory = e in cc)); each = all.each; once = all.few }
+      record {
+        own = all.own;
+        added = all.added;
+        exact = λ sure. all.exact (λ e. sure (let k : Some end ≡ Some TransactEnd.NoMemory = e in cc));
+        each = all.each;
+        cause = turn_cause law before.own h.last q end h.turn;
+        once = all.few;
+      }
 
   -- nothing was sent
-  pub adds_none : (p : PassView (Event S)) (end : TransactEnd V F) → AddsWriting S token actions p end p
-  adds_none p end =
-      record { own = []; added = added_by S 1 0 p [] p (omega arith) (counts_none S p); exact = λ _. exactly S p [] p (counts_none S p); each = tt; once = omega arith }
+  pub adds_none : (p : PassView (Event S)) (end : TransactEnd V F) → EndsBy S token actions [] p end → AddsWriting S token actions p end p
+  adds_none p end cause =
+      record {
+        own = [];
+        added = added_by S 1 0 p [] p (omega arith) (counts_none S p);
+        exact = λ _. exactly S p [] p (counts_none S p);
+        each = tt;
+        cause = cause;
+        once = omega arith;
+      }

@@ -1,21 +1,24 @@
 -- How a transaction is written: from the Begin that drew its number to its Forget, and a Begin after the other.
 use Rattle.std.proofs.Common.{◌≡◌, ◌≢◌, ◌↔◌, inl, inr, ℕ, zero, suc, ◌+◌, ◌<◌, ◌≤◌, Bool, true, false, ◌++◌, List, [], ◌∷◌, length, reverse, is_some, Option, None, Some, IfSome, Result, Ok, Err, IfOk, if◌then◌else◌, refl, sym, ap, ◌∙◌, subst, arith}
 use Rattle.std.proofs.lemmas.Bool.{cond_both}
+use Rattle.std.proofs.lemmas.List.{append-nil}
+use Rattle.turnstile.specs.Histories.{IsBeginning}
 use Rattle.turnstile.specs.Passes.{PassView, most_units}
 use Rattle.ddb_outside.specs.Causes.{Rose}
 use Rattle.txn_core.specs.declared.fate.Fate.{Fate}
+use Rattle.txn_core.specs.declared.reason.Reason.{Reason}
 use Rattle.txn_core.specs.declared.stamp.Stamp.{Stamp}
 use Rattle.txn_core.specs.declared.message.Message.{Message}
 use Rattle.txn_core.specs.declared.answer.Answer.{Answer}
 use Rattle.txn_core.specs.Answers.{KeptToken, begin_answer}
 use Rattle.txn_core.specs.Course.{is_known}
 use Rattle.txn_core.specs.Driver.{told_nothing, course_left, KnowsBegun, Knows}
-use Rattle.txn_core.specs.History.{Had, finishes, found_kept}
+use Rattle.txn_core.specs.History.{Had, commits, cancels, finishes, found_kept, reasons_of}
 use Rattle.txn_core.specs.Legal.{BeginFits, IsLegal}
 use Rattle.txn_core.specs.Replay.{are_apart}
 use Rattle.txn_core.specs.Service.{Service, IsServiceLawful, Reply, Event, History}
 use Rattle.txn_core.proofs.Duties.{pairs_apart}
-use Rattle.txn_core.proofs.Exports.{beginning_is_tail, begun_stays, left}
+use Rattle.txn_core.proofs.Exports.{beginning_is_tail, begun_stays, had_stays, left, reasons_of_stay}
 use Rattle.cluster.specs.declared.step.StepError.{StepError}
 use Rattle.cluster.specs.Events.{event_of}
 use Rattle.cluster.specs.Steps.{IsLater}
@@ -25,10 +28,12 @@ use Rattle.coordinator.specs.declared.driver.Driver.{Driver}
 use Rattle.coordinator.specs.declared.drive_end.DriveEnd.{DriveEnd}
 use Rattle.coordinator.specs.declared.transact_end.TransactEnd.{TransactEnd}
 use Rattle.coordinator.specs.Driving.{is_gone, AllDrive, found_none, sent_done, IsDriver, DrivenBy, FoundGone}
-use Rattle.coordinator.specs.Drives.{is_gone_end, IsEnd, Ends}
+use Rattle.coordinator.specs.Drives.{is_gone_end, IsCancelled, IsEnd, Ends}
 use Rattle.coordinator.specs.Writes.{ended_by, unanswered, is_over, answers_begin, StartsWith, IsDrawn, IsOwn, Forgets, ForgetsDone, RunsDrawn, Follows, Turns, TurnsAgain, Writes}
 use Rattle.coordinator.proofs.Closing.{few_left}
 use Rattle.coordinator.proofs.Drawn.{own_forgotten, stays_there}
+use Rattle.coordinator.proofs.Driven.{found_on}
+use Rattle.coordinator.proofs.Finishing.{some_weaker}
 use Rattle.coordinator.proofs.Moving.{added_by, exactly}
 use Rattle.coordinator.proofs.Recalled.{starts_on}
 
@@ -92,6 +97,71 @@ module _ {K V A F C D Q B : Type 0} (S : Service K V A F C D Q B) where
   -- actions on items that differ may be begun
   pub may_begin : (actions : List A) → 1 ≤ length actions → length actions ≤ 100 → are_apart S.core actions ≡ true → BeginFits S actions
   may_begin actions some few apart = (some, few, pairs_apart S.core actions apart)
+
+  over_forgets :
+      (driven : DriveEnd V F) (p : PassView (Event S)) (n : ℕ) (q : PassView (Event S)) → is_over driven ≡ true → Forgets S p n q
+      → ForgetsDone S driven p n q
+  over_forgets DriveEnd.Committed p n q over h = h
+  over_forgets (DriveEnd.Cancelled reasons) p n q over h = h
+  over_forgets (DriveEnd.NoTable place) p n q over h = h
+  over_forgets DriveEnd.Gone p n q over h = absurd (cc)
+  over_forgets DriveEnd.Stopped p n q over h = absurd (cc)
+  over_forgets DriveEnd.Spent p n q over h = absurd (cc)
+  over_forgets DriveEnd.NoMemory p n q over h = absurd (cc)
+
+  rests_done : (driven : DriveEnd V F) (p : PassView (Event S)) (n : ℕ) → is_over driven ≡ false → ForgetsDone S driven p n p
+  rests_done DriveEnd.Committed p n over = absurd (cc)
+  rests_done (DriveEnd.Cancelled reasons) p n over = absurd (cc)
+  rests_done (DriveEnd.NoTable place) p n over = absurd (cc)
+  rests_done DriveEnd.Gone p n over = refl
+  rests_done DriveEnd.Stopped p n over = refl
+  rests_done DriveEnd.Spent p n over = refl
+  rests_done DriveEnd.NoMemory p n over = refl
+
+  -- a Forget leaves the pass otherwise, and goes on from what it had seen
+  forgets_pass : (p : PassView (Event S)) (n : ℕ) (q : PassView (Event S)) → Forgets S p n q → (q.turnstile ≡ p.turnstile) × IsBeginning p.front q.front
+  forgets_pass p n q (inl h) = (ap (λ (z : PassView (Event S)). z.turnstile) h.1.pass, (h.1.trail.rest, h.1.trail.is))
+  forgets_pass p n q (inr h) =
+      (ap (λ (z : PassView (Event S)). z.turnstile) h.0, ([], append-nil p.front ∙ ap (λ (z : PassView (Event S)). z.front) (sym h.0)))
+
+  pub forgets_same : (p : PassView (Event S)) (n : ℕ) (q : PassView (Event S)) → Forgets S p n q → q.turnstile ≡ p.turnstile
+  forgets_same p n q h = (forgets_pass p n q h).0
+
+  -- what a number ended by is so later
+  end_stays :
+      IsServiceLawful S → (m q : PassView (Event S)) (n : ℕ) (stamp : Stamp) (actions : List A) (own : List (Event S)) (newer : History S)
+      → reverse q.front ≡ newer ++ reverse m.front → IsLegal S (reverse q.front) → KnowsBegun S (reverse m.front) n stamp actions
+      → KnowsBegun S (reverse q.front) n stamp actions → (driven : DriveEnd V F) → is_over driven ≡ true → IsEnd S m n own driven
+      → IsEnd S q n own driven
+  end_stays law m q n stamp actions own newer whole legal begun still driven over is = by_end driven over is
+    where
+      cancelled_on : (reasons : List (Reason V F)) → IsCancelled S (reverse m.front) n own reasons → IsCancelled S (reverse q.front) n own reasons
+      cancelled_on reasons h = record {
+        cancelled = subst (λ es. Had (cancels n) es) (sym whole) (had_stays (cancels n) newer (reverse m.front) h.cancelled);
+        reasons_are =
+            ap (λ es. reasons_of es n) whole
+            ∙ (reasons_of_stay S law newer (reverse m.front) (subst (IsLegal S) whole legal) n (inr h.cancelled) ∙ h.reasons_are);
+        done = h.done;
+      }
+
+      found_later : (place : ℕ) → FoundGone S (reverse m.front) n own place → FoundGone S (reverse q.front) n own place
+      found_later place h =
+          subst (λ xs. FoundGone S (reverse q.front) n xs place) (append-nil own)
+          (found_on S (reverse m.front) (reverse q.front) n place stamp actions own [] begun still h)
+
+      by_end : (e : DriveEnd V F) → is_over e ≡ true → IsEnd S m n own e → IsEnd S q n own e
+      by_end DriveEnd.Committed o h =
+          record { gone = h.gone; cause = (subst (λ es. Had (commits n) es) (sym whole) (had_stays (commits n) newer (reverse m.front) h.cause.0), h.cause.1) }
+      by_end (DriveEnd.Cancelled reasons) o h = record { gone = h.gone; cause = (cancelled_on reasons h.cause.0, h.cause.1) }
+      by_end (DriveEnd.NoTable place) o h =
+          record {
+            gone = h.gone;
+            cause = (h.cause.0, cancelled_on h.cause.0 h.cause.1, h.cause.2, some_weaker place h.cause.3 found_later);
+          }
+      by_end DriveEnd.Gone o h = absurd (cc)
+      by_end DriveEnd.Stopped o h = absurd (cc)
+      by_end DriveEnd.Spent o h = absurd (cc)
+      by_end DriveEnd.NoMemory o h = absurd (cc)
 
   -- a driver of what was begun
   module _ (p : PassView (Event S)) (n : ℕ) (stamp : Stamp) (actions : List A) (d : Driver A V F) (h : IsDrawn S p n stamp actions) (starts : StartsWith n stamp actions d) where
@@ -158,8 +228,10 @@ module _ {K V A F C D Q B : Type 0} (S : Service K V A F C D Q B) where
           by_end DriveEnd.Spent is o = absurd (cc)
           by_end DriveEnd.NoMemory is o = absurd (cc)
 
-      pub runs_drawn : (q : PassView (Event S)) → ForgetsDone S driven middle n q → RunsDrawn S n stamp actions p driven q
-      runs_drawn q forgets =
+      runs_so :
+          (q : PassView (Event S)) → ForgetsDone S driven middle n q → IsEnd S q n ends.own driven → KnowsBegun S (reverse q.front) n stamp actions
+          → RunsDrawn S n stamp actions p driven q
+      runs_so q forgets is begun =
           let few = ends.few in
           let most = few_left S (told_nothing (length actions)) in
           let left_is = left d.course (told_nothing (length actions)) starts.course in
@@ -170,11 +242,27 @@ module _ {K V A F C D Q B : Type 0} (S : Service K V A F C D Q B) where
             exact = ends.exact;
             each = each;
             few = omega arith;
-            is = is_end;
+            is = is;
             there = is_end.gone ∙ along.0;
-            begun = still_begun;
+            begun = begun;
             forgets = forgets;
           }
+
+      -- it was not done
+      pub runs_undone : is_over driven ≡ false → RunsDrawn S n stamp actions p driven middle
+      runs_undone over = runs_so middle (rests_done driven middle n over) is_end still_begun
+
+      -- it was, and then its record was forgotten
+      pub runs_done : (q : PassView (Event S)) → is_over driven ≡ true → Forgets S middle n q → IsLegal S (reverse q.front) → RunsDrawn S n stamp actions p driven q
+      runs_done q over forgets later =
+          let rest = (forgets_pass middle n q forgets).1.0 in
+          let whole : reverse q.front ≡ reverse rest ++ reverse middle.front =
+          ap reverse (sym (forgets_pass middle n q forgets).1.1) ∙ beginning_is_tail middle.front rest in
+          let begun =
+          subst (λ es. KnowsBegun S es n stamp actions) (sym whole)
+          (begun_stays S law (reverse rest) (reverse middle.front) (subst (IsLegal S) whole later) n stamp actions still_begun) in
+          runs_so q (over_forgets driven middle n q over forgets)
+          (end_stays law middle q n stamp actions ends.own (reverse rest) whole later still_begun begun driven over is_end) begun
 
   -- the gate stopped it at once
   pub stopped_drawn :
@@ -192,26 +280,6 @@ module _ {K V A F C D Q B : Type 0} (S : Service K V A F C D Q B) where
     begun = h.begun;
     forgets = refl;
   }
-
-  pub over_forgets :
-      (driven : DriveEnd V F) (p : PassView (Event S)) (n : ℕ) (q : PassView (Event S)) → is_over driven ≡ true → Forgets S p n q
-      → ForgetsDone S driven p n q
-  over_forgets DriveEnd.Committed p n q over h = h
-  over_forgets (DriveEnd.Cancelled reasons) p n q over h = h
-  over_forgets (DriveEnd.NoTable place) p n q over h = h
-  over_forgets DriveEnd.Gone p n q over h = absurd (cc)
-  over_forgets DriveEnd.Stopped p n q over h = absurd (cc)
-  over_forgets DriveEnd.Spent p n q over h = absurd (cc)
-  over_forgets DriveEnd.NoMemory p n q over h = absurd (cc)
-
-  pub rests_done : (driven : DriveEnd V F) (p : PassView (Event S)) (n : ℕ) → is_over driven ≡ false → ForgetsDone S driven p n p
-  rests_done DriveEnd.Committed p n over = absurd (cc)
-  rests_done (DriveEnd.Cancelled reasons) p n over = absurd (cc)
-  rests_done (DriveEnd.NoTable place) p n over = absurd (cc)
-  rests_done DriveEnd.Gone p n over = refl
-  rests_done DriveEnd.Stopped p n over = refl
-  rests_done DriveEnd.Spent p n over = refl
-  rests_done DriveEnd.NoMemory p n over = refl
 
   -- a Forget of the pass's own number
   pub forgets_own :

@@ -1,14 +1,16 @@
 -- How a whole transaction is written, from its Begin to its Forget, and what own entries say of it.
-use Rattle.std.specs.Prelude.{◌≡◌, ◌≢◌, ◌⊎◌, ℕ, zero, suc, ◌+◌, ◌*◌, ◌≤◌, Bool, true, false, ◌&&◌, nat_eq, List, [], ◌∷◌, length, reverse, Option, None, Some}
-use Rattle.std.specs.List.{list_any, filter, AllByRecursion}
+use Rattle.std.specs.Prelude.{◌≡◌, ◌≢◌, ◌⊎◌, ℕ, zero, suc, ◌+◌, ◌*◌, ◌≤◌, Bool, true, false, ◌&&◌, nat_eq, List, [], ◌∷◌, length, reverse, Option, None, Some, IfSome}
+use Rattle.std.specs.List.{list_any, list_all, filter, AllByRecursion}
+use Rattle.turnstile.specs.Histories.{Has}
 use Rattle.turnstile.specs.Passes.{PassView, most_units}
 use Rattle.txn_core.specs.declared.message.Message.{Message}
 use Rattle.txn_core.specs.declared.answer.Answer.{Answer}
 use Rattle.txn_core.specs.declared.fate.Fate.{Fate}
+use Rattle.txn_core.specs.declared.reason.Reason.{Reason}
 use Rattle.txn_core.specs.declared.stamp.Stamp.{Stamp}
 use Rattle.txn_core.specs.Course.{IsToldSo}
 use Rattle.txn_core.specs.Driver.{told_nothing, KnowsBegun, Knows}
-use Rattle.txn_core.specs.History.{forgets, is_own_begin}
+use Rattle.txn_core.specs.History.{Had, commits, finishes, forgets, is_own_begin}
 use Rattle.txn_core.specs.Service.{Service, Asked, Reply, Event, History}
 use Rattle.cluster.specs.declared.step.StepError.{StepError}
 use Rattle.cluster.specs.Events.{event_of}
@@ -17,8 +19,8 @@ use Rattle.own_entries.specs.Counts.{Counts, CountsUntil}
 use Rattle.coordinator.specs.declared.driver.Driver.{Driver}
 use Rattle.coordinator.specs.declared.drive_end.DriveEnd.{DriveEnd}
 use Rattle.coordinator.specs.declared.transact_end.TransactEnd.{TransactEnd}
-use Rattle.coordinator.specs.Driving.{Added, AllDrive}
-use Rattle.coordinator.specs.Drives.{is_gone_end, IsEnd, Drives}
+use Rattle.coordinator.specs.Driving.{Added, AllDrive, sent_done, FoundGone}
+use Rattle.coordinator.specs.Drives.{is_none, is_gone_end, IsCancelled, IsEnd, Drives}
 
 module _ {V F : Type 0} where
   -- the end of a transaction that was driven to this end; none where its number is gone
@@ -57,6 +59,13 @@ module _ {K V A F B : Type 0} where
   answers_begin (Answer.Mismatch n) = true
   answers_begin Answer.Stale = true
   answers_begin _ = false
+
+  -- the answer to a Begin names this number as that of the transaction
+  abbrev pub names : ℕ → Answer K V A F B → Bool
+  names n (Answer.Begun m stamp) = nat_eq m n
+  names n (Answer.Running m) = nat_eq m n
+  names n (Answer.Repeat m) = nat_eq m n
+  names n _ = false
 
 -- the driver has all that was begun, and was told nothing yet
 pub record StartsWith {A V F : Type 0} (n : ℕ) (stamp : Stamp) (actions : List A) (d : Driver A V F) : Type 0 where
@@ -102,9 +111,9 @@ module _ {K V A F C D Q B : Type 0} (S : Service K V A F C D Q B) where
     pub exact : driven ≢ DriveEnd.NoMemory → middle.used ≡ p.used + length own
     pub each : AllDrive S n own
     pub few : length own ≤ 2 * length actions + 3
-    pub is : IsEnd S middle n own driven
+    pub is : IsEnd S q n own driven
     pub there : is_gone_end driven ≡ false
-    pub begun : KnowsBegun S (reverse middle.front) n stamp actions
+    pub begun : KnowsBegun S (reverse q.front) n stamp actions
     pub forgets : ForgetsDone driven middle n q
 
   -- what came of a Begin of these actions that was answered so
@@ -142,6 +151,31 @@ module _ {K V A F C D Q B : Type 0} (S : Service K V A F C D Q B) where
       pub before : TurnsAgain p again last
       pub turn : Turns last (Some end) q
 
+    -- an own Begin with this token and these actions was answered so
+    abbrev pub WasAnswered : List (Event S) → Reply S → Type 0
+    WasAnswered own a = (e : Event S) × Has own e × (e.message ≡ Message.Begin token actions) × (e.answer ≡ a)
+
+    -- one named this number: it drew it, or found it running or completed
+    abbrev pub WasNamed : List (Event S) → ℕ → Type 0
+    WasNamed own n = (a : Reply S) × WasAnswered own a × (names n a ≡ true)
+
+    -- the cause of an end, by own entries and what the pass has seen: a number that an own Begin named is committed, and done by an own
+    -- Done or before that Begin; it is cancelled with these reasons, and done; an own Begin was answered so; no unit is left
+    abbrev pub EndsBy : List (Event S) → PassView (Event S) → TransactEnd V F → Type 0
+    EndsBy own q TransactEnd.Committed =
+        (n : ℕ) × WasNamed own n × Had (commits n) (reverse q.front) × ((sent_done S n own ≡ true) ⊎ Had (finishes n) (reverse q.front))
+    EndsBy own q (TransactEnd.Cancelled reasons) =
+        (n : ℕ) × WasNamed own n × IsCancelled S (reverse q.front) n own reasons × (list_all is_none reasons ≡ false)
+    EndsBy own q (TransactEnd.NoTable place) =
+        (n : ℕ) × WasNamed own n × (reasons : List (Reason V F)) × IsCancelled S (reverse q.front) n own reasons
+        × (list_all is_none reasons ≡ true) × IfSome place (FoundGone S (reverse q.front) n own)
+    EndsBy own q (TransactEnd.Mismatch n) = WasAnswered own (Answer.Mismatch n)
+    EndsBy own q TransactEnd.Stale = WasAnswered own Answer.Stale
+    EndsBy own q TransactEnd.Twice = own ≡ []
+    EndsBy own q TransactEnd.Stopped = Unit {0}
+    EndsBy own q TransactEnd.Spent = q.used ≡ most_units
+    EndsBy own q TransactEnd.NoMemory = Unit {0}
+
     -- the message is a Begin with this token and these actions, or it drives a transaction on, or has it forgotten
     abbrev pub IsOfWrite : Asked S → Type 0
     IsOfWrite (Message.Begin t xs) = (t ≡ token) × (xs ≡ actions)
@@ -155,10 +189,11 @@ module _ {K V A F C D Q B : Type 0} (S : Service K V A F C D Q B) where
     IsOfWrite _ = ⊥
 
     -- from p to q the pass added these own entries and no other, for one unit each; where memory was refused one unit more may be used;
-    -- each of them belongs to the writing, and one at most drew a number
+    -- each of them belongs to the writing, the end has its cause, and one at most drew a number
     pub record AddsWriting (p : PassView (Event S)) (end : TransactEnd V F) (q : PassView (Event S)) : Type 0 where
       pub own : List (Event S)
       pub added : Added S 1 p own q
       pub exact : end ≢ TransactEnd.NoMemory → q.used ≡ p.used + length own
       pub each : AllByRecursion (λ e. IsOfWrite e.message) own
+      pub cause : EndsBy own q end
       pub once : length (filter (λ e. draws_some e.message e.answer) own) ≤ 1

@@ -80,6 +80,7 @@ where
         return driven;
     }
     forget(cluster, rt, alloc, pass, number);
+    cluster.facts(pass);
     driven
 }
 

@@ -1,5 +1,5 @@
-use Rattle.std.proofs.Common.{◌-◌, sym, ◌∙◌}
-use Rattle.coordinator.proofs.Writing.{begins_driver, over_done, over_forgets, rests_done, runs_drawn, still_own, stopped_drawn}
+use Rattle.std.proofs.Common.{◌-◌, sym, ap, ◌∙◌}
+use Rattle.coordinator.proofs.Writing.{begins_driver, forgets_same, over_done, runs_done, runs_undone, still_own, stopped_drawn}
 use Rattle.coordinator.proofs.transaction.run_drawn.Goals as goal
 
 pub returns-then-matches-clause-runs : goal.returns-then-matches-clause-runs
@@ -14,11 +14,10 @@ drive_on-driven-requires-clause-driver g c =
 pub returns-then-not-is_over-clause-runs : goal.returns-then-not-is_over-clause-runs
 returns-then-not-is_over-clause-runs g c =
     let n = c.args.cluster.now.id.slots - 1 in
-    let S = g.R.Rules.protocol n in
     let run = c.drive_on-driven in
-    runs_drawn S c.args.pass.now c.args.number c.args.stamp c.args.actions c.begun-driver.result c.requires.drawn c.begun-driver.ensures
-    (g.met.R.Rules.lawful n) run.new.pass run.result run.ensures.ends c.facts.ensures.legal run.new.pass
-    (rests_done S run.result run.new.pass c.args.number (sym c.is_over.ensures ∙ c.if-not-is_over.true))
+    runs_undone (g.R.Rules.protocol n) c.args.pass.now c.args.number c.args.stamp c.args.actions c.begun-driver.result c.requires.drawn
+    c.begun-driver.ensures (g.met.R.Rules.lawful n) run.new.pass run.result run.ensures.ends c.facts.ensures.legal
+    (sym c.is_over.ensures ∙ c.if-not-is_over.true)
 
 pub forget-requires-clause-done : goal.forget-requires-clause-done
 forget-requires-clause-done g c =
@@ -34,11 +33,16 @@ forget-requires-clause-own g c =
     still_own (g.R.Rules.protocol n) c.args.pass.now c.args.number c.args.stamp c.args.actions c.begun-driver.result c.requires.drawn c.begun-driver.ensures
     (g.met.R.Rules.lawful n) run.new.pass run.result run.ensures.ends c.facts.ensures.legal
 
+pub facts-requires-2 : goal.facts-requires-2
+facts-requires-2 g c =
+    let run = c.drive_on-driven in
+    forgets_same (g.R.Rules.protocol (c.args.cluster.now.id.slots - 1)) run.new.pass c.args.number c.forget.new.pass c.forget.ensures
+    ∙ (ap (λ z. z.turnstile) run.ensures.ends.added.pass ∙ c.requires.of)
+
 pub returns-clause-runs : goal.returns-clause-runs
 returns-clause-runs g c =
     let n = c.args.cluster.now.id.slots - 1 in
-    let S = g.R.Rules.protocol n in
     let run = c.drive_on-driven in
-    runs_drawn S c.args.pass.now c.args.number c.args.stamp c.args.actions c.begun-driver.result c.requires.drawn c.begun-driver.ensures
-    (g.met.R.Rules.lawful n) run.new.pass run.result run.ensures.ends c.facts.ensures.legal c.forget.new.pass
-    (over_forgets S run.result run.new.pass c.args.number c.forget.new.pass (sym c.is_over.ensures ∙ c.if-not-is_over.false) c.forget.ensures)
+    runs_done (g.R.Rules.protocol n) c.args.pass.now c.args.number c.args.stamp c.args.actions c.begun-driver.result c.requires.drawn
+    c.begun-driver.ensures (g.met.R.Rules.lawful n) run.new.pass run.result run.ensures.ends c.facts.ensures.legal c.forget.new.pass
+    (sym c.is_over.ensures ∙ c.if-not-is_over.false) c.forget.ensures c.facts-2.ensures.legal

@@ -1,4 +1,4 @@
-use Rattle.std.proofs.Common.{◌-◌, ◌∙◌, sym}
+use Rattle.std.proofs.Common.{◌-◌, ◌∙◌, refl, sym}
 use Rattle.std.specs.Option.{option_copied}
 use Rattle.coordinator.specs.declared.transact_end.TransactEnd.{TransactEnd}
 use Rattle.coordinator.proofs.Total.{adds_none, adds_writing}
@@ -12,7 +12,7 @@ returns-in_default-clause-writes g c = λ _.
 pub returns-in_default-clause-own : goal.returns-in_default-clause-own
 returns-in_default-clause-own g c =
     adds_none (g.R.Rules.protocol (c.args.cluster.now.id.slots - 1)) (option_copied c.args.token) c.args.actions.now c.args.pass.now
-    TransactEnd.NoMemory
+    TransactEnd.NoMemory tt
 
 pub returns-then-not-apart-clause-writes : goal.returns-then-not-apart-clause-writes
 returns-then-not-apart-clause-writes g c = λ is.
@@ -21,7 +21,7 @@ returns-then-not-apart-clause-writes g c = λ is.
 pub returns-then-not-apart-clause-own : goal.returns-then-not-apart-clause-own
 returns-then-not-apart-clause-own g c =
     adds_none (g.R.Rules.protocol (c.args.cluster.now.id.slots - 1)) (option_copied c.args.token) c.args.actions.now c.args.pass.now
-    TransactEnd.Twice
+    TransactEnd.Twice refl
 
 pub write_apart-requires-clause-apart : goal.write_apart-requires-clause-apart
 write_apart-requires-clause-apart g c = sym (c.in-Ok.ensures (c.args.cluster.now.id.slots - 1)) ∙ c.if-not-apart.false
@@ -32,5 +32,6 @@ returns-clause-twice g c = λ no.
 
 pub returns-clause-own : goal.returns-clause-own
 returns-clause-own g c =
-    adds_writing (g.R.Rules.protocol (c.args.cluster.now.id.slots - 1)) (option_copied c.args.token) c.args.actions.now c.args.pass.now
+    let n = c.args.cluster.now.id.slots - 1 in
+    adds_writing (g.R.Rules.protocol n) (option_copied c.args.token) c.args.actions.now (g.met.R.Rules.lawful n) c.args.pass.now
     c.write_apart.new.pass c.write_apart.result c.write_apart.ensures.writes
