@@ -12,7 +12,7 @@ use txn_core::{Answer, Message};
 
 /// What the cells say, as far as the test looks at it.
 #[derive(Clone, Copy, PartialEq)]
-enum Said {
+pub(crate) enum Said {
     /// The table of this number was made or dropped.
     Changed(u64),
     /// There is a table of that name already.
@@ -25,8 +25,8 @@ enum Said {
     Else,
 }
 
-/// What is told of a command on the orders.
-fn command<R: Wait>(
+/// What is told of a command.
+pub(crate) fn command<R: Wait>(
     rt: &R,
     alloc: Global,
     shop: &Cluster<Shop>,

@@ -4,6 +4,8 @@
 #[cfg(test)]
 mod commands;
 #[cfg(test)]
+mod reads;
+#[cfg(test)]
 mod transactions;
 #[cfg(test)]
 mod turns;
