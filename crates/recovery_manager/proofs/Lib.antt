@@ -1,0 +1,10 @@
+mod Forgotten
+mod Listed
+mod Each
+mod Handed
+mod Grown
+mod Told
+mod Ended
+mod Freed
+mod Swept
+mod Resolved

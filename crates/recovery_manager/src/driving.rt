@@ -1,0 +1,60 @@
+//! Transactions are driven to their ends, one after another.
+
+ghost use Rattle.std.specs.Prelude.{◌≡◌, ◌≤◌, ◌||◌, ◌&&◌, ℕ, [], nat_eq, reverse, Err, IfErr, IfOk, OnOk};
+ghost use Rattle.std.specs.BTreeSet.{contains};
+ghost use Rattle.std.specs.Ordering.{nat_cmp};
+ghost use Rattle.ddb_outside.specs.Causes.{Rose};
+ghost use Rattle.cluster.specs.Steps.{partitions_of};
+ghost use Rattle.recovery_manager.specs.declared.sweep_end.SweepEnd.{SweepEnd};
+ghost use Rattle.recovery_manager.specs.Lists.{AllBegun};
+ghost use Rattle.recovery_manager.specs.Parts.{DrivesAll, DrivesPartly};
+
+use crate::sweep_end::{SweepEnd, found_gone};
+use cluster::{Cluster, TableWorld};
+use coordinator::drive;
+use ddb_outside::Gate;
+use partition::PageRules;
+use std::alloc::{AllocError as NoMemory, Global};
+use std::collections::BTreeSet;
+use std::sync::Wait;
+use turnstile::Pass;
+
+/// Takes down a number whose transaction is gone.
+fn note(gone: &mut BTreeSet<u64>, number: u64, is_gone: bool) -> Result<(), NoMemory>
+    ensures { OnOk result ((n : ℕ)
+        → contains nat_cmp gone.new n ≡ (contains nat_cmp gone.old n || (is_gone && nat_eq number n))) }
+{
+    if is_gone {
+        gone.insert(number)?;
+    }
+    Ok(())
+}
+
+/// Drives each of these transactions to its end, and tells which of them are gone.
+pub(crate) fn drive_all<R: PageRules, G: Gate, T: Wait>(
+    cluster: &Cluster<R>,
+    rt: &T,
+    alloc: Global,
+    pass: &mut Pass<TableWorld<R>>,
+    numbers: &[u64],
+    gate: &mut G,
+) -> Result<BTreeSet<u64>, SweepEnd>
+where
+    R::Fault: Copy,
+    requires of { pass.old.turnstile ≡ cluster.now.id }
+    requires free { pass.old.turns ≡ [] }
+    requires begun { AllBegun (R.protocol (partitions_of cluster.now)) (reverse pass.old.front) numbers.now }
+    ensures ok { IfOk result (λ gone.
+        DrivesAll (R.protocol (partitions_of cluster.now)) (contains nat_cmp gone) numbers.now pass.old pass.new) }
+    ensures err { IfErr result (λ why. DrivesPartly (R.protocol (partitions_of cluster.now)) numbers.now pass.old why pass.new) }
+    ensures stopped { result ≡ Err SweepEnd.Stopped → Rose (G.stops gate.old) (G.stops gate.new) }
+{
+    let mut gone = BTreeSet::new(alloc);
+    for number in numbers {
+        let end = drive(cluster, rt, alloc, pass, *number, gate);
+        cluster.facts(pass);
+        let is_gone = found_gone(end)?;
+        note(&mut gone, *number, is_gone)?;
+    }
+    Ok(gone)
+}
