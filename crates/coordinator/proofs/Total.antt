@@ -1,11 +1,11 @@
 -- All own entries of a transaction that was written.
-use Rattle.std.proofs.Common.{◌≡◌, ◌≢◌, inl, inr, ℕ, zero, suc, ◌+◌, ◌≤◌, Bool, true, false, cond, List, [], ◌∷◌, ◌++◌, length, Option, None, Some, refl, sym, ap, ◌∙◌, subst, arith, length-append, ◌&&◌, reverse, eq-eqb, IfSome}
+use Rattle.std.proofs.Common.{◌≡◌, ◌≢◌, inl, inr, ℕ, zero, suc, ◌+◌, ◌≤◌, Bool, true, false, cond, List, [], ◌∷◌, ◌++◌, length, Option, None, Some, refl, sym, ap, ◌∙◌, subst, arith, length-append, ◌&&◌, reverse, eq-eqb}
 use Rattle.std.specs.List.{list_any, filter, AllByRecursion}
 use Rattle.std.proofs.lemmas.Bool.{or_right}
 use Rattle.std.proofs.lemmas.List.{append-nil}
 use Rattle.std.proofs.lemmas.List.Elements.{filter-append}
 use Rattle.turnstile.specs.Histories.{Has, Trail}
-use Rattle.turnstile.specs.Passes.{PassView}
+use Rattle.turnstile.specs.Passes.{PassView, TurnstileView}
 use Rattle.turnstile.proofs.Histories.{trail_on}
 use Rattle.txn_core.specs.declared.message.Message.{Message}
 use Rattle.txn_core.specs.declared.answer.Answer.{Answer}
@@ -184,6 +184,12 @@ module _ {K V A F C D Q B : Type 0} (S : Service K V A F C D Q B) (token : Optio
         each = tt;
         few = omega arith;
       }
+
+  -- the pass is of the same turnstile then
+  pub turn_turnstile :
+      (p q : PassView (Event S)) (end : Option (TransactEnd V F)) (c : TurnstileView) → Turns S token actions p end q → p.turnstile ≡ c.id
+      → q.turnstile ≡ c.id
+  turn_turnstile p q end c turn is = ap (λ (z : PassView (Event S)). z.turnstile) (turn_part p q end turn).added.pass ∙ is
 
   -- one after which the Begin is sent again drew nothing
   again_by :

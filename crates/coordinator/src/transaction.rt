@@ -3,6 +3,7 @@
 ghost use Rattle.std.specs.Prelude.{◌≡◌, ◌⊎◌, ◌≤◌, ℕ, true, false, Some, [], length, reverse};
 ghost use Rattle.std.specs.Option.{option_copied};
 ghost use Rattle.ddb_outside.specs.Causes.{Rose};
+ghost use Rattle.turnstile.specs.Passes.{most_units};
 ghost use Rattle.txn_core.specs.declared.answer.Answer.{Answer};
 ghost use Rattle.txn_core.specs.declared.stamp.Stamp.{Stamp};
 ghost use Rattle.txn_core.specs.History.{Had, finishes};
@@ -152,6 +153,33 @@ where
     }
 }
 
+/// Sends a Begin and follows its answer, as [`begin`] does. How many units are used then at most is told to a caller's proof.
+fn take_turn<R: PageRules, G: Gate, T: Wait>(
+    cluster: &Cluster<R>,
+    rt: &T,
+    alloc: Global,
+    pass: &mut Pass<TableWorld<R>>,
+    token: Option<&Text>,
+    actions: &[R::Action],
+    gate: &mut G,
+) -> Option<TransactEndOf<R>>
+where
+    R::Fault: Copy,
+    requires of { pass.old.turnstile ≡ cluster.now.id }
+    requires free { pass.old.turns ≡ [] }
+    requires some { 1 ≤ length actions.now }
+    requires few { length actions.now ≤ 100 }
+    requires apart { are_apart (R.protocol (partitions_of cluster.now)).core actions.now ≡ true }
+    ensures turns { Turns (R.protocol (partitions_of cluster.now)) (option_copied token.entry) actions.now pass.old result pass.new }
+    ensures budget { pass.new.used ≤ most_units }
+    ensures stopped { result ≡ Some TransactEnd.Stopped → Rose (G.stops gate.old) (G.stops gate.new) }
+    ensures later { G.stops gate.old ≤ G.stops gate.new }
+{
+    let end = begin(cluster, rt, alloc, pass, token, actions, gate);
+    cluster.facts(pass);
+    end
+}
+
 /// Sends Begins until the number that is named isn't found gone.
 fn write_apart<R: PageRules, G: Gate, T: Wait>(
     cluster: &Cluster<R>,
@@ -173,9 +201,9 @@ where
     ensures stopped { result ≡ TransactEnd.Stopped → Rose (G.stops gate.old) (G.stops gate.new) }
 {
     'begins: loop {
-        match begin(cluster, rt, alloc, pass, token, actions, gate) {
+        match take_turn(cluster, rt, alloc, pass, token, actions, gate) {
             Some(end) => return end,
-            None => cluster.facts(pass),
+            None => {}
         }
     }
 }
