@@ -2,7 +2,8 @@
 
 ghost use Rattle.std.specs.Prelude.{◌≡◌, []};
 
-use case_rules::{Command, Key, Name, Shop, Told};
+use crate::orders::order;
+use case_rules::{Command, Name, Shop, Told};
 use cluster::{Cluster, TableWorld};
 use std::alloc::Global;
 use std::sync::Wait;
@@ -54,7 +55,7 @@ pub(crate) fn command<R: Wait>(
 }
 
 /// What its cell says of an order.
-fn order<R: Wait>(
+fn look_at<R: Wait>(
     rt: &R,
     alloc: Global,
     shop: &Cluster<Shop>,
@@ -65,18 +66,28 @@ fn order<R: Wait>(
     requires free { pass.old.turns ≡ [] }
     ensures same { (pass.new.turnstile ≡ pass.old.turnstile) × (pass.new.turns ≡ []) }
 {
-    let key = Key {
-        name: Name::Orders,
-        table: 1,
-        customer: None,
-        number,
-    };
+    let key = order(number);
     let cell = shop.cell_of(&key);
     match shop.step(rt, alloc, pass, cell, Message::Get { key }) {
         Ok(Answer::Row { item: None }) => Said::NoItem,
         Ok(Answer::Stale) => Said::NoTable,
         _ => Said::Else,
     }
+}
+
+/// Whether the table of orders is made, as the first one.
+pub(crate) fn is_made<R: Wait>(
+    rt: &R,
+    alloc: Global,
+    shop: &Cluster<Shop>,
+    pass: &mut Pass<TableWorld<Shop>>,
+) -> bool
+    requires of { pass.old.turnstile ≡ shop.now.id }
+    requires free { pass.old.turns ≡ [] }
+    ensures same { (pass.new.turnstile ≡ pass.old.turnstile) × (pass.new.turns ≡ []) }
+{
+    let name = Name::Orders;
+    command(rt, alloc, shop, pass, Command::Create { name, first: None }) == Said::Changed(1)
 }
 
 /// What one step of the test does.
@@ -107,8 +118,8 @@ fn said_of<R: Wait>(
         Act::Create => command(rt, alloc, shop, pass, Command::Create { name, first: None }),
         Act::Drop => command(rt, alloc, shop, pass, Command::Drop { name }),
         Act::Look => {
-            let even = order(rt, alloc, shop, pass, 4);
-            let odd = order(rt, alloc, shop, pass, 7);
+            let even = look_at(rt, alloc, shop, pass, 4);
+            let odd = look_at(rt, alloc, shop, pass, 7);
             if even == odd { even } else { Said::Else }
         }
     }

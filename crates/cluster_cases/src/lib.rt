@@ -1,11 +1,17 @@
-//! Tests of a cluster: threads on partitions of the shop, commands, and whole transactions.
+//! Tests of a cluster: threads on partitions of the shop, commands, and transactions.
 #![tactic(auto)]
 
 #[cfg(test)]
 mod commands;
 #[cfg(test)]
+mod orders;
+#[cfg(test)]
 mod reads;
 #[cfg(test)]
+mod stops;
+#[cfg(test)]
 mod transactions;
+#[cfg(test)]
+mod transfers;
 #[cfg(test)]
 mod turns;

@@ -2,8 +2,10 @@
 
 ghost use Rattle.std.specs.Prelude.{◌≡◌, ◌≤◌, [], length};
 
+use crate::commands::is_made;
+use crate::orders::{amount, put_where};
 use base_types::Text;
-use case_rules::{Action, Command, Condition, Deed, Fault, Item, Key, Name, Shop};
+use case_rules::{Action, Condition, Fault, Item, Shop};
 use cluster::{Cluster, TableWorld};
 use coordinator::{TransactEnd, transact_write};
 use ddb_outside::GoGate;
@@ -11,7 +13,7 @@ use std::alloc::Global;
 use std::sync::Wait;
 use std::test::*;
 use turnstile::Pass;
-use txn_core::{Answer, Message, Reason};
+use txn_core::Reason;
 
 /// What is said of a transaction, as far as the test looks at it.
 #[derive(Clone, Copy, PartialEq)]
@@ -26,30 +28,6 @@ enum Said {
     Twice,
     /// Anything else.
     Else,
-}
-
-fn order(number: u64) -> Key {
-    Key {
-        name: Name::Orders,
-        table: 1,
-        customer: None,
-        number,
-    }
-}
-
-/// Puts a new order of this number and amount.
-fn new_order(number: u64, amount: u64) -> Action {
-    Action {
-        key: order(number),
-        condition: Condition::Absent,
-        deed: Deed::Put {
-            item: Item {
-                customer: None,
-                amount,
-                expires: None,
-            },
-        },
-    }
 }
 
 fn said_of(end: TransactEnd<Item, Fault>) -> Said {
@@ -82,47 +60,6 @@ fn write<R: Wait>(
     said_of(transact_write(shop, rt, alloc, pass, Some(token), actions, &mut GoGate))
 }
 
-/// The amount of an order, if it is there.
-fn amount<R: Wait>(
-    rt: &R,
-    alloc: Global,
-    shop: &Cluster<Shop>,
-    pass: &mut Pass<TableWorld<Shop>>,
-    number: u64,
-) -> Option<u64>
-    requires of { pass.old.turnstile ≡ shop.now.id }
-    requires free { pass.old.turns ≡ [] }
-    ensures same { (pass.new.turnstile ≡ pass.old.turnstile) × (pass.new.turns ≡ []) }
-{
-    let key = order(number);
-    let cell = shop.cell_of(&key);
-    match shop.step(rt, alloc, pass, cell, Message::Get { key }) {
-        Ok(Answer::Row { item: Some(item) }) => Some(item.amount),
-        _ => None,
-    }
-}
-
-/// Whether the table of orders was made.
-fn is_made<R: Wait>(
-    rt: &R,
-    alloc: Global,
-    shop: &Cluster<Shop>,
-    pass: &mut Pass<TableWorld<Shop>>,
-) -> bool
-    requires of { pass.old.turnstile ≡ shop.now.id }
-    requires free { pass.old.turns ≡ [] }
-    ensures same { (pass.new.turnstile ≡ pass.old.turnstile) × (pass.new.turns ≡ []) }
-{
-    let command = Command::Create {
-        name: Name::Orders,
-        first: None,
-    };
-    matches!(
-        shop.step_all(rt, alloc, pass, command),
-        Ok(Answer::Changed { .. })
-    )
-}
-
 /// The token, the numbers and amounts of the two orders, and what is said.
 const WRITES: [(&str, [(u64, u64); 2], Said); 5] = [
     ("one", [(4, 10), (7, 20)], Said::Committed),
@@ -140,7 +77,10 @@ fn two_orders_at_once(rt: HostRuntime) -> Result<(), Fail> {
     assert!(rt; is_made(&rt, alloc, &shop, &mut pass));
     for (token, [(first, one), (second, two)], said) in WRITES {
         let token = Text::copied(alloc, token)?;
-        let actions = [new_order(first, one), new_order(second, two)];
+        let actions = [
+            put_where(first, Condition::Absent, one),
+            put_where(second, Condition::Absent, two),
+        ];
         assert!(rt; write(&rt, alloc, &shop, &mut pass, &token, &actions) == said);
         assert!(rt; amount(&rt, alloc, &shop, &mut pass, 4) == Some(10));
         assert!(rt; amount(&rt, alloc, &shop, &mut pass, 7) == Some(20));

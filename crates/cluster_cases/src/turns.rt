@@ -2,8 +2,9 @@
 
 ghost use Rattle.std.specs.Prelude.{◌≡◌, []};
 
+use crate::orders::order;
 use base_types::Seq;
-use case_rules::{Key, Name, Shop};
+use case_rules::Shop;
 use cluster::{Cells, Cluster, TableWorld};
 use std::alloc::Global;
 use std::sync::Wait;
@@ -24,12 +25,7 @@ fn is_stale<R: Wait>(
     requires free { pass.old.turns ≡ [] }
     ensures same { (pass.new.turnstile ≡ pass.old.turnstile) × (pass.new.number ≡ pass.old.number) × (pass.new.turns ≡ []) }
 {
-    let key = Key {
-        name: Name::Orders,
-        table: 1,
-        customer: None,
-        number,
-    };
+    let key = order(number);
     let cell = shop.cell_of(&key);
     matches!(
         shop.step(rt, alloc, pass, cell, Message::Get { key }),
