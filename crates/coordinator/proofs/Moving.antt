@@ -22,9 +22,9 @@ module _ {K V A F C D Q B : Type 0} (S : Service K V A F C D Q B) where
   added_by spare more p own q few h = let units = h.units in record { pass = h.pass; trail = h.trail; units = omega arith }
 
   -- and one stretch after another
-  pub added_after :
-      (spare : ℕ) (p q r : PassView (Event S)) (xs ys : List (Event S)) → Counts S p xs 0 q → Added S spare q ys r → Added S spare p (xs ++ ys) r
-  added_after spare p q r xs ys one two =
+  pub added_on :
+      (s t : ℕ) (p q r : PassView (Event S)) (xs ys : List (Event S)) → Added S s p xs q → Added S t q ys r → Added S (s + t) p (xs ++ ys) r
+  added_on s t p q r xs ys one two =
       let number : q.number ≡ p.number = ap (λ (z : PassView (Event S)). z.number) one.pass in
       let units = one.units in
       let later = two.units in
@@ -36,6 +36,12 @@ module _ {K V A F C D Q B : Type 0} (S : Service K V A F C D Q B) where
             (subst (λ k. Trail pass_of k q.front ys r.front) number two.trail);
         units = omega arith;
       }
+
+  pub added_after :
+      (spare : ℕ) (p q r : PassView (Event S)) (xs ys : List (Event S)) → Counts S p xs 0 q → Added S spare q ys r → Added S spare p (xs ++ ys) r
+  added_after spare p q r xs ys one two =
+      let same : 0 + spare ≡ spare = omega arith in
+      subst (λ k. Added S k p (xs ++ ys) r) same (added_on 0 spare p q r xs ys (added_by 0 0 p xs q (omega arith) one) two)
 
   -- what was counted until an error: one unit more at most, for want of memory alone; for want of units none is left
   module _ (p : PassView (Event S)) (own : List (Event S)) (q : PassView (Event S)) where
