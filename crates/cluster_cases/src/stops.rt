@@ -29,7 +29,7 @@ enum Seen {
 }
 
 /// Reads both orders at one point.
-fn seen<R: Wait>(
+fn read_both<R: Wait>(
     rt: &R,
     alloc: Global,
     shop: &Cluster<Shop>,
@@ -125,7 +125,7 @@ fn look<R: Wait>(
 {
     let one = amount(rt, alloc, shop, pass, 1);
     let two = amount(rt, alloc, shop, pass, 2);
-    (one, two, seen(rt, alloc, shop, pass))
+    (one, two, read_both(rt, alloc, shop, pass))
 }
 
 /// How many transactions a sweep ends; none where it leaves off.
