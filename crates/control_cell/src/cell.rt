@@ -7,10 +7,19 @@ use txn_core::{Reason, Rules};
 use txn_ledger::TxnLedger;
 
 /// The catalog, the transactions that were begun and not forgotten, and the tokens that stand for transactions.
-#[derive(Drop)]
 pub struct ControlCell<R: Rules> {
     pub(crate) catalog: R::Catalog,
     pub(crate) ledger: TxnLedger<R::Action, Reason<R::Value, R::Fault>>,
+}
+
+// By hand, so that a crate above calls this one function where it would else prove again how all of it is let go.
+impl<R: Rules> Drop for ControlCell<R> {
+    fn drop(self) {
+        let ControlCell {
+            catalog: _,
+            ledger: _,
+        } = self;
+    }
 }
 
 impl<R: Rules> ControlCell<R> {

@@ -15,7 +15,6 @@ use txn_core::Rules;
 /// index.
 ///
 /// Of the outbox as many places are set aside as changes are prepared and planned.
-#[derive(Drop)]
 pub struct Partition<K: Ord, V, C, N: Ord> {
     pub(crate) partitions: u32,
     pub(crate) catalog: C,
@@ -29,6 +28,23 @@ pub struct Partition<K: Ord, V, C, N: Ord> {
     ghost some: { 1 ≤ partitions },
     ghost sources: { length marks.last.items ≡ partitions },
     ghost places: { outbox.set_aside ≡ places_in prepared.lists + places_of planned },
+}
+
+// By hand, so that a crate above calls this one function where it would else prove again how all of it is let go.
+impl<K: Ord + Drop, V: Drop, C: Drop, N: Ord + Drop> Drop for Partition<K, V, C, N> {
+    fn drop(self) {
+        let Partition {
+            partitions: _,
+            catalog: _,
+            items: _,
+            locals: _,
+            outbox: _,
+            prepared: _,
+            marks: _,
+            rows: _,
+            planned: _,
+        } = self;
+    }
 }
 
 /// A cell under these rules.
