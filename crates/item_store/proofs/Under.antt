@@ -7,10 +7,13 @@ use Rattle.std.proofs.lemmas.Cmp.{nat_cmp_total}
 use Rattle.std.specs.declared.cmp.Ord as ord
 use Rattle.std.specs.declared.cmp.PartialEq as eq
 use Rattle.std.specs.declared.cmp.PartialOrd as partial
-use Rattle.std.proofs.Common.{◌≡◌, ℕ, ◌+◌, false, Option, None, Some, is_some, Result, Ok, Err, OnErr, refl, arith}
+use Rattle.std.proofs.Common.{◌≡◌, ℕ, ◌+◌, ◌≤◌, false, IsTrue, Option, None, Some, is_some, Result, Ok, Err, OnErr, refl, arith}
 use Rattle.item_store.specs.declared.table.TableItems.{TableItems}
-use Rattle.item_store.specs.Tables.{has_table, held_of, held_under}
-use Rattle.item_store.proofs.Weights.{swapped, with_one, without}
+use Rattle.txn_core.specs.Answers.{is_holder}
+use Rattle.item_store.specs.Maps.{held_among}
+use Rattle.item_store.specs.Slots.{holder_of}
+use Rattle.item_store.specs.Tables.{has_table, held_of, held_under, slot_in, slot_under}
+use Rattle.item_store.proofs.Weights.{holds_one, part_of, swapped, with_one, without}
 
 -- what holds anyway holds where the answer is an error
 pub on_err : {A B X : Type 0} (r : Result A B) → X → OnErr r X
@@ -62,3 +65,18 @@ module _ {K V : Type 0} {O : ord.Ghosts K} {E : eq.Ghosts K} {P : partial.Ghosts
       let same = held_or (get nat_cmp m u) in
       let none = none_held (get nat_cmp m u) new in
       omega arith
+
+  -- where an item is held, one is
+  pub one_held :
+      (m : BTreeMap ℕ (TableItems K V O E P)) (u : ℕ) (k : K) (n : ℕ) → IsTrue (is_holder (holder_of (slot_under m u k)) n)
+      → 1 ≤ held_under m
+  one_held m u k n h = by_table (get nat_cmp m u) refl h
+    where
+      by_table :
+          (o : Option (TableItems K V O E P)) → get nat_cmp m u ≡ o → IsTrue (is_holder (holder_of (slot_in o k)) n) → 1 ≤ held_under m
+      by_table None e h = absurd (cc)
+      by_table (Some items) e h =
+          let one : 1 ≤ held_among items.slots = holds_one O.cmp items.slots k n h in
+          let counted : items.held ≡ held_among items.slots = items.counted in
+          let part : items.held ≤ held_under m = part_of (λ (t : TableItems K V O E P). t.held) nat_cmp m u items e in
+          omega arith

@@ -10,7 +10,10 @@ use Rattle.txn_core.specs.Stamps.{later}
 use Rattle.txn_core.specs.State.{Tally}
 use Rattle.item_store.specs.declared.slot.Slot.{Slot}
 use Rattle.item_store.specs.declared.store.ItemStore.{ItemStore}
-use Rattle.item_store.specs.Slots.{image_of, pending_of, committed_at, counted, last_of, stamp_of, slot_of}
+use Rattle.item_store.specs.declared.slot.End.{End}
+use Rattle.item_store.specs.declared.slot.End.TheVariants.{Settle}
+use Rattle.item_store.specs.Slots.{committed_at, counted, last_of, slot_of}
+use Rattle.item_store.specs.Ends.{committed_after, counted_after}
 use Rattle.item_store.specs.Tables.{PlacesUnder, Same, has_table, held_of, slot_under}
 use Rattle.item_store.specs.Counts.{tally}
 
@@ -32,14 +35,16 @@ module _ {K V : Type 0} {O : ord.Ghosts K} {E : eq.Ghosts K} {P : partial.Ghosts
       let new = committed_at row (later (last_of before.floor old) own) (before.count + 1) in
       Changes s t u k (slot_of new None) (counted before old row own)
 
-  -- a held item is as its transaction left it, at that one's stamp, and no transaction holds it
-  abbrev pub Settles : ItemStore K V O E P → ItemStore K V O E P → ℕ → K → Type 0
-  Settles s t u k =
+  -- the transaction that holds an item ended so, and none holds it
+  abbrev pub Ends : End → ItemStore K V O E P → ItemStore K V O E P → ℕ → K → Type 0
+  Ends end s t u k =
       let old = slot_at s u k in
       let before = tally s.counts in
-      let row = image_of (pending_of old) in
-      let own = stamp_of (pending_of old) in
-      Changes s t u k (slot_of (committed_at row own (before.count + 1)) None) (counted before old row own)
+      Changes s t u k (slot_of (committed_after end before old) None) (counted_after end before old)
+
+  -- a held item is as its transaction left it, at that one's stamp, and no transaction holds it
+  abbrev pub Settles : ItemStore K V O E P → ItemStore K V O E P → ℕ → K → Type 0
+  Settles s t u k = Ends Settle s t u k
 
   -- nothing changes
   pub record Unchanged (s t : ItemStore K V O E P) : Type 0 where

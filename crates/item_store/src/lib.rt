@@ -19,6 +19,6 @@ mod tests;
 // A contract can name a store only if the types of its fields are exported.
 #[doc(hidden)]
 pub use counts::Counts;
-pub use slot::{Committed, Pending, Slot};
+pub use slot::{Committed, Pending, Slot, holder_of, row_of};
 pub use store::ItemStore;
 pub use table::TableItems;

@@ -1,31 +1,19 @@
 //! Changes of one slot of a map.
 
-ghost use Rattle.std.specs.Prelude.{◌≡◌, ◌+◌, Some, None, IsSome, OnOk, IfOk, OnErr};
+ghost use Rattle.std.specs.Prelude.{◌≡◌, ◌+◌, ◌<◌, ◌^◌, Some, None, IsTrue, false, OnOk, IfOk, OnErr};
 ghost use Rattle.std.specs.BTreeMap.{get};
-ghost use Rattle.item_store.specs.Slots.{committed_of, held_in, pending_of, slot_of, unheld};
+ghost use Rattle.txn_core.specs.Answers.{is_holder};
+ghost use Rattle.txn_core.specs.Stamps.{later};
+ghost use Rattle.item_store.specs.Counts.{tally};
+ghost use Rattle.item_store.specs.Ends.{committed_after, counted_after};
+ghost use Rattle.item_store.specs.Slots.{committed_at, committed_of, held_in, holder_of, last_of, pending_of, row_of, slot_of};
 ghost use Rattle.item_store.specs.Maps.{Places, held_among};
 
-use crate::slot::{Pending, Slot};
+use crate::counts::Counts;
+use crate::slot::{Committed, End, Pending, Slot};
 use std::alloc::AllocError as NoMemory;
 use std::collections::BTreeMap;
-use std::mem;
-
-/// Puts a slot in the place of the one at the key, and hands that one out. It takes no memory.
-pub(crate) fn exchange<K: Ord, V>(
-    slots: &mut BTreeMap<K, Slot<V>>,
-    key: &K,
-    slot: Slot<V>,
-) -> Slot<V>
-    requires { IsSome (get K.cmp slots.old key.now) }
-    ensures old { get K.cmp slots.old key.now ≡ Some result }
-    ensures new { Places K.cmp slots.old slots.new key.now (Some slot) }
-    ensures held { held_among slots.new + held_in result ≡ held_among slots.old + held_in slot }
-{
-    match slots.get_mut(key) {
-        Some(place) => mem::replace(place, slot),
-        None => unreachable!(),
-    }
-}
+use txn_core::Stamp;
 
 /// Takes out a slot that no transaction holds. It takes no memory.
 pub(crate) fn take_out<K: Ord + Drop, V>(
@@ -84,18 +72,71 @@ pub(crate) fn hold_in<K: Ord + Drop, V: Drop>(
     Ok(())
 }
 
-/// Takes the pending out of a held slot, which stays. It takes no memory.
-pub(crate) fn take_pending<K: Ord, V>(
+/// Writes an item that no transaction holds, at the stamp of what is committed, or at the later one of the item that is there or
+/// of the floor, and hands that item out.
+pub(crate) fn write_in<K: Ord + Drop, V: Drop>(
+    slots: &mut BTreeMap<K, Slot<V>>,
+    key: K,
+    floor: Stamp,
+    committed: Committed<V>,
+) -> Result<Option<V>, NoMemory>
+    requires { pending_of (get K.cmp slots.old key) ≡ None }
+    ensures old { IfOk result (λ old. old ≡ row_of (get K.cmp slots.old key)) }
+    ensures new { OnOk result (Places K.cmp slots.old slots.new key
+        (slot_of (committed_at (Some committed.item) (later (last_of floor (get K.cmp slots.old key)) committed.stamp) committed.version)
+        None)) }
+    ensures held { OnOk result (held_among slots.new ≡ held_among slots.old) }
+    ensures err { OnErr result (slots.new.entries ≡ slots.old.entries) }
+{
+    if let Some(slot) = slots.get_mut(&key) {
+        return Ok(slot.write(floor, committed));
+    }
+    let Committed {
+        item,
+        stamp,
+        version,
+    } = committed;
+    let committed = Committed {
+        item,
+        stamp: floor.later(stamp),
+        version,
+    };
+    let slot = Slot {
+        committed: Some(committed),
+        pending: None,
+    };
+    put_in(slots, key, slot)?;
+    Ok(None)
+}
+
+/// Ends the transaction on an item, if it is the one of this number that holds it, and tells whether it is. It takes no memory.
+pub(crate) fn end_in<K: Ord + Drop, V: Drop>(
     slots: &mut BTreeMap<K, Slot<V>>,
     key: &K,
-) -> Option<Pending<V>>
-    requires { IsSome (pending_of (get K.cmp slots.old key.now)) }
-    ensures pending { result ≡ pending_of (get K.cmp slots.old key.now) }
-    ensures new { Places K.cmp slots.old slots.new key.now (Some (unheld (committed_of (get K.cmp slots.old key.now)))) }
-    ensures held { held_among slots.new + 1 ≡ held_among slots.old }
+    number: u64,
+    end: End,
+    counts: &mut Counts,
+) -> bool
+    requires { IsTrue (is_holder (holder_of (get K.cmp slots.old key.now)) number) → counts.old.count + 1 < 2 ^ 64 }
+    ensures answer { result ≡ is_holder (holder_of (get K.cmp slots.old key.now)) number }
+    ensures new { IsTrue result → Places K.cmp slots.old slots.new key.now
+        (slot_of (committed_after end (tally counts.old) (get K.cmp slots.old key.now)) None) }
+    ensures counts { IsTrue result → tally counts.new ≡ counted_after end (tally counts.old) (get K.cmp slots.old key.now) }
+    ensures held { IsTrue result → held_among slots.new + 1 ≡ held_among slots.old }
+    ensures same { result ≡ false → (q : K) → get K.cmp slots.new q ≡ get K.cmp slots.old q }
+    ensures same_held { result ≡ false → held_among slots.new ≡ held_among slots.old }
+    ensures same_counts { result ≡ false → tally counts.new ≡ tally counts.old }
 {
-    match slots.get_mut(key) {
-        Some(slot) => slot.pending.take(),
-        None => unreachable!(),
+    let Some(slot) = slots.get_mut(key) else {
+        return false;
+    };
+    if !slot.is_held_by(number) {
+        return false;
     }
+    slot.end(end, counts);
+    if slot.committed.is_some() {
+        return true;
+    }
+    drop(take_out(slots, key));
+    true
 }

@@ -1,18 +1,19 @@
 //! The items of a cell.
 
-ghost use Rattle.std.specs.Prelude.{◌≡◌, ◌+◌, ◌<◌, ◌^◌, None, Some, false, IsSome, IsTrue, IfOk, OnOk, OnErr};
+ghost use Rattle.std.specs.Prelude.{◌≡◌, ◌+◌, ◌<◌, ◌^◌, None, Some, false, IsTrue, IfOk, OnOk, OnErr};
 ghost use Rattle.std.specs.Option.{option_copied};
-ghost use Rattle.item_store.specs.Slots.{committed_of, holder_of, image_of, last_of, pending_of, row_of, slot_of, version_of};
+ghost use Rattle.txn_core.specs.Answers.{is_holder};
+ghost use Rattle.item_store.specs.Slots.{committed_of, holder_of, last_of, pending_of, row_of, slot_of, version_of};
 ghost use Rattle.std.specs.Ordering.{nat_cmp};
 ghost use Rattle.std.specs.BTreeMap.{get};
 ghost use Rattle.item_store.specs.Tables.{has_table, held_of, held_under};
 
 use crate::counts::Counts;
-use crate::slot::{Committed, Pending, holder, item_in, last, row, version};
+use crate::slot::{Committed, End, Pending, Slot, item_in, last, version};
 use crate::table::TableItems;
 use crate::tables::{
-    close_table, fill_table, hold_under, open_table, put_under, remove_under, replace_under,
-    slot_under, take_pending_under,
+    close_table, end_under, fill_table, hold_under, open_table, remove_under, slot_under,
+    write_under,
 };
 use std::alloc::{AllocError as NoMemory, Global};
 use std::collections::BTreeMap;
@@ -34,7 +35,7 @@ pub struct ItemStore<K: Ord, V> {
 
 impl<K: Ord, V> ItemStore<K, V> {
     ghost use Rattle.item_store.specs.Counts.{fresh, tally};
-    ghost use Rattle.item_store.specs.Changes.{Changes, Closes, Commits, CountsOne, Fills, Opens, Settles, Unchanged, slot_at};
+    ghost use Rattle.item_store.specs.Changes.{Changes, Closes, Commits, CountsOne, Ends, Fills, Opens, Settles, Unchanged, slot_at};
 
     /// No table.
     pub fn new(alloc: Global) -> ItemStore<K, V>
@@ -49,32 +50,25 @@ impl<K: Ord, V> ItemStore<K, V> {
         }
     }
 
-    /// The committed item.
-    pub fn committed(&self, table: u64, key: &K) -> Option<&V>
-        ensures { option_copied result ≡ row_of (slot_at self.now table key.now) }
+    /// What is kept of an item: none, where it is neither there nor held.
+    pub fn slot(&self, table: u64, key: &K) -> Option<&Slot<V>>
+        ensures { option_copied result ≡ slot_at self.now table key.now }
     {
-        row(slot_under(&self.tables, table, key))
+        slot_under(&self.tables, table, key)
     }
 
-    /// The number of the transaction that holds the item.
-    pub fn pending_at(&self, table: u64, key: &K) -> Option<u64>
-        ensures { result ≡ holder_of (slot_at self.now table key.now) }
+    /// The stamp at which the item of a slot was changed last, or where it is absent, the cell's floor.
+    pub fn last_change(&self, slot: Option<&Slot<V>>) -> Stamp
+        ensures { result ≡ last_of self.now.counts.floor (option_copied slot.entry) }
     {
-        holder(slot_under(&self.tables, table, key))
+        last(self.counts.floor, slot)
     }
 
-    /// The stamp at which the item was changed last, or where it is absent, the cell's floor.
-    pub fn last_change(&self, table: u64, key: &K) -> Stamp
-        ensures { result ≡ last_of self.now.counts.floor (slot_at self.now table key.now) }
+    /// The version of the item of a slot, or where it is absent, that of its cell's last absence.
+    pub fn version(&self, slot: Option<&Slot<V>>) -> u64
+        ensures { result ≡ version_of self.now.counts.gone (option_copied slot.entry) }
     {
-        last(self.counts.floor, slot_under(&self.tables, table, key))
-    }
-
-    /// The version of the item, or where it is absent, that of its cell's last absence.
-    pub fn version_of(&self, table: u64, key: &K) -> u64
-        ensures { result ≡ version_of self.now.counts.gone (slot_at self.now table key.now) }
-    {
-        version(self.counts.gone, slot_under(&self.tables, table, key))
+        version(self.counts.gone, slot)
     }
 
     /// Makes or replaces the committed item of a key that no transaction holds, at a stamp or at the item's later one, and
@@ -97,15 +91,14 @@ impl<K: Ord, V> ItemStore<K, V> {
         ensures err { OnErr result (Unchanged self.old self.new) }
     {
         let version = self.next_number()?;
-        let stamp = self.last_change(table, &key).later(stamp);
         let committed = Committed {
             item,
             stamp,
             version,
         };
-        let old = put_under(&mut self.tables, table, key, committed)?;
+        let old = write_under(&mut self.tables, table, key, self.counts.floor, committed)?;
         self.counts.count = version;
-        Ok(item_in(old))
+        Ok(old)
     }
 
     /// Removes the committed item of a key that no transaction holds, where it is there, at a stamp, and hands it out. It
@@ -147,62 +140,50 @@ impl<K: Ord, V> ItemStore<K, V> {
         Ok(())
     }
 
-    /// Puts the image of a held item in place, at its transaction's stamp, and hands out the item that was there. It takes
-    /// no memory.
-    pub fn settle(&mut self, table: u64, key: &K) -> Option<V>
+    /// Ends the transaction on an item, if it is the one of this number that holds it, and tells whether it is.
+    fn end(&mut self, table: u64, key: &K, number: u64, end: End) -> bool
     where
         K: Drop,
         V: Drop,
-        requires held { IsSome (pending_of (slot_at self.old table key.now)) }
-        ensures old { result ≡ row_of (slot_at self.old table key.now) }
-        ensures settled { Settles self.old self.new table key.now }
-        ensures held { self.new.held + 1 ≡ self.old.held }
+        ensures answer { result ≡ is_holder (holder_of (slot_at self.old table key.now)) number }
+        ensures ended { IsTrue result → Ends end self.old self.new table key.now }
+        ensures held { IsTrue result → self.new.held + 1 ≡ self.old.held }
+        ensures same { result ≡ false → Unchanged self.old self.new }
     {
-        let Some(pending) = take_pending_under(&mut self.tables, table, key) else {
-            unreachable!()
-        };
-        self.held -= 1;
-        let Pending { stamp, image, .. } = pending;
-        match image {
-            Some(item) => {
-                let version = self.counts.count + 1;
-                let committed = Committed {
-                    item,
-                    stamp,
-                    version,
-                };
-                let old = replace_under(&mut self.tables, table, key, Some(committed));
-                self.counts.count = version;
-                item_in(old)
-            }
-            None => {
-                let old = replace_under(&mut self.tables, table, key, None);
-                let last = last(self.counts.floor, old.as_ref());
-                self.counts = self.counts.left_absent(last, stamp);
-                item_in(old)
-            }
+        let ended = end_under(&mut self.tables, table, key, number, end, &mut self.counts);
+        if ended {
+            self.held -= 1;
         }
+        ended
     }
 
-    /// Lets a held item go as it is, and hands out the image. It takes no memory.
-    pub fn let_go(&mut self, table: u64, key: &K) -> Option<V>
+    /// Puts the image of an item that the transaction of this number holds in place, at that one's stamp, and tells whether it
+    /// holds it; else nothing changes. It takes no memory.
+    pub fn settle(&mut self, table: u64, key: &K, number: u64) -> bool
     where
         K: Drop,
         V: Drop,
-        requires held { IsSome (pending_of (slot_at self.old table key.now)) }
-        ensures image { result ≡ image_of (pending_of (slot_at self.old table key.now)) }
-        ensures gone { Changes self.old self.new table key.now
-            (slot_of (committed_of (slot_at self.old table key.now)) None) (tally self.old.counts) }
-        ensures held { self.new.held + 1 ≡ self.old.held }
+        ensures answer { result ≡ is_holder (holder_of (slot_at self.old table key.now)) number }
+        ensures settled { IsTrue result → Settles self.old self.new table key.now }
+        ensures held { IsTrue result → self.new.held + 1 ≡ self.old.held }
+        ensures same { result ≡ false → Unchanged self.old self.new }
     {
-        let Some(pending) = take_pending_under(&mut self.tables, table, key) else {
-            unreachable!()
-        };
-        self.held -= 1;
-        if self.committed(table, key).is_none() {
-            drop(replace_under(&mut self.tables, table, key, None));
-        }
-        pending.image
+        self.end(table, key, number, End::Settle)
+    }
+
+    /// Lets an item that the transaction of this number holds go as it is, and tells whether it holds it; else nothing changes.
+    /// It takes no memory.
+    pub fn let_go(&mut self, table: u64, key: &K, number: u64) -> bool
+    where
+        K: Drop,
+        V: Drop,
+        ensures answer { result ≡ is_holder (holder_of (slot_at self.old table key.now)) number }
+        ensures gone { IsTrue result → Changes self.old self.new table key.now
+            (slot_of (committed_of (slot_at self.old table key.now)) None) (tally self.old.counts) }
+        ensures held { IsTrue result → self.new.held + 1 ≡ self.old.held }
+        ensures same { result ≡ false → Unchanged self.old self.new }
+    {
+        self.end(table, key, number, End::LetGo)
     }
 
     /// Adds a table without items, which is not there yet.

@@ -1,15 +1,21 @@
 //! The items of one table.
 
-ghost use Rattle.std.specs.Prelude.{◌≡◌, ◌+◌, ◌<◌, ◌^◌, None, Some, IsSome, IfOk, OnOk, OnErr};
+ghost use Rattle.std.specs.Prelude.{◌≡◌, ◌+◌, ◌<◌, ◌^◌, None, Some, IsTrue, false, IfOk, OnOk, OnErr};
 ghost use Rattle.std.specs.Option.{option_copied};
 ghost use Rattle.std.specs.BTreeMap.{IsOrdered, get};
-ghost use Rattle.item_store.specs.Slots.{committed_of, pending_of, slot_of, unheld};
+ghost use Rattle.txn_core.specs.Answers.{is_holder};
+ghost use Rattle.txn_core.specs.Stamps.{later};
+ghost use Rattle.item_store.specs.Counts.{tally};
+ghost use Rattle.item_store.specs.Ends.{committed_after, counted_after};
+ghost use Rattle.item_store.specs.Slots.{committed_at, committed_of, holder_of, last_of, pending_of, row_of, slot_of};
 ghost use Rattle.item_store.specs.Maps.{Places, held_among};
 
-use crate::slot::{Committed, Pending, Slot};
-use crate::slots::{exchange, hold_in, put_in, take_out, take_pending};
+use crate::counts::Counts;
+use crate::slot::{Committed, End, Pending, Slot};
+use crate::slots::{end_in, hold_in, put_in, take_out, write_in};
 use std::alloc::{AllocError as NoMemory, Global};
 use std::collections::BTreeMap;
+use txn_core::Stamp;
 
 /// The items of a table that are there or held, in the order of their keys.
 #[derive(Drop)]
@@ -89,27 +95,26 @@ impl<K: Ord, V> TableItems<K, V> {
         take_out(&mut self.slots, key)
     }
 
-    /// Puts what is committed in the place of a slot that is there and that no transaction holds, or takes the slot out, and
-    /// hands it out. It takes no memory.
-    pub(crate) fn replace(&mut self, key: &K, committed: Option<Committed<V>>) -> Option<Slot<V>>
+    /// Writes an item that no transaction holds, at the stamp of what is committed, or at the later one of the item that is there
+    /// or of the floor, and hands that item out.
+    pub(crate) fn write(
+        &mut self,
+        key: K,
+        floor: Stamp,
+        committed: Committed<V>,
+    ) -> Result<Option<V>, NoMemory>
     where
         K: Drop,
-        requires there { IsSome (get K.cmp self.old.slots key.now) }
-        requires free { pending_of (get K.cmp self.old.slots key.now) ≡ None }
-        ensures old { result ≡ get K.cmp self.old.slots key.now }
-        ensures new { Places K.cmp self.old.slots self.new.slots key.now (slot_of committed None) }
+        V: Drop,
+        requires free { pending_of (get K.cmp self.old.slots key) ≡ None }
+        ensures old { IfOk result (λ old. old ≡ row_of (get K.cmp self.old.slots key)) }
+        ensures new { OnOk result (Places K.cmp self.old.slots self.new.slots key
+            (slot_of (committed_at (Some committed.item) (later (last_of floor (get K.cmp self.old.slots key)) committed.stamp)
+            committed.version) None)) }
         ensures held { self.new.held ≡ self.old.held }
+        ensures err { OnErr result (self.new.slots.entries ≡ self.old.slots.entries) }
     {
-        match committed {
-            Some(committed) => {
-                let slot = Slot {
-                    committed: Some(committed),
-                    pending: None,
-                };
-                Some(exchange(&mut self.slots, key, slot))
-            }
-            None => take_out(&mut self.slots, key),
-        }
+        write_in(&mut self.slots, key, floor, committed)
     }
 
     /// Holds an item that no transaction holds.
@@ -130,16 +135,27 @@ impl<K: Ord, V> TableItems<K, V> {
         Ok(())
     }
 
-    /// Takes the pending out of a held slot, which stays. It takes no memory.
-    pub(crate) fn take_pending(&mut self, key: &K) -> Option<Pending<V>>
-        requires held { IsSome (pending_of (get K.cmp self.old.slots key.now)) }
-        ensures pending { result ≡ pending_of (get K.cmp self.old.slots key.now) }
-        ensures new { Places K.cmp self.old.slots self.new.slots key.now
-            (Some (unheld (committed_of (get K.cmp self.old.slots key.now)))) }
-        ensures held { self.new.held + 1 ≡ self.old.held }
+    /// Ends the transaction on an item, if it is the one of this number that holds it, and tells whether it is. It takes no
+    /// memory.
+    pub(crate) fn end(&mut self, key: &K, number: u64, end: End, counts: &mut Counts) -> bool
+    where
+        K: Drop,
+        V: Drop,
+        requires { IsTrue (is_holder (holder_of (get K.cmp self.old.slots key.now)) number) → counts.old.count + 1 < 2 ^ 64 }
+        ensures answer { result ≡ is_holder (holder_of (get K.cmp self.old.slots key.now)) number }
+        ensures new { IsTrue result → Places K.cmp self.old.slots self.new.slots key.now
+            (slot_of (committed_after end (tally counts.old) (get K.cmp self.old.slots key.now)) None) }
+        ensures counts { IsTrue result →
+            tally counts.new ≡ counted_after end (tally counts.old) (get K.cmp self.old.slots key.now) }
+        ensures held { IsTrue result → self.new.held + 1 ≡ self.old.held }
+        ensures same { result ≡ false → (q : K) → get K.cmp self.new.slots q ≡ get K.cmp self.old.slots q }
+        ensures same_held { result ≡ false → self.new.held ≡ self.old.held }
+        ensures same_counts { result ≡ false → tally counts.new ≡ tally counts.old }
     {
-        let pending = take_pending(&mut self.slots, key);
-        self.held -= 1;
-        pending
+        let ended = end_in(&mut self.slots, key, number, end, counts);
+        if ended {
+            self.held -= 1;
+        }
+        ended
     }
 }

@@ -1,17 +1,23 @@
 //! Changes of one item of a cell's tables.
 
-ghost use Rattle.std.specs.Prelude.{◌≡◌, ◌+◌, ◌<◌, ◌^◌, None, Some, IsSome, IsTrue, IfOk, OnOk, OnErr, false, not, ◌&&◌, ◌||◌, if◌then◌else◌};
+ghost use Rattle.std.specs.Prelude.{◌≡◌, ◌+◌, ◌<◌, ◌^◌, None, Some, IsTrue, IfOk, OnOk, OnErr, false, not, ◌&&◌, ◌||◌, if◌then◌else◌};
 ghost use Rattle.std.specs.Option.{option_copied};
 ghost use Rattle.std.specs.Ordering.{nat_cmp};
 ghost use Rattle.std.specs.BTreeMap.{get, is_at};
-ghost use Rattle.item_store.specs.Slots.{committed_of, pending_of, slot_of, unheld};
+ghost use Rattle.txn_core.specs.Answers.{is_holder};
+ghost use Rattle.txn_core.specs.Stamps.{later};
+ghost use Rattle.item_store.specs.Counts.{tally};
+ghost use Rattle.item_store.specs.Ends.{committed_after, counted_after};
+ghost use Rattle.item_store.specs.Slots.{committed_at, committed_of, holder_of, last_of, pending_of, row_of, slot_of};
 ghost use Rattle.item_store.specs.Tables.{PlacesUnder, Same, has_table, held_of, held_under, slot_under};
 
-use crate::slot::{Committed, Pending, Slot};
+use crate::counts::Counts;
+use crate::slot::{Committed, End, Pending, Slot};
 use crate::table::TableItems;
 use std::alloc::{AllocError as NoMemory, Global};
 use std::collections::BTreeMap;
 use std::mem;
+use txn_core::Stamp;
 
 /// What is kept of an item.
 pub(crate) fn slot_under<'t, K: Ord, V>(
@@ -27,22 +33,26 @@ pub(crate) fn slot_under<'t, K: Ord, V>(
     }
 }
 
-/// Puts what is committed in the place of a slot that no transaction holds, and hands that one out.
-pub(crate) fn put_under<K: Ord + Drop, V: Drop>(
+/// Writes an item that no transaction holds, at the stamp of what is committed, or at the later one of the item that is there or
+/// of the floor, and hands that item out.
+pub(crate) fn write_under<K: Ord + Drop, V: Drop>(
     tables: &mut BTreeMap<u64, TableItems<K, V>>,
     table: u64,
     key: K,
+    floor: Stamp,
     committed: Committed<V>,
-) -> Result<Option<Slot<V>>, NoMemory>
+) -> Result<Option<V>, NoMemory>
     requires there { IsTrue (has_table tables.old table) }
     requires free { pending_of (slot_under tables.old table key) ≡ None }
-    ensures old { IfOk result (λ old. old ≡ slot_under tables.old table key) }
-    ensures new { OnOk result (PlacesUnder tables.old tables.new table key (slot_of (Some committed) None)) }
+    ensures old { IfOk result (λ old. old ≡ row_of (slot_under tables.old table key)) }
+    ensures new { OnOk result (PlacesUnder tables.old tables.new table key
+        (slot_of (committed_at (Some committed.item) (later (last_of floor (slot_under tables.old table key)) committed.stamp)
+        committed.version) None)) }
     ensures held { held_under tables.new ≡ held_under tables.old }
     ensures err { OnErr result (Same tables.old tables.new) }
 {
     match tables.get_mut(&table) {
-        Some(items) => items.put(key, committed),
+        Some(items) => items.write(key, floor, committed),
         None => unreachable!(),
     }
 }
@@ -61,26 +71,6 @@ pub(crate) fn remove_under<K: Ord + Drop, V>(
 {
     match tables.get_mut(&table) {
         Some(items) => items.remove(key),
-        None => unreachable!(),
-    }
-}
-
-/// Puts what is committed in the place of a slot that is there and that no transaction holds, or takes the slot out, and
-/// hands it out. It takes no memory.
-pub(crate) fn replace_under<K: Ord + Drop, V>(
-    tables: &mut BTreeMap<u64, TableItems<K, V>>,
-    table: u64,
-    key: &K,
-    committed: Option<Committed<V>>,
-) -> Option<Slot<V>>
-    requires there { IsSome (slot_under tables.old table key.now) }
-    requires free { pending_of (slot_under tables.old table key.now) ≡ None }
-    ensures old { result ≡ slot_under tables.old table key.now }
-    ensures new { PlacesUnder tables.old tables.new table key.now (slot_of committed None) }
-    ensures held { held_under tables.new ≡ held_under tables.old }
-{
-    match tables.get_mut(&table) {
-        Some(items) => items.replace(key, committed),
         None => unreachable!(),
     }
 }
@@ -110,21 +100,29 @@ pub(crate) fn hold_under<K: Ord + Drop, V: Drop>(
     }
 }
 
-/// Takes the pending out of a held slot, which stays. It takes no memory.
-pub(crate) fn take_pending_under<K: Ord, V>(
+/// Ends the transaction on an item, if it is the one of this number that holds it, and tells whether it is. It takes no memory.
+pub(crate) fn end_under<K: Ord + Drop, V: Drop>(
     tables: &mut BTreeMap<u64, TableItems<K, V>>,
     table: u64,
     key: &K,
-) -> Option<Pending<V>>
-    requires held { IsSome (pending_of (slot_under tables.old table key.now)) }
-    ensures pending { result ≡ pending_of (slot_under tables.old table key.now) }
-    ensures new { PlacesUnder tables.old tables.new table key.now
-        (Some (unheld (committed_of (slot_under tables.old table key.now)))) }
-    ensures held { held_under tables.new + 1 ≡ held_under tables.old }
+    number: u64,
+    end: End,
+    counts: &mut Counts,
+) -> bool
+    requires { IsTrue (is_holder (holder_of (slot_under tables.old table key.now)) number) → counts.old.count + 1 < 2 ^ 64 }
+    ensures answer { result ≡ is_holder (holder_of (slot_under tables.old table key.now)) number }
+    ensures new { IsTrue result → PlacesUnder tables.old tables.new table key.now
+        (slot_of (committed_after end (tally counts.old) (slot_under tables.old table key.now)) None) }
+    ensures counts { IsTrue result →
+        tally counts.new ≡ counted_after end (tally counts.old) (slot_under tables.old table key.now) }
+    ensures held { IsTrue result → held_under tables.new + 1 ≡ held_under tables.old }
+    ensures same { result ≡ false → Same tables.old tables.new }
+    ensures same_held { result ≡ false → held_under tables.new ≡ held_under tables.old }
+    ensures same_counts { result ≡ false → tally counts.new ≡ tally counts.old }
 {
     match tables.get_mut(&table) {
-        Some(items) => items.take_pending(key),
-        None => unreachable!(),
+        Some(items) => items.end(key, number, end, counts),
+        None => false,
     }
 }
 
