@@ -67,10 +67,6 @@ module _ {V : Type 0} where
   slot_of (Some c) p = Some (record { committed = Some c; pending = p })
   slot_of None (Some p) = Some (record { committed = None; pending = Some p })
 
-  -- the slot of what is committed, held by nobody
-  abbrev pub unheld : Option (Committed V) → Slot V
-  unheld c = record { committed = c; pending = None }
-
   -- an item with its stamp and version, where it is there
   abbrev pub committed_at : Option V → Stamp → ℕ → Option (Committed V)
   committed_at None stamp version = None

@@ -1,11 +1,11 @@
 //! What is kept of one item.
 
-ghost use Rattle.std.specs.Prelude.{◌≡◌, ◌+◌, ◌<◌, ◌^◌, Some, IsSome};
+ghost use Rattle.std.specs.Prelude.{◌≡◌, ◌+◌, ◌<◌, ◌^◌, None, Some, IsSome};
 ghost use Rattle.std.specs.Option.{option_copied};
 ghost use Rattle.txn_core.specs.Answers.{is_holder};
 ghost use Rattle.item_store.specs.Counts.{tally};
 ghost use Rattle.item_store.specs.Ends.{committed_after, counted_after};
-ghost use Rattle.item_store.specs.Slots.{committed_at, counted, holder_of, last_of, row_of, unheld, version_of};
+ghost use Rattle.item_store.specs.Slots.{committed_at, counted, holder_of, last_of, row_of, version_of};
 ghost use Rattle.txn_core.specs.Stamps.{later};
 
 use crate::counts::Counts;
@@ -154,7 +154,8 @@ impl<V> Slot<V> {
         V: Drop,
         requires held { IsSome self.old.pending }
         requires room { counts.old.count + 1 < 2 ^ 64 }
-        ensures new { self.new ≡ unheld (committed_after end (tally counts.old) (Some self.old)) }
+        ensures new { self.new.committed ≡ committed_after end (tally counts.old) (Some self.old) }
+        ensures free { self.new.pending ≡ None }
         ensures counts { tally counts.new ≡ counted_after end (tally counts.old) (Some self.old) }
     {
         let Some(pending) = self.pending.take() else {

@@ -15,7 +15,7 @@ returns-then-is_some-clause-held g c = λ _.
     let new = c.end.new.self in
     let found : get g.K.Ord.cmp c.args.slots.now c.args.key.now ≡ Some old = search rules in
     let holds : IsSome old.pending = search rules in
-    held_less g.K.Ord.cmp c.args.slots.now (c.get_mut.follows.lender new) c.args.key.now old new found holds (ap (λ s. s.pending) c.end.ensures.new)
+    held_less g.K.Ord.cmp c.args.slots.now (c.get_mut.follows.lender new) c.args.key.now old new found holds c.end.ensures.free
     (c.get_mut.follows.holds new).0
 
 pub returns-clause-held : goal.returns-clause-held
@@ -25,5 +25,5 @@ returns-clause-held g c = λ _.
     let found : get g.K.Ord.cmp c.args.slots.now c.args.key.now ≡ Some old = search rules in
     let holds : IsSome old.pending = search rules in
     ap (λ n. n + 1) c.take_out.ensures.held
-    ∙ held_less g.K.Ord.cmp c.args.slots.now (c.get_mut.follows.lender new) c.args.key.now old new found holds (ap (λ s. s.pending) c.end.ensures.new)
+    ∙ held_less g.K.Ord.cmp c.args.slots.now (c.get_mut.follows.lender new) c.args.key.now old new found holds c.end.ensures.free
     (c.get_mut.follows.holds new).0
