@@ -1,5 +1,5 @@
 -- What is left of a cell by a message on an item is the state and the feed after it.
-use Rattle.std.proofs.Common.{◌≡◌, ℕ, ◌+◌, ◌++◌, nat_eq, Bool, true, false, if◌then◌else◌, List, [], Option, None, Some, IsSome, refl, sym, ap, ◌∙◌, subst}
+use Rattle.std.proofs.Common.{◌≡◌, ℕ, ◌+◌, ◌++◌, nat_eq, Bool, true, false, if◌then◌else◌, List, [], Option, None, Some, IsSome, IsTrue, refl, sym, ap, ◌∙◌, subst}
 use Rattle.std.proofs.lemmas.Bool.{cond-true, eq-eqb}
 use Rattle.std.proofs.lemmas.List.{append-nil}
 use Rattle.std.specs.declared.cmp.Ord as ord
@@ -12,6 +12,7 @@ use Rattle.txn_core.specs.Indexing.{indexed}
 use Rattle.txn_core.specs.Service.{Service, IsServiceLawful}
 use Rattle.txn_core.specs.Protocol.{after}
 use Rattle.txn_core.specs.Stamps.{later, single}
+use Rattle.txn_core.specs.Answers.{is_holder}
 use Rattle.txn_core.specs.Cells.{item}
 use Rattle.txn_core.specs.Effects.{Wrote, Prepared, Applied, Released}
 use Rattle.txn_core.specs.History.{where_so}
@@ -52,7 +53,8 @@ module _ {V : Type 0} where
   free_slot None e = refl
   free_slot (Some p) e = absurd (cc)
 
-  pub held_slot : (p : Option (Pending V)) (n : ℕ) → number_of p ≡ Some n → IsSome p
+  -- something is where one holds it
+  pub held_slot : (p : Option (Pending V)) (n : ℕ) → IsTrue (is_holder (number_of p) n) → IsSome p
   held_slot None n e = absurd (cc)
   held_slot (Some p) n e = refl
 

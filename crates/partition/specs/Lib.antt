@@ -6,6 +6,7 @@ pub mod Moves
 pub mod InStep
 pub mod Shown
 pub mod Knows
+pub mod Makes
 pub mod Steps
 pub mod Listed
 pub mod Pages

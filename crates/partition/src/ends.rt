@@ -1,7 +1,6 @@
 //! The messages that end a transaction on an item. They take no memory.
 
 ghost use Rattle.std.specs.Prelude.{◌≡◌, ℕ};
-ghost use Rattle.txn_core.specs.Answers.{is_holder};
 ghost use Rattle.txn_core.specs.declared.message.Message.{Message};
 ghost use Rattle.txn_core.specs.History.{is_applied, is_released};
 ghost use Rattle.partition.specs.InStep.{StaysInStep};
@@ -12,41 +11,27 @@ use crate::cell::PartitionOf;
 use planned_changes::CellRules;
 use txn_core::{Answer, Reply};
 
-/// Whether the transaction of this number holds the item.
-fn is_holder(holding: Option<u64>, number: u64) -> bool
-    ensures { result ≡ is_holder holding number }
-{
-    match holding {
-        Some(holder) => holder == number,
-        None => false,
-    }
-}
-
-/// Makes an item that the transaction holds what it is to be.
+/// Makes an item what it is to be, if the transaction of this number holds it.
 fn settle<R: CellRules>(cell: &mut PartitionOf<R>, number: u64, key: &R::Key) -> Reply<R>
     ensures says { (n : ℕ) → result ≡ applied (R.protocol n) cell.old number key.now }
     ensures left { (n : ℕ) → LeftByApply (R.protocol n) cell.old cell.new key.now (is_applied result) }
     ensures in_step { (n : ℕ) → StaysInStep (R.protocol n) R.locals cell.old cell.new }
 {
-    let table = R::table_of(key);
-    if !is_holder(cell.items.pending_at(table, key), number) {
+    if !cell.settle(R::table_of(key), key, number) {
         return Answer::Nothing;
     }
-    cell.settle(table, key);
     Answer::Applied
 }
 
-/// Lets an item go that the transaction holds.
+/// Lets an item go, if the transaction of this number holds it.
 fn let_go<R: CellRules>(cell: &mut PartitionOf<R>, number: u64, key: &R::Key) -> Reply<R>
     ensures says { (n : ℕ) → result ≡ released (R.protocol n) cell.old number key.now }
     ensures left { (n : ℕ) → LeftByRelease (R.protocol n) cell.old cell.new key.now (is_released result) }
     ensures in_step { (n : ℕ) → StaysInStep (R.protocol n) R.locals cell.old cell.new }
 {
-    let table = R::table_of(key);
-    if !is_holder(cell.items.pending_at(table, key), number) {
+    if !cell.let_go(R::table_of(key), key, number) {
         return Answer::Nothing;
     }
-    cell.let_go(table, key);
     Answer::Released
 }
 

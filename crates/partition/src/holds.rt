@@ -1,8 +1,9 @@
 //! Changes of one item of a cell.
 
-ghost use Rattle.std.specs.Prelude.{◌≡◌, ◌+◌, ◌≤◌, None, Some, [], IsSome, IsTrue, IfOk, OnOk, OnErr, length};
+ghost use Rattle.std.specs.Prelude.{◌≡◌, ◌+◌, ◌≤◌, None, Some, [], IsTrue, false, IfOk, OnOk, OnErr, length};
+ghost use Rattle.txn_core.specs.Answers.{is_holder};
 ghost use Rattle.txn_core.specs.Stamps.{later};
-ghost use Rattle.item_store.specs.Slots.{counted, image_of, pending_of, row_of, stamp_of};
+ghost use Rattle.item_store.specs.Slots.{counted, holder_of, image_of, pending_of, row_of, stamp_of};
 ghost use Rattle.item_store.specs.Tables.{has_table};
 ghost use Rattle.local_index.specs.Entries.{held_too, let_go, noted, settled};
 ghost use Rattle.prepared_changes.specs.Prepared.{moves_in, moves_of, no_moves, places_in, prepared_in};
@@ -208,44 +209,56 @@ impl<K: Ord, V, C, N: Ord> Partition<K, V, C, N> {
         }
     }
 
-    /// Makes a held item what it is to be, with the changes of indexes that were prepared for it. It takes no memory.
-    pub(crate) fn settle(&mut self, table: u64, key: &K)
+    /// Makes an item that the transaction of this number holds what it is to be, with the changes of indexes that were prepared
+    /// for it, and tells whether it holds it; else nothing changes. It takes no memory.
+    pub(crate) fn settle(&mut self, table: u64, key: &K, number: u64) -> bool
     where
         K: Drop,
         V: Drop,
         N: Drop,
-        requires held { IsSome (pending_of (slot_at self.old.items table key.now)) }
-        ensures changed { Changes self.old self.new table key.now
+        ensures answer { result ≡ is_holder (holder_of (slot_at self.old.items table key.now)) number }
+        ensures changed { IsTrue result → Changes self.old self.new table key.now
             (slot_settled (tally self.old.items.counts) (slot_at self.old.items table key.now))
             (counted (tally self.old.items.counts) (slot_at self.old.items table key.now)
             (image_of (pending_of (slot_at self.old.items table key.now)))
             (stamp_of (pending_of (slot_at self.old.items table key.now))))
             (set_at self.old key.now []) (prepared_in K.cmp self.old.prepared.lists key.now) }
-        ensures settled { let m = moves_in K.cmp self.old.prepared.lists key.now in
+        ensures settled { IsTrue result → let m = moves_in K.cmp self.old.prepared.lists key.now in
             MovesEntries self.old self.new table (settled N.cmp m.old m.new) (moves_at self.old key.now no_moves) }
+        ensures same { result ≡ false → Unchanged self.old self.new }
+        ensures same_entries { result ≡ false → SameEntries self.old self.new }
     {
-        drop(self.items.settle(table, key));
+        if !self.items.settle(table, key, number) {
+            return false;
+        }
         if let Some(changes) = self.prepared.take(key) {
             self.locals
                 .settle(table, changes.old.as_slice(), changes.new.as_slice());
             queue_all(&mut self.outbox, changes.rows);
         }
+        true
     }
 
-    /// Lets a held item go as it is, with what was prepared for it. It takes no memory.
-    pub(crate) fn let_go(&mut self, table: u64, key: &K)
+    /// Lets an item that the transaction of this number holds go as it is, with what was prepared for it, and tells whether it
+    /// holds it; else nothing changes. It takes no memory.
+    pub(crate) fn let_go(&mut self, table: u64, key: &K, number: u64) -> bool
     where
         K: Drop,
         V: Drop,
         N: Drop,
-        requires held { IsSome (pending_of (slot_at self.old.items table key.now)) }
-        ensures changed { Changes self.old self.new table key.now (slot_let_go (slot_at self.old.items table key.now))
-            (tally self.old.items.counts) (set_at self.old key.now []) [] }
-        ensures released { MovesEntries self.old self.new table
+        ensures answer { result ≡ is_holder (holder_of (slot_at self.old.items table key.now)) number }
+        ensures changed { IsTrue result → Changes self.old self.new table key.now
+            (slot_let_go (slot_at self.old.items table key.now)) (tally self.old.items.counts) (set_at self.old key.now []) [] }
+        ensures released { IsTrue result → MovesEntries self.old self.new table
             (let_go N.cmp (moves_in K.cmp self.old.prepared.lists key.now).new) (moves_at self.old key.now no_moves) }
+        ensures same { result ≡ false → Unchanged self.old self.new }
+        ensures same_entries { result ≡ false → SameEntries self.old self.new }
     {
-        drop(self.items.let_go(table, key));
+        if !self.items.let_go(table, key, number) {
+            return false;
+        }
         self.locals.let_go(table, self.prepared.entries_after(key));
         self.take_back(key);
+        true
     }
 }

@@ -1,6 +1,6 @@
 //! A transaction's action on an item.
 
-ghost use Rattle.std.specs.Prelude.{◌≡◌, ℕ, true, None, IfOk, OnOk, OnErr};
+ghost use Rattle.std.specs.Prelude.{◌≡◌, ℕ, None, IfOk, OnOk, OnErr};
 ghost use Rattle.std.specs.Option.{option_copied};
 ghost use Rattle.txn_core.specs.History.{is_accepted};
 ghost use Rattle.txn_core.specs.declared.message.Message.{Message};
@@ -9,23 +9,27 @@ ghost use Rattle.item_store.specs.Slots.{holder_of};
 ghost use Rattle.partition.specs.Changes.{IsUnprepared, Unchanged};
 ghost use Rattle.partition.specs.InStep.{StaysInStep};
 ghost use Rattle.partition.specs.Knows.{HeldFor, LeftByPrepare, kept_at, outcome_at, prepared};
+ghost use Rattle.partition.specs.Makes.{Makes};
 ghost use Rattle.partition.specs.Says.{Keeps, Leaves, Says, prepare_says};
 
 use crate::cell::PartitionOf;
 use crate::reads::copy_of_row;
-use item_store::Pending;
-use planned_changes::{CellRules, index_changes};
+use item_store::{Pending, holder_of, row_of};
+use planned_changes::{CellRules, IndexChangesOf, index_changes};
 use std::alloc::{AllocError as NoMemory, Global};
 use txn_core::{Answer, Outcome, Reply, Stamp};
 
-/// Holds an item that no transaction holds, and takes all that the end of this one needs.
+/// Holds an item that no transaction holds, with what its image makes of indexes, and takes all that the end of this one needs.
 fn hold<R: CellRules>(
     alloc: Global,
     cell: &mut PartitionOf<R>,
     action: R::Action,
     pending: Pending<R::Value>,
+    changes: IndexChangesOf<R>,
 ) -> Result<(), NoMemory>
     requires free { (n : ℕ) → holder_of (kept_at (R.protocol n) cell.old ((R.protocol n).core.key_of action)) ≡ None }
+    requires made { (n : ℕ) →
+        Makes (R.protocol n) R.locals cell.old ((R.protocol n).core.key_of action) pending.image changes }
     ensures left { OnOk result ((n : ℕ) →
         IsUnprepared cell.old ((R.protocol n).core.key_of action)
         → HeldFor (R.protocol n) cell.old cell.new ((R.protocol n).core.key_of action) pending.number pending.stamp pending.image) }
@@ -35,56 +39,12 @@ fn hold<R: CellRules>(
 {
     let key = R::key_of(&action);
     let table = R::table_of(key);
-    let old = cell.items.committed(table, key);
-    let changes = index_changes::<R>(alloc, &cell.catalog, key, old, pending.image.as_ref())?;
     if changes.is_empty() {
         return cell.hold(alloc, table, R::into_key(action), pending);
     }
     let held = R::copy_of_key(alloc, key)?;
     let kept = R::copy_of_key(alloc, key)?;
     cell.hold_with(alloc, table, key, held, kept, pending, changes)
-}
-
-/// Answers a Prepare of an item that no transaction holds, whose table is there.
-fn claim<R: CellRules>(
-    alloc: Global,
-    cell: &mut PartitionOf<R>,
-    number: u64,
-    stamp: Stamp,
-    action: R::Action,
-) -> Result<Reply<R>, NoMemory>
-    requires free { (n : ℕ) → holder_of (kept_at (R.protocol n) cell.old ((R.protocol n).core.key_of action)) ≡ None }
-    ensures says { IfOk result (λ a. (n : ℕ) → (R.protocol n).core.there cell.old.catalog ((R.protocol n).core.key_of action) ≡ true
-        → a ≡ prepared (R.protocol n) cell.old number stamp action) }
-    ensures left { IfOk result (λ a. (n : ℕ) →
-        IsUnprepared cell.old ((R.protocol n).core.key_of action)
-        → LeftByPrepare (R.protocol n) cell.old cell.new action number stamp (is_accepted a)) }
-    ensures err { OnErr result ((n : ℕ) →
-        IsUnprepared cell.old ((R.protocol n).core.key_of action) → Unchanged cell.old cell.new) }
-    ensures in_step { (n : ℕ) → StaysInStep (R.protocol n) R.locals cell.old cell.new }
-{
-    let key = R::key_of(&action);
-    let table = R::table_of(key);
-    let last = cell.items.last_change(table, key);
-    if !last.is_earlier(stamp) {
-        return Ok(Answer::Late { stamp: last });
-    }
-    let old = cell.items.committed(table, key);
-    match R::act(alloc, &cell.catalog, &action, old)? {
-        Outcome::New { item } => {
-            let pending = Pending {
-                number,
-                stamp,
-                image: item,
-            };
-            hold::<R>(alloc, cell, action, pending)?;
-            Ok(Answer::Accepted)
-        }
-        Outcome::Unmet => Ok(Answer::CondFalse {
-            old: copy_of_row::<R>(alloc, old)?,
-        }),
-        Outcome::Fails { fault } => Ok(Answer::Invalid { fault }),
-    }
 }
 
 /// Answers a Prepare by what the cell keeps of its item.
@@ -109,10 +69,33 @@ fn attempt<R: CellRules>(
     if !R::is_there(&cell.catalog, key) {
         return Ok(Answer::Stale);
     }
-    match cell.items.pending_at(R::table_of(key), key) {
-        None => claim::<R>(alloc, cell, number, stamp, action),
-        Some(holder) if holder == number => Ok(Answer::Accepted),
-        Some(holder) => Ok(Answer::Held { number: holder }),
+    let slot = cell.items.slot(R::table_of(key), key);
+    if let Some(holder) = holder_of(slot) {
+        if holder == number {
+            return Ok(Answer::Accepted);
+        }
+        return Ok(Answer::Held { number: holder });
+    }
+    let last = cell.items.last_change(slot);
+    if !last.is_earlier(stamp) {
+        return Ok(Answer::Late { stamp: last });
+    }
+    let old = row_of(slot);
+    match R::act(alloc, &cell.catalog, &action, old)? {
+        Outcome::New { item } => {
+            let changes = index_changes::<R>(alloc, &cell.catalog, key, old, item.as_ref())?;
+            let pending = Pending {
+                number,
+                stamp,
+                image: item,
+            };
+            hold::<R>(alloc, cell, action, pending, changes)?;
+            Ok(Answer::Accepted)
+        }
+        Outcome::Unmet => Ok(Answer::CondFalse {
+            old: copy_of_row::<R>(alloc, old)?,
+        }),
+        Outcome::Fails { fault } => Ok(Answer::Invalid { fault }),
     }
 }
 

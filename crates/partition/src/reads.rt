@@ -6,6 +6,7 @@ ghost use Rattle.partition.specs.Knows.{got, versioned};
 ghost use Rattle.partition.specs.Says.{Says, get_says, version_says};
 
 use crate::cell::PartitionOf;
+use item_store::{holder_of, row_of};
 use planned_changes::CellRules;
 use std::alloc::{AllocError as NoMemory, Global};
 use txn_core::{Answer, Reply, Rules};
@@ -34,8 +35,8 @@ fn read<R: CellRules>(
     if !R::is_there(&cell.catalog, key) {
         return Ok(Answer::Stale);
     }
-    let row = cell.items.committed(R::table_of(key), key);
-    let item = copy_of_row::<R>(alloc, row)?;
+    let slot = cell.items.slot(R::table_of(key), key);
+    let item = copy_of_row::<R>(alloc, row_of(slot))?;
     Ok(Answer::Row { item })
 }
 
@@ -62,12 +63,12 @@ fn read_with_version<R: CellRules>(
     if !R::is_there(&cell.catalog, key) {
         return Ok(Answer::Stale);
     }
-    let table = R::table_of(key);
-    let item = copy_of_row::<R>(alloc, cell.items.committed(table, key))?;
+    let slot = cell.items.slot(R::table_of(key), key);
+    let item = copy_of_row::<R>(alloc, row_of(slot))?;
     Ok(Answer::Version {
         item,
-        version: cell.items.version_of(table, key),
-        held: cell.items.pending_at(table, key),
+        version: cell.items.version(slot),
+        held: holder_of(slot),
     })
 }
 

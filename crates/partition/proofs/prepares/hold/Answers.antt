@@ -38,8 +38,8 @@ returns-then-is_empty-clause-left g c =
     let S = g.R.Rules.protocol n in
     let k = S.core.key_of c.args.action in
     let xs = changes (indexed S.core S.index) c.args.cell.now.catalog k (row_of (kept_at S c.args.cell.now k)) c.args.pending.image in
-    let same : c.in_ok-changes.changes.rows.items ≡ xs = cc (c.in_ok-changes.ensures.rows n, c.key_of-key.ensures n, c.table_of-table.ensures n, c.committed-old.ensures, c.as_ref.ensures.value) in
-    let nil : c.in_ok-changes.changes.rows.items ≡ [] = (c.is_empty.ensures.0 c.if-is_empty.true).no_rows in
+    let same : c.args.changes.rows.items ≡ xs = (c.requires.made n).rows in
+    let nil : c.args.changes.rows.items ≡ [] = (c.is_empty.ensures.0 c.if-is_empty.true).no_rows in
     held_plain c.args.cell.now c.hold.new.self (tally c.args.cell.now.items.counts) c.table_of-table.result (S.core.table k) c.into_key.result k
     (c.table_of-table.ensures n ∙ ap (λ y. S.core.table y) (c.key_of-key.ensures n)) (c.into_key.ensures n) c.args.pending xs (sym same ∙ nil) un
     (record {
@@ -57,9 +57,9 @@ returns-clause-left g c =
     let S = g.R.Rules.protocol n in
     let k = S.core.key_of c.args.action in
     let xs = changes (indexed S.core S.index) c.args.cell.now.catalog k (row_of (kept_at S c.args.cell.now k)) c.args.pending.image in
-    let same : c.in_ok-changes.changes.rows.items ≡ xs = cc (c.in_ok-changes.ensures.rows n, c.key_of-key.ensures n, c.table_of-table.ensures n, c.committed-old.ensures, c.as_ref.ensures.value) in
+    let same : c.args.changes.rows.items ≡ xs = (c.requires.made n).rows in
     held_with c.args.cell.now c.hold_with.new.self (tally c.args.cell.now.items.counts) c.table_of-table.result (S.core.table k) c.key_of-key.result.now k
-    (c.table_of-table.ensures n ∙ ap (λ y. S.core.table y) (c.key_of-key.ensures n)) (c.key_of-key.ensures n) c.args.pending c.in_ok-changes.changes.rows.items xs same
+    (c.table_of-table.ensures n ∙ ap (λ y. S.core.table y) (c.key_of-key.ensures n)) (c.key_of-key.ensures n) c.args.pending c.args.changes.rows.items xs same
     (record {
       slots = h.slots;
       numbers_are = h.numbers_are;
@@ -91,8 +91,9 @@ returns-then-is_empty-clause-in_step g c = λ n.
     let table : u ≡ S.core.table k = c.table_of-table.ensures n ∙ ap (λ y. S.core.table y) (c.key_of-key.ensures n ∙ sym (c.into_key.ensures n)) in
     let free : pending_of (slot_at cell.items u k) ≡ None =
     free_slot (pending_of (slot_at cell.items u k)) ((λ j. holder_of (slot_at cell.items ((c.table_of-table.ensures n ∙ ap (λ y. S.core.table y) (c.key_of-key.ensures n)) j) (c.into_key.ensures n j))) ∙ c.requires.free n) in
-    let made : moves_of (Some c.in_ok-changes.changes) ≡ moves_by L cell.catalog k (row_of (slot_at cell.items u k)) c.args.pending.image =
-    cc (c.in_ok-changes.ensures.moves, c.key_of-key.ensures n, c.into_key.ensures n, c.committed-old.ensures, c.as_ref.ensures.value) in
+    let made : moves_of (Some c.args.changes) ≡ moves_by L cell.catalog k (row_of (slot_at cell.items u k)) c.args.pending.image =
+    (c.requires.made n).moves
+    ∙ (λ j. moves_by L cell.catalog (sym (c.into_key.ensures n) j) (row_of (slot_at cell.items ((sym (ap (λ y. S.core.table y) (c.key_of-key.ensures n)) ∙ sym (c.table_of-table.ensures n)) j) (sym (c.into_key.ensures n) j))) c.args.pending.image) in
     let none = c.is_empty.ensures.0 c.if-is_empty.true in
     let no : no_moves ≡ moves_by L cell.catalog k (row_of (slot_at cell.items u k)) c.args.pending.image =
     (λ i. record { old = sym none.none_before i; new = sym none.none_after i }) ∙ made in
@@ -112,10 +113,11 @@ returns-clause-in_step g c = λ n.
     let table : u ≡ S.core.table k = c.table_of-table.ensures n in
     let free : pending_of (slot_at cell.items u k) ≡ None =
     free_slot (pending_of (slot_at cell.items u k)) ((λ j. holder_of (slot_at cell.items ((c.table_of-table.ensures n ∙ ap (λ y. S.core.table y) (c.key_of-key.ensures n)) j) (c.key_of-key.ensures n j))) ∙ c.requires.free n) in
-    let made : moves_of (Some c.in_ok-changes.changes) ≡ moves_by L cell.catalog k (row_of (slot_at cell.items u k)) c.args.pending.image =
-    cc (c.in_ok-changes.ensures.moves, c.committed-old.ensures, c.as_ref.ensures.value) in
+    let made : moves_of (Some c.args.changes) ≡ moves_by L cell.catalog k (row_of (slot_at cell.items u k)) c.args.pending.image =
+    (c.requires.made n).moves
+    ∙ (λ j. moves_by L cell.catalog (sym (c.key_of-key.ensures n) j) (row_of (slot_at cell.items ((sym (ap (λ y. S.core.table y) (c.key_of-key.ensures n)) ∙ sym (c.table_of-table.ensures n)) j) (sym (c.key_of-key.ensures n) j))) c.args.pending.image) in
     either_with c.hold_with.result c.hold_with.ensures.ok c.hold_with.ensures.held c.hold_with.ensures.kept c.hold_with.ensures.refused
     (λ h moved. held_with_stays S (g.met.R.Rules.lawful n) (g.met.R.CellRules.ordered n) L (g.met.R.CellRules.entries_lawful n) g.met.R.Entry.Ord.total
-    cell c.hold_with.new.self h.beside.catalog u k table c.args.pending (moves_of (Some c.in_ok-changes.changes)) h.slots free made moved)
+    cell c.hold_with.new.self h.beside.catalog u k table c.args.pending (moves_of (Some c.args.changes)) h.slots free made moved)
     (λ h same. hold_refused_stays S (g.met.R.Rules.lawful n) (g.met.R.CellRules.ordered n) L (g.met.R.CellRules.entries_lawful n) g.met.R.Entry.Ord.total
-    cell c.hold_with.new.self h.1 u k table c.args.pending (moves_of (Some c.in_ok-changes.changes)) h.0 free made same)
+    cell c.hold_with.new.self h.1 u k table c.args.pending (moves_of (Some c.args.changes)) h.0 free made same)

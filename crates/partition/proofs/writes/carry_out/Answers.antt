@@ -22,7 +22,7 @@ put-requires g c =
     record {
       copies = g.met.R.CellRules.copied;
       free = free_slot (pending_of (slot_at c.args.cell.now.items c.table_of-table.result c.into_key-key.result))
-          ((λ j. holder_of (slot_at c.args.cell.now.items ((c.table_of-table.ensures 0 ∙ ap (λ k. S.core.table k) (c.key_of-key.ensures 0)) j) (c.into_key-key.ensures 0 j))) ∙ c.requires.free 0);
+          ((λ j. holder_of (slot_at c.args.cell.now.items ((c.table_of-table.ensures 0 ∙ ap (λ k. S.core.table k) (c.key_of.ensures 0)) j) (c.into_key-key.ensures 0 j))) ∙ c.requires.free 0);
     }
 
 pub returns-clause-left : goal.returns-clause-left
@@ -32,12 +32,12 @@ returns-clause-left g c = λ n.
     let row = row_of (kept_at S c.args.cell.now k) in
     let made : c.args.item ≡ after (outcome_at S c.args.cell.now c.args.action) row = sym (ap (λ o. after o row) (c.requires.new n)) in
     let xs = changes (indexed S.core S.index) c.args.cell.now.catalog k row c.args.item in
-    let same : c.in_ok-changes.changes.rows.items ≡ xs = cc (c.in_ok-changes.ensures.rows n, c.key_of-key.ensures n, c.table_of-table.ensures n, c.committed-old.ensures, c.as_ref-2.ensures.value) in
+    let same : c.args.changes.rows.items ≡ xs = (c.requires.made n).rows in
     let h = c.in_ok-old.ensures.ok in (
       free_slot (pending_of (kept_at S c.args.cell.now k)) (c.requires.free n),
       written_so c.args.cell.now c.put.new.self (tally c.args.cell.now.items.counts) c.table_of-table.result (S.core.table k) c.into_key-key.result k
-          (c.table_of-table.ensures n ∙ ap (λ y. S.core.table y) (c.key_of-key.ensures n)) (c.into_key-key.ensures n) (single c.args.moment) c.args.item (after (outcome_at S c.args.cell.now c.args.action) row) made
-          c.in_ok-changes.changes.rows.items (changes (indexed S.core S.index) c.args.cell.now.catalog k row (after (outcome_at S c.args.cell.now c.args.action) row))
+          (c.table_of-table.ensures n ∙ ap (λ y. S.core.table y) (c.key_of.ensures n)) (c.into_key-key.ensures n) (single c.args.moment) c.args.item (after (outcome_at S c.args.cell.now c.args.action) row) made
+          c.args.changes.rows.items (changes (indexed S.core S.index) c.args.cell.now.catalog k row (after (outcome_at S c.args.cell.now c.args.action) row))
           (same ∙ ap (λ v. changes (indexed S.core S.index) c.args.cell.now.catalog k row v) made)
           (record {
             slots = h.slots;
@@ -55,12 +55,14 @@ returns-clause-in_step g c = λ n.
     let cell = c.args.cell.now in
     let u = c.table_of-table.result in
     let k = c.into_key-key.result in
-    let free : pending_of (slot_at cell.items u k) ≡ None = free_slot (pending_of (slot_at cell.items u k)) ((λ j. holder_of (slot_at cell.items ((c.table_of-table.ensures n ∙ ap (λ y. S.core.table y) (c.key_of-key.ensures n)) j) (c.into_key-key.ensures n j))) ∙ c.requires.free n) in
-    let moves : moves_of (Some c.in_ok-changes.changes) ≡ moves_by L cell.catalog k (row_of (slot_at cell.items u k)) c.args.item = cc (c.in_ok-changes.ensures.moves, c.key_of-key.ensures n, c.into_key-key.ensures n, c.committed-old.ensures, c.as_ref-2.ensures.value) in
+    let free : pending_of (slot_at cell.items u k) ≡ None = free_slot (pending_of (slot_at cell.items u k)) ((λ j. holder_of (slot_at cell.items ((c.table_of-table.ensures n ∙ ap (λ y. S.core.table y) (c.key_of.ensures n)) j) (c.into_key-key.ensures n j))) ∙ c.requires.free n) in
+    let moves : moves_of (Some c.args.changes) ≡ moves_by L cell.catalog k (row_of (slot_at cell.items u k)) c.args.item =
+    (c.requires.made n).moves
+    ∙ (λ j. moves_by L cell.catalog (sym (c.into_key-key.ensures n) j) (row_of (slot_at cell.items ((sym (ap (λ y. S.core.table y) (c.key_of.ensures n)) ∙ sym (c.table_of-table.ensures n)) j) (sym (c.into_key-key.ensures n) j))) c.args.item) in
     let h = c.in_ok-old.ensures.ok in
     written_stays S (g.met.R.Rules.lawful n) (g.met.R.CellRules.ordered n) L (g.met.R.CellRules.entries_lawful n) g.met.R.Entry.Ord.total
-    cell c.put.new.self h.beside.catalog u k (c.table_of-table.ensures n ∙ ap (λ y. S.core.table y) (c.key_of-key.ensures n ∙ sym (c.into_key-key.ensures n)))
-    (tally cell.items.counts) c.args.item (single c.args.moment) (moves_of (Some c.in_ok-changes.changes)) h.slots free moves c.in_ok-old.ensures.noted
+    cell c.put.new.self h.beside.catalog u k (c.table_of-table.ensures n ∙ ap (λ y. S.core.table y) (c.key_of.ensures n ∙ sym (c.into_key-key.ensures n)))
+    (tally cell.items.counts) c.args.item (single c.args.moment) (moves_of (Some c.args.changes)) h.slots free moves c.in_ok-old.ensures.noted
 
 pub returns-in_err-old-clause-in_step : goal.returns-in_err-old-clause-in_step
 returns-in_err-old-clause-in_step g c = λ n.
@@ -69,12 +71,14 @@ returns-in_err-old-clause-in_step g c = λ n.
     let cell = c.args.cell.now in
     let u = c.table_of-table.result in
     let k = c.into_key-key.result in
-    let free : pending_of (slot_at cell.items u k) ≡ None = free_slot (pending_of (slot_at cell.items u k)) ((λ j. holder_of (slot_at cell.items ((c.table_of-table.ensures n ∙ ap (λ y. S.core.table y) (c.key_of-key.ensures n)) j) (c.into_key-key.ensures n j))) ∙ c.requires.free n) in
-    let moves : moves_of (Some c.in_ok-changes.changes) ≡ moves_by L cell.catalog k (row_of (slot_at cell.items u k)) c.args.item = cc (c.in_ok-changes.ensures.moves, c.key_of-key.ensures n, c.into_key-key.ensures n, c.committed-old.ensures, c.as_ref-2.ensures.value) in
+    let free : pending_of (slot_at cell.items u k) ≡ None = free_slot (pending_of (slot_at cell.items u k)) ((λ j. holder_of (slot_at cell.items ((c.table_of-table.ensures n ∙ ap (λ y. S.core.table y) (c.key_of.ensures n)) j) (c.into_key-key.ensures n j))) ∙ c.requires.free n) in
+    let moves : moves_of (Some c.args.changes) ≡ moves_by L cell.catalog k (row_of (slot_at cell.items u k)) c.args.item =
+    (c.requires.made n).moves
+    ∙ (λ j. moves_by L cell.catalog (sym (c.into_key-key.ensures n) j) (row_of (slot_at cell.items ((sym (ap (λ y. S.core.table y) (c.key_of.ensures n)) ∙ sym (c.table_of-table.ensures n)) j) (sym (c.into_key-key.ensures n) j))) c.args.item) in
     let h = c.in_err-old.ensures.err in
     write_refused_stays S (g.met.R.Rules.lawful n) (g.met.R.CellRules.ordered n) L (g.met.R.CellRules.entries_lawful n) g.met.R.Entry.Ord.total
-    cell c.put.new.self h.beside.catalog u k (c.table_of-table.ensures n ∙ ap (λ y. S.core.table y) (c.key_of-key.ensures n ∙ sym (c.into_key-key.ensures n)))
-    c.args.item (moves_of (Some c.in_ok-changes.changes)) h.slots free moves c.in_err-old.ensures.refused
+    cell c.put.new.self h.beside.catalog u k (c.table_of-table.ensures n ∙ ap (λ y. S.core.table y) (c.key_of.ensures n ∙ sym (c.into_key-key.ensures n)))
+    c.args.item (moves_of (Some c.args.changes)) h.slots free moves c.in_err-old.ensures.refused
 
 pub returns-clause-says : goal.returns-clause-says
 returns-clause-says g c = λ n there.
@@ -83,6 +87,6 @@ returns-clause-says g c = λ n there.
     let k = S.core.key_of c.args.action in
     let row = row_of (kept_at S cell k) in
     let old : c.in_ok-old.old ≡ row =
-    c.in_ok-old.ensures.old ∙ (λ j. row_of (slot_at cell.items ((c.table_of-table.ensures n ∙ ap (λ y. S.core.table y) (c.key_of-key.ensures n)) j) (c.into_key-key.ensures n j))) in
+    c.in_ok-old.ensures.old ∙ (λ j. row_of (slot_at cell.items ((c.table_of-table.ensures n ∙ ap (λ y. S.core.table y) (c.key_of.ensures n)) j) (c.into_key-key.ensures n j))) in
     let new : c.in_ok-new.new ≡ c.args.item = cc (c.in_ok-new.ensures, c.as_ref.ensures.value) in
     (λ j. Answer.Written (old j) (new j)) ∙ sym (λ j. write_answer (there j) (c.requires.free n j) row (c.requires.new n j))
