@@ -1,4 +1,6 @@
 ghost use Rattle.std.specs.Prelude.{◌≡◌};
+ghost use Rattle.std.specs.Option.{option_cmp};
+ghost use Rattle.std.specs.Ordering.{nat_cmp};
 ghost use Rattle.case_rules.specs.Keys.{rank, same_name, key_cmp, place_of};
 ghost use Rattle.case_rules.specs.Rows.{item_of, row_of};
 
@@ -52,17 +54,36 @@ impl Name {
     }
 }
 
+/// The order of customers, behind none.
+fn compare_customers(left: Option<u64>, right: Option<u64>) -> Ordering
+    ensures { result ≡ option_cmp nat_cmp left right }
+{
+    match (left, right) {
+        (None, None) => Ordering::Equal,
+        (None, Some(_)) => Ordering::Less,
+        (Some(_), None) => Ordering::Greater,
+        (Some(left), Some(right)) => left.cmp(&right),
+    }
+}
+
 impl Key {
     /// The order of keys: by table, items before rows, rows by customer, and then by number.
     pub(crate) fn compare(&self, other: &Key) -> Ordering
         ensures { result ≡ key_cmp self.now other.now }
     {
-        self.name
-            .rank()
-            .cmp(&other.name.rank())
-            .then(self.table.cmp(&other.table))
-            .then(self.customer.cmp(&other.customer))
-            .then(self.number.cmp(&other.number))
+        let by_name = self.name.rank().cmp(&other.name.rank());
+        if by_name.is_ne() {
+            return by_name;
+        }
+        let by_table = self.table.cmp(&other.table);
+        if by_table.is_ne() {
+            return by_table;
+        }
+        let by_customer = compare_customers(self.customer, other.customer);
+        if by_customer.is_ne() {
+            return by_customer;
+        }
+        self.number.cmp(&other.number)
     }
 
     /// The item of a row.
