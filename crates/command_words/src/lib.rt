@@ -28,6 +28,3 @@ mod words;
 
 pub use reading::command;
 pub use words::{Command, WordsEnd};
-
-#[cfg(test)]
-mod tests;

@@ -87,6 +87,3 @@ fn words(rt: &(impl std::rt::Env + AllocGlobal)) -> Vec<String> {
         .collect(rt.alloc())
         .unwrap_or(Vec::new(rt.alloc()))
 }
-
-#[cfg(test)]
-mod tests;

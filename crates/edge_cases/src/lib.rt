@@ -4,6 +4,16 @@
 #[cfg(test)]
 mod listeners;
 #[cfg(test)]
+mod messages;
+#[cfg(test)]
 mod outside;
 #[cfg(test)]
+mod replies;
+#[cfg(test)]
 mod sessions;
+#[cfg(test)]
+mod sockets;
+#[cfg(test)]
+mod words;
+#[cfg(test)]
+mod workers;

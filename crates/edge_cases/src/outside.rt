@@ -12,57 +12,81 @@ fn numbers(alloc: Global, from: &[u64]) -> Result<Seq<u64>, Fail> {
     Ok(Seq::from(Vec::from_slice(alloc, from)?))
 }
 
+/// Whether a read into so much room brings this text, or fails where there is none.
+fn reads<S: Source>(source: &mut S, room: usize, text: Option<&str>) -> bool {
+    let mut buf = [0u8; 4];
+    let Some(room) = buf.get_mut(..room) else {
+        return false;
+    };
+    match source.read(room) {
+        Ok(count) => text.is_some_and(|text| room.get(..count) == Some(text.as_bytes())),
+        Err(Failed) => text.is_none(),
+    }
+}
+
+/// The room of each read, and what it brings.
+static READS: [(usize, Option<&str>); 5] = [
+    (4, Some("GET")),
+    (4, None),
+    (1, Some(" ")),
+    (4, Some("/")),
+    (4, Some("")),
+];
+
 #[test]
 fn source_in_memory(rt: HostRuntime) -> Result<(), Fail> {
-    let alloc = rt.alloc();
-    let content = Bytes::copied(alloc, b"GET /")?;
-    let mut source = MemSource::make(content, 3, numbers(alloc, &[1])?);
-    let mut buf = [0u8; 4];
-    assert_eq!(rt; source.read(&mut buf), Ok(3));
-    assert_eq!(rt; buf, *b"GET\0");
-    assert_eq!(rt; source.read(&mut buf), Err(Failed));
-    assert_eq!(rt; source.read(&mut buf[..1]), Ok(1));
-    assert_eq!(rt; source.read(&mut buf), Ok(1));
-    assert_eq!(rt; buf[0], b'/');
-    assert_eq!(rt; source.read(&mut buf), Ok(0));
+    let content = Bytes::copied(rt.alloc(), b"GET /")?;
+    let mut source = MemSource::make(content, 3, numbers(rt.alloc(), &[1])?);
+    for (room, text) in READS {
+        assert!(rt; reads(&mut source, room, text));
+    }
     let (content, failing) = source.into_parts();
-    assert_eq!(rt; content.as_slice(), b"GET /".as_slice());
-    assert_eq!(rt; failing.as_slice(), [1].as_slice());
+    assert!(rt; content.as_slice() == b"GET /".as_slice() && failing.as_slice() == [1].as_slice());
     Ok(())
 }
+
+/// What each write is of, and how many bytes it takes.
+static WRITES: [(&str, Result<usize, Failed>); 4] = [
+    ("HTTP", Ok(3)),
+    ("P", Err(Failed)),
+    ("P", Ok(1)),
+    ("", Ok(0)),
+];
 
 #[test]
 fn sink_in_memory(rt: HostRuntime) -> Result<(), Fail> {
-    let alloc = rt.alloc();
-    let mut sink = MemSink::make(alloc, 3, numbers(alloc, &[1])?);
-    assert_eq!(rt; sink.write(b"HTTP"), Ok(3));
-    assert_eq!(rt; sink.write(b"P"), Err(Failed));
-    assert_eq!(rt; sink.write(b"P"), Ok(1));
-    assert_eq!(rt; sink.write(b""), Ok(0));
-    assert_eq!(rt; write_all(&mut sink, b"/1.1 200"), Ok(()));
+    let mut sink = MemSink::make(rt.alloc(), 3, numbers(rt.alloc(), &[1])?);
+    for (text, taken) in WRITES {
+        assert!(rt; sink.write(text.as_bytes()) == taken);
+    }
+    assert!(rt; write_all(&mut sink, b"/1.1 200") == Ok(()));
     let (written, failing) = sink.into_parts();
-    assert_eq!(rt; written.as_slice(), b"HTTP/1.1 200".as_slice());
-    assert_eq!(rt; failing.as_slice(), [1].as_slice());
+    assert!(rt;
+        written.as_slice() == b"HTTP/1.1 200".as_slice() && failing.as_slice() == [1].as_slice()
+    );
     Ok(())
 }
 
 #[test]
-fn clocks_in_memory(rt: HostRuntime) -> Result<(), Fail> {
-    let mut step = StepClock::make(u64::MAX - 5, 3);
-    let mut twin = step.twin()?;
+fn clocks_by_steps(rt: HostRuntime) -> Result<(), Fail> {
+    let mut clock = StepClock::make(u64::MAX - 5, 3);
+    let mut twin = clock.twin()?;
     for moment in [u64::MAX - 5, u64::MAX - 2, u64::MAX, u64::MAX] {
-        assert_eq!(rt; step.now(), moment);
-        assert_eq!(rt; twin.now(), moment);
+        assert!(rt; clock.now() == moment && twin.now() == moment);
     }
-    let mut list = ListClock::make(numbers(rt.alloc(), &[7, 5, 9])?);
-    assert_eq!(rt; list.now(), 7);
-    let mut twin = list.twin()?;
+    Ok(())
+}
+
+#[test]
+fn clocks_by_lists(rt: HostRuntime) -> Result<(), Fail> {
+    let mut clock = ListClock::make(numbers(rt.alloc(), &[7, 5, 9])?);
+    assert!(rt; clock.now() == 7);
+    let mut twin = clock.twin()?;
     for moment in [5, 9, 9] {
-        assert_eq!(rt; list.now(), moment);
-        assert_eq!(rt; twin.now(), moment);
+        assert!(rt; clock.now() == moment && twin.now() == moment);
     }
-    assert_eq!(rt; list.into_parts().len(), 3);
-    assert_eq!(rt; ListClock::make(Seq::new(rt.alloc())).now(), 0);
+    assert!(rt; clock.into_parts().len() == 3);
+    assert!(rt; ListClock::make(Seq::new(rt.alloc())).now() == 0);
     Ok(())
 }
 
@@ -107,29 +131,26 @@ impl Write for Full {
 }
 
 #[test]
-fn readers_and_writers(rt: HostRuntime) -> Result<(), Fail> {
+fn readers(rt: HostRuntime) {
     let mut source = StdSource::new(Cursor::new(b"ab".as_slice()));
-    let mut buf = [0u8; 4];
-    assert_eq!(rt; source.read(&mut buf), Ok(2));
-    assert_eq!(rt; buf, *b"ab\0\0");
-    assert_eq!(rt; source.read(&mut buf), Ok(0));
+    assert!(rt; reads(&mut source, 4, Some("ab")) && reads(&mut source, 4, Some("")));
     source.at_rest();
-    assert_eq!(rt; StdSource::new(Broken).read(&mut buf), Err(Failed));
-    let mut interrupted = StdSource::new(Interrupted { times: 3 });
-    assert_eq!(rt; interrupted.read(&mut buf), Ok(0));
-    let mut interrupted = StdSource::new(Interrupted { times: 1_001 });
-    assert_eq!(rt; interrupted.read(&mut buf), Err(Failed));
+    assert!(rt; reads(&mut StdSource::new(Broken), 4, None));
+    assert!(rt; reads(&mut StdSource::new(Interrupted { times: 3 }), 4, Some("")));
+    assert!(rt; reads(&mut StdSource::new(Interrupted { times: 1_001 }), 4, None));
+}
+
+#[test]
+fn writers(rt: HostRuntime) {
     let mut sink = StdSink::new(Vec::new(rt.alloc()));
-    assert_eq!(rt; sink.write(b"ab"), Ok(2));
-    assert_eq!(rt; sink.write(b""), Ok(0));
-    assert_eq!(rt; StdSink::new(Full).write(b"ab"), Err(Failed));
-    Ok(())
+    assert!(rt; sink.write(b"ab") == Ok(2) && sink.write(b"") == Ok(0));
+    assert!(rt; StdSink::new(Full).write(b"ab") == Err(Failed));
 }
 
 #[test]
 fn system_clocks(rt: HostRuntime) -> Result<(), Fail> {
     let mut stopwatch = SystemClock::from_first_look(rt);
-    assert_eq!(rt; stopwatch.now(), 0);
+    assert!(rt; stopwatch.now() == 0);
     let first = stopwatch.now();
     assert!(rt; first <= stopwatch.twin()?.now());
     let mut day = SystemClock::time_of_day(rt);

@@ -1,7 +1,7 @@
 //! Tests of sessions over a service that counts.
 
 use base_types::{Bytes, Seq};
-use ddb_outside::{MemSink, MemSource, StepClock};
+use ddb_outside::{Clock, ListClock, MemSink, MemSource, StepClock};
 use http_front::{HttpFault, Message, Reader};
 use http_session::{Answer, Body, Service, SessionEnd, serve_session};
 use std::alloc::Global;
@@ -101,12 +101,16 @@ fn second(end: SessionEnd) -> &'static str {
 }
 
 /// The end of a session, what was written, and the state afterwards.
-fn served(rt: &HostRuntime, input: &str, piece: usize) -> Result<(SessionEnd, Bytes, Count), Fail> {
+fn served<C: Clock>(
+    rt: &HostRuntime,
+    input: &str,
+    piece: usize,
+    clock: &mut C,
+) -> Result<(SessionEnd, Bytes, Count), Fail> {
     let alloc = rt.alloc();
     let content = Bytes::copied(alloc, input.as_bytes())?;
     let mut source = MemSource::make(content, piece.max(1), Seq::new(alloc));
     let mut sink = MemSink::make(alloc, piece.max(1), Seq::new(alloc));
-    let mut clock = StepClock::make(7, 5);
     let mut state = Count {
         count: 0,
         moment: 0,
@@ -120,7 +124,7 @@ fn served(rt: &HostRuntime, input: &str, piece: usize) -> Result<(SessionEnd, By
         &mut reader,
         &mut source,
         &mut sink,
-        &mut clock,
+        clock,
     );
     Ok((end, sink.into_parts().0, state))
 }
@@ -131,10 +135,27 @@ fn sessions(rt: HostRuntime) -> Result<(), Fail> {
     for (first, behind, piece, reply, end, count, moment) in SESSIONS {
         let input = format!(in alloc; "{first}{behind}")?;
         let expected = format!(in alloc; "{reply}{}", second(end))?;
-        let (ended, written, state) = served(&rt, input.as_str(), piece)?;
-        assert!(rt; ended == end);
-        assert_eq!(rt; written.as_slice(), expected.as_bytes());
-        assert_eq!(rt; (state.count, state.moment), (count, moment));
+        let mut clock = StepClock::make(7, 5);
+        let (ended, written, state) = served(&rt, input.as_str(), piece, &mut clock)?;
+        assert!(rt; ended == end && written.as_slice() == expected.as_bytes());
+        assert!(rt; state.count == count && state.moment == moment);
+    }
+    Ok(())
+}
+
+/// The moment of the last message, of one, two and three of them, where the clock goes back at the second.
+static LAST_MOMENTS: [u64; 3] = [7_999_999, 7_999_999, 8_000_000];
+
+#[test]
+fn clock_goes_back(rt: HostRuntime) -> Result<(), Fail> {
+    let alloc = rt.alloc();
+    let mut input = String::new(alloc);
+    for moment in LAST_MOMENTS {
+        input.push_str(MESSAGE)?;
+        let told = Vec::from_slice(alloc, &[7_999_999, 5_000_000, 8_000_000])?;
+        let mut clock = ListClock::make(Seq::from(told));
+        let (end, _, state) = served(&rt, input.as_str(), 4_096, &mut clock)?;
+        assert!(rt; end == SessionEnd::Ended && state.moment == moment);
     }
     Ok(())
 }

@@ -10,8 +10,6 @@
 mod marks;
 mod outbox;
 mod rows;
-#[cfg(test)]
-mod tests;
 
 pub use marks::Marks;
 pub use outbox::Outbox;

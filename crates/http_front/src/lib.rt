@@ -27,6 +27,3 @@ pub use message::Message;
 pub use reader::Reader;
 pub use stream::one_reading;
 pub use writer::{refuse, reply};
-
-#[cfg(test)]
-mod tests;

@@ -19,6 +19,3 @@ mod worker;
 
 pub use serve::{ServeEnd, serve_all};
 pub use share::{ShareEnd, serve_share};
-
-#[cfg(test)]
-mod tests;

@@ -13,8 +13,6 @@ mod slots;
 mod store;
 mod table;
 mod tables;
-#[cfg(test)]
-mod tests;
 
 // A contract can name a store only if the types of its fields are exported.
 #[doc(hidden)]

@@ -15,8 +15,6 @@ mod entries;
 mod indexes;
 mod laws;
 mod lists;
-#[cfg(test)]
-mod tests;
 
 pub use claim::Claim;
 pub use indexes::LocalIndexes;

@@ -65,11 +65,9 @@ pub(crate) fn row_key(alloc: Global, text: &str) -> Result<RowKey, NoMemory> {
 }
 
 fn attribute(alloc: Global, item: &mut Item, name: &str, text: &str) -> Result<(), NoMemory> {
-    item.put(
-        Text::copied(alloc, name)?,
-        Value::S(Text::copied(alloc, text)?),
-    )?;
-    Ok(())
+    let name = Text::copied(alloc, name)?;
+    let text = Text::copied(alloc, text)?;
+    item.put(name, Value::S(text))
 }
 
 fn plain_item(alloc: Global) -> Result<Item, NoMemory> {
@@ -94,24 +92,29 @@ pub(crate) fn item_key(alloc: Global) -> Result<CellKey, NoMemory> {
 
 /// The key of its row in the index, which has the number 2.
 pub(crate) fn index_key(alloc: Global) -> Result<CellKey, NoMemory> {
+    let read = row_key(alloc, "b")?;
+    let item = row_key(alloc, "a")?;
     Ok(CellKey::Row(IndexRowKey {
         table: 1,
         index: 2,
-        at: Position {
-            read: row_key(alloc, "b")?,
-            item: row_key(alloc, "a")?,
-        },
+        at: Position { read, item },
     }))
 }
 
-/// Puts the item.
-pub(crate) fn put(alloc: Global) -> Result<KeyedAction, NoMemory> {
+fn putting(alloc: Global, table: Text, item: Item, key: CellKey) -> KeyedAction {
     let action = TransactAction {
-        table: Text::copied(alloc, "Tab")?,
-        change: Change::Put(plain_item(alloc)?),
+        table,
+        change: Change::Put(item),
         condition: None,
         values: Seq::new(alloc),
         show_old: false,
     };
-    Ok(KeyedAction::new(item_key(alloc)?, action))
+    KeyedAction::new(key, action)
+}
+
+/// Puts the item.
+pub(crate) fn put(alloc: Global) -> Result<KeyedAction, NoMemory> {
+    let table = Text::copied(alloc, "Tab")?;
+    let item = plain_item(alloc)?;
+    Ok(putting(alloc, table, item, item_key(alloc)?))
 }

@@ -23,6 +23,3 @@ pub use event::{Event, OneStore, Outcome};
 pub use session::{SessionKind, session_law};
 pub use shared::{SharedStore, StepError};
 pub use store::Store;
-
-#[cfg(test)]
-mod tests;

@@ -22,8 +22,6 @@ mod patience;
 mod places;
 mod sink;
 mod source;
-#[cfg(test)]
-mod tests;
 mod turn;
 mod waiting_room;
 

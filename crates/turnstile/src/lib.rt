@@ -33,6 +33,3 @@ pub use pass::{Pass, Spent, TurnEnd};
 pub use turn::{AllTurns, Turn};
 pub use turnstile::Turnstile;
 pub use world::{EntryOf, World};
-
-#[cfg(test)]
-mod tests;

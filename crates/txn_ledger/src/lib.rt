@@ -11,8 +11,6 @@
 mod ledger;
 mod record;
 mod records;
-#[cfg(test)]
-mod tests;
 mod tokens;
 
 pub use ledger::TxnLedger;

@@ -1,4 +1,4 @@
-//! Text, numbers, sets and paths: cases by hand.
+//! Text, numbers, sets, paths and places of keys: cases by hand.
 #![tactic(auto)]
 
 #[cfg(test)]
@@ -7,5 +7,7 @@ mod lists;
 mod numbers;
 #[cfg(test)]
 mod paths;
+#[cfg(test)]
+mod places;
 #[cfg(test)]
 mod sets;

@@ -446,73 +446,83 @@ static ASCENDING: [&str; 21] = [
     "9.9E125",
 ];
 
-/// The text of a number, or the name of its fault.
-fn shown(alloc: Global, number: Result<Number, NumberFault>) -> Result<String, AllocError> {
+fn name_of(fault: NumberFault) -> &'static str {
+    match fault {
+        NumberFault::Grammar => "Grammar",
+        NumberFault::TooManyDigits => "TooManyDigits",
+        NumberFault::OutOfRange => "OutOfRange",
+    }
+}
+
+/// Whether a number has this text, or its fault this name.
+fn is_shown(
+    alloc: Global,
+    number: Result<Number, NumberFault>,
+    text: &str,
+) -> Result<bool, AllocError> {
     match number {
-        Ok(number) => number.print(alloc),
-        Err(NumberFault::Grammar) => String::from_str(alloc, "Grammar"),
-        Err(NumberFault::TooManyDigits) => String::from_str(alloc, "TooManyDigits"),
-        Err(NumberFault::OutOfRange) => String::from_str(alloc, "OutOfRange"),
+        Ok(number) => Ok(number.print(alloc)?.as_str() == text),
+        Err(fault) => Ok(name_of(fault) == text),
     }
 }
 
 #[test]
 fn reads_and_prints(rt: HostRuntime) -> Result<(), Fail> {
-    for (text, want) in &ACCEPTED {
-        let printed = shown(rt.alloc(), parse(text))?;
-        assert!(rt; printed.as_str() == *want, "{text} prints {printed}");
-        let again = shown(rt.alloc(), parse(printed.as_str()))?;
-        assert!(rt; again.as_str() == *want, "{printed} prints {again}");
-    }
-    for (text, want) in &REFUSED {
-        assert!(rt; parse(text).err() == Some(*want), "{text}");
+    for (text, printed) in &ACCEPTED {
+        assert!(rt; is_shown(rt.alloc(), parse(text), printed)?, "{text}");
+        assert!(rt; is_shown(rt.alloc(), parse(printed), printed)?, "{printed}");
     }
     Ok(())
+}
+
+#[test]
+fn refuses(rt: HostRuntime) {
+    for (text, fault) in &REFUSED {
+        assert!(rt; parse(text).err() == Some(*fault), "{text}");
+    }
 }
 
 #[test]
 fn adds_and_subtracts(rt: HostRuntime) -> Result<(), Fail> {
     for (a, b, sum, difference) in &SUMS {
-        let a = parse(a).ok().ok_or("a number")?;
-        let b = parse(b).ok().ok_or("a number")?;
-        let found = shown(rt.alloc(), a.add(&b))?;
-        assert!(rt; found.as_str() == *sum, "{found} is not the sum {sum}");
-        let found = shown(rt.alloc(), b.add(&a))?;
-        assert!(rt; found.as_str() == *sum, "{found} is not the sum {sum}");
-        let found = shown(rt.alloc(), a.sub(&b))?;
+        let a = parse(a)?;
+        let b = parse(b)?;
+        assert!(rt; is_shown(rt.alloc(), a.add(&b), sum)?, "{sum}");
+        assert!(rt; is_shown(rt.alloc(), b.add(&a), sum)?, "{sum}");
         assert!(rt;
-            found.as_str() == *difference,
-            "{found} is not the difference {difference}"
+            is_shown(rt.alloc(), a.sub(&b), difference)?,
+            "{difference}"
         );
     }
     Ok(())
 }
 
+/// Whether two numbers, which stand at these places, are in order.
+fn are_in_order(left: &str, right: &str, i: usize, j: usize) -> bool {
+    match (parse(left), parse(right)) {
+        (Ok(a), Ok(b)) => a.cmp(&b) == i.cmp(&j) && (a == b) == (i == j),
+        _ => false,
+    }
+}
+
 #[test]
-fn orders_by_value(rt: HostRuntime) -> Result<(), Fail> {
+fn orders_by_value(rt: HostRuntime) {
     for (i, left) in ASCENDING.iter().enumerate() {
         for (j, right) in ASCENDING.iter().enumerate() {
-            let a = parse(left).ok().ok_or("a number")?;
-            let b = parse(right).ok().ok_or("a number")?;
-            assert!(rt; a.cmp(&b) == i.cmp(&j), "{left} and {right}");
-            assert!(rt; (a == b) == (i == j), "{left} and {right}");
+            assert!(rt; are_in_order(left, right, i, j), "{left} and {right}");
         }
     }
-    Ok(())
 }
+
+static DIGITS: [(&str, u32); 5] = [("0", 1), ("-7", 1), ("100", 1), ("1.05", 3), ("12E-3", 2)];
 
 #[test]
 fn counts_digits(rt: HostRuntime) -> Result<(), Fail> {
-    for (text, digits) in [("0", 1), ("-7", 1), ("100", 1), ("1.05", 3), ("12E-3", 2)] {
-        assert_eq!(rt;
-            parse(text).ok().ok_or("a number")?.digits(),
-            digits,
-            "{text}"
-        );
+    for (text, digits) in &DIGITS {
+        assert!(rt; parse(text)?.digits() == *digits, "{text}");
     }
-    assert_eq!(rt; from_u64(1_000).digits(), 1);
-    let printed = from_u64(u64::MAX).print(rt.alloc())?;
-    assert!(rt; printed.as_str() == "18446744073709551615");
+    assert!(rt; from_u64(1_000).digits() == 1);
+    assert!(rt; from_u64(u64::MAX).print(rt.alloc())?.as_str() == "18446744073709551615");
     nothing_is_rounded();
     Ok(())
 }

@@ -1,7 +1,6 @@
 use base_types::{DocPath, Seq, Step, Text};
 use path_entries::{Entry, Key, below, range, sorted};
 use std::alloc::{AllocError, Global};
-use std::process::Abort;
 use std::test::Fail;
 
 /// A step to a place where the text is one, and else to a name.
@@ -39,60 +38,64 @@ fn entries(alloc: Global, paths: &[DocPath]) -> Result<Vec<Entry<'_, usize>>, Al
     Ok(entries)
 }
 
-/// The values of the entries, one digit each.
-fn values(alloc: Global, entries: &[Entry<'_, usize>]) -> Result<String, AllocError> {
-    let mut joined = String::new(alloc);
-    for entry in entries {
-        joined.push_str(format!(in alloc; "{}", entry.value)?.as_str())?;
+/// Whether the entries have these values.
+fn have(entries: &[Entry<'_, usize>], values: &[usize]) -> bool {
+    if entries.len() != values.len() {
+        return false;
     }
-    Ok(joined)
+    for (entry, value) in entries.iter().zip(values) {
+        if entry.value != *value {
+            return false;
+        }
+    }
+    true
 }
 
 const PATHS: [&str; 8] = ["m.y.10", "m.y.9", "l.3", "a", "m.x", "m.y", "l.0", "ab"];
 
-fn leads(
-    rt: &impl Abort,
-    alloc: Global,
-    all: Vec<Entry<'_, usize>>,
-    name: &Text,
-) -> Result<(), Fail> {
+/// Whether those of `PATHS` come in order, and four of them lead below a name, none of which leads further.
+fn lead(alloc: Global, all: Vec<Entry<'_, usize>>, name: &Text) -> Result<bool, AllocError> {
     let all = sorted(all)?;
-    assert_eq!(rt; values(alloc, &all)?.as_str(), "37624510");
-    assert_eq!(rt; range(&all, Key::Name(name)).len(), 4);
     let inside = below(alloc, &all, Key::Name(name))?;
-    assert_eq!(rt; values(alloc, &inside)?.as_str(), "4510");
-    assert!(rt; below(alloc, &inside, Key::Name(name))?.is_empty());
-    assert!(rt; below(alloc, &inside, Key::Place(9))?.is_empty());
-    Ok(())
+    let named = below(alloc, &inside, Key::Name(name))?;
+    let placed = below(alloc, &inside, Key::Place(9))?;
+    Ok(
+        have(&all, &[3, 7, 6, 2, 4, 5, 1, 0])
+            && range(&all, Key::Name(name)).len() == 4
+            && have(&inside, &[4, 5, 1, 0])
+            && named.is_empty()
+            && placed.is_empty(),
+    )
 }
 
 #[test]
 fn paths_below_a_name(rt: HostRuntime) -> Result<(), Fail> {
     let alloc = rt.alloc();
     let paths = paths(alloc, PATHS.as_slice())?;
-    leads(
-        &rt,
-        alloc,
-        entries(alloc, &paths)?,
-        &Text::copied(alloc, "m")?,
-    )
+    let name = Text::copied(alloc, "m")?;
+    assert!(rt; lead(alloc, entries(alloc, &paths)?, &name)?);
+    Ok(())
 }
 
 const PLACES: [&str; 5] = ["10", "9.a", "9", "100", "9.b"];
 
-fn leads_on(rt: &impl Abort, alloc: Global, all: Vec<Entry<'_, usize>>) -> Result<(), Fail> {
+/// Whether those of `PLACES` come in order, and three of them lead below the place 9.
+fn lead_on(alloc: Global, all: Vec<Entry<'_, usize>>) -> Result<bool, AllocError> {
     let all = sorted(all)?;
-    assert_eq!(rt; values(alloc, &all)?.as_str(), "21403");
     let nine = below(alloc, &all, Key::Place(9))?;
-    assert_eq!(rt; values(alloc, &nine)?.as_str(), "214");
-    assert!(rt; below(alloc, &all, Key::Place(8))?.is_empty());
-    assert_eq!(rt; range(&all, Key::Place(100)).len(), 1);
-    Ok(())
+    let eight = below(alloc, &all, Key::Place(8))?;
+    Ok(
+        have(&all, &[2, 1, 4, 0, 3])
+            && have(&nine, &[2, 1, 4])
+            && eight.is_empty()
+            && range(&all, Key::Place(100)).len() == 1,
+    )
 }
 
 #[test]
 fn paths_below_a_place(rt: HostRuntime) -> Result<(), Fail> {
     let alloc = rt.alloc();
     let paths = paths(alloc, PLACES.as_slice())?;
-    leads_on(&rt, alloc, entries(alloc, &paths)?)
+    assert!(rt; lead_on(alloc, entries(alloc, &paths)?)?);
+    Ok(())
 }

@@ -1,0 +1,167 @@
+//! A transaction that is held between two of its Prepares until another thread was answered.
+
+ghost use Rattle.std.specs.Prelude.{◌≡◌, []};
+
+use crate::commands::is_made;
+use crate::orders::{amount, put};
+use case_rules::Shop;
+use cluster::{Cluster, TableWorld};
+use coordinator::{TransactEnd, transact_write};
+use ddb_outside::{Gate, GoGate, Pace, Point};
+use std::alloc::{AllocError as NoMemory, Global};
+use std::sync::Wait;
+use std::sync::atomic::{AtomicBool, Ordering};
+use std::test::*;
+use std::thread::{Threads, join, yield_now};
+use turnstile::Pass;
+
+/// How often a thread looks for what another one has to do first.
+const LOOKS: u64 = 10_000_000;
+
+/// What the two threads tell one another.
+#[derive(Drop)]
+struct Signals {
+    /// The transaction is held.
+    is_held: AtomicBool,
+    /// The reader was answered.
+    is_answered: AtomicBool,
+}
+
+/// Whether it is set within so many looks.
+fn is_set(signal: &AtomicBool) -> bool {
+    for _look in 0..LOOKS {
+        if signal.load(Ordering::SeqCst) {
+            return true;
+        }
+        yield_now();
+    }
+    false
+}
+
+/// A gate that holds a transaction after its first Prepare until the reader was answered.
+#[derive(Drop)]
+struct HoldingGate<'a> {
+    signals: &'a Signals,
+    is_answered: bool,
+}
+
+impl<'a> Gate for HoldingGate<'a> {
+    ghost stops = { λ g. 0 };
+
+    fn pass_point(&mut self, point: Point) -> Pace {
+        if point == Point::AfterPrepare(0) {
+            self.signals.is_held.store(true, Ordering::SeqCst);
+            self.is_answered = is_set(&self.signals.is_answered);
+        }
+        Pace::Go
+    }
+
+    fn twin(&self) -> Result<HoldingGate<'a>, NoMemory> {
+        Ok(HoldingGate {
+            signals: self.signals,
+            is_answered: false,
+        })
+    }
+}
+
+/// Gives two orders of two partitions their amounts in a transaction that is held. Whether it was committed, and the reader was
+/// answered meanwhile.
+fn write_held<R: Wait>(
+    rt: &R,
+    alloc: Global,
+    shop: &Cluster<Shop>,
+    pass: Pass<TableWorld<Shop>>,
+    signals: &Signals,
+) -> bool
+    requires of { pass.turnstile ≡ shop.now.id }
+    requires free { pass.turns ≡ [] }
+{
+    let mut pass = pass;
+    let mut gate = HoldingGate {
+        signals,
+        is_answered: false,
+    };
+    let actions = [put(1, 10), put(2, 20)];
+    let end = transact_write(shop, rt, alloc, &mut pass, None, &actions, &mut gate);
+    matches!(end, TransactEnd::Committed) && gate.is_answered
+}
+
+/// The amount of a third order, which is in a partition of the two, as it is read once the transaction is held.
+fn read_meanwhile<R: Wait>(
+    rt: &R,
+    alloc: Global,
+    shop: &Cluster<Shop>,
+    pass: Pass<TableWorld<Shop>>,
+    signals: &Signals,
+) -> Option<u64>
+    requires of { pass.turnstile ≡ shop.now.id }
+    requires free { pass.turns ≡ [] }
+{
+    let mut pass = pass;
+    if !is_set(&signals.is_held) {
+        return None;
+    }
+    let found = amount(rt, alloc, shop, &mut pass, 3);
+    signals.is_answered.store(true, Ordering::SeqCst);
+    found
+}
+
+/// Both at once.
+fn write_and_read<R: Wait + Threads + Sync>(
+    rt: &R,
+    alloc: Global,
+    shop: &Cluster<Shop>,
+    writer: Pass<TableWorld<Shop>>,
+    reader: Pass<TableWorld<Shop>>,
+) -> (bool, Option<u64>)
+    requires of { (writer.turnstile ≡ shop.now.id) × (reader.turnstile ≡ shop.now.id) }
+    requires free { (writer.turns ≡ []) × (reader.turns ≡ []) }
+{
+    let signals = Signals {
+        is_held: AtomicBool::new(false),
+        is_answered: AtomicBool::new(false),
+    };
+    let lent = &signals;
+    join(
+        rt,
+        move || -> bool
+            requires { (writer.turnstile ≡ shop.now.id) × (writer.turns ≡ []) }
+        { write_held(rt, alloc, shop, writer, lent) },
+        move || -> Option<u64>
+            requires { (reader.turnstile ≡ shop.now.id) × (reader.turns ≡ []) }
+        { read_meanwhile(rt, alloc, shop, reader, lent) },
+    )
+}
+
+/// Makes the table of orders, and the third order with its amount.
+fn fill<R: Wait>(
+    rt: &R,
+    alloc: Global,
+    shop: &Cluster<Shop>,
+    pass: &mut Pass<TableWorld<Shop>>,
+) -> bool
+    requires of { pass.old.turnstile ≡ shop.now.id }
+    requires free { pass.old.turns ≡ [] }
+    ensures same { (pass.new.turnstile ≡ pass.old.turnstile) × (pass.new.turns ≡ []) }
+{
+    if !is_made(rt, alloc, shop, pass) {
+        return false;
+    }
+    let actions = [put(3, 30)];
+    let end = transact_write(shop, rt, alloc, pass, None, &actions, &mut GoGate);
+    matches!(end, TransactEnd::Committed)
+}
+
+#[test]
+fn gate_between_prepares(rt: HostRuntime) -> Result<(), Fail> {
+    let alloc = rt.alloc();
+    let (shop, mut passes) = Cluster::<Shop>::make(alloc, 2, 3)?;
+    let mut last = passes.pop().ok_or("a pass")?;
+    let reader = passes.pop().ok_or("a pass")?;
+    let writer = passes.pop().ok_or("a pass")?;
+    assert!(rt; fill(&rt, alloc, &shop, &mut last));
+    assert!(rt; write_and_read(&rt, alloc, &shop, writer, reader) == (true, Some(30)));
+    assert!(rt; amount(&rt, alloc, &shop, &mut last, 1) == Some(10));
+    assert!(rt; amount(&rt, alloc, &shop, &mut last, 2) == Some(20));
+    Ok(())
+}
