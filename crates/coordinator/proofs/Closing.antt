@@ -19,14 +19,15 @@ use Rattle.txn_core.specs.Service.{Service, IsServiceLawful, Event, History}
 use Rattle.txn_core.proofs.Exports.{beginning_is_tail, begun_stays, had_stays, left, ended as course_ended, reasons_recalled}
 use Rattle.cluster.specs.declared.step.StepError.{StepError}
 use Rattle.own_entries.proofs.Counting.{counts_none}
+use Rattle.own_entries.proofs.Lists.{any_back, any_front, each_append}
 use Rattle.cluster.specs.Events.{event_of}
 use Rattle.coordinator.specs.declared.driver.Driver.{Driver}
 use Rattle.coordinator.specs.declared.drive_end.DriveEnd.{DriveEnd}
 use Rattle.coordinator.specs.declared.record.Record.{Record}
 use Rattle.coordinator.specs.Driving.{is_gone, is_driving, is_done, finds_none, IsNext, AllDrive, found_none, ended, sent_done, FoundGone, IsDriver, DrivenBy, Advances, Fails, Recalls, FindsNone, Misses, Begins, recalled as recalled_by}
 use Rattle.coordinator.specs.Drives.{is_none, cancelled, given_up, IsCancelled, IsEnd, Ends, Drives}
-use Rattle.coordinator.proofs.Moving.{added_after, added_by, each_append, exactly, until_added, until_exact, until_spent}
-use Rattle.coordinator.proofs.Driven.{any_back, any_front, found_on, none_both}
+use Rattle.coordinator.proofs.Moving.{added_after, added_by, exactly, until_added, until_exact, until_spent}
+use Rattle.coordinator.proofs.Driven.{found_on, none_both}
 use Rattle.coordinator.proofs.Finishing.{some_weaker}
 
 -- what holds where nothing is there

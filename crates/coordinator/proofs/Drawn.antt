@@ -21,7 +21,8 @@ use Rattle.cluster.specs.Events.{pass_of, event_of}
 use Rattle.cluster.specs.Steps.{IsLater}
 use Rattle.coordinator.specs.Driving.{is_driving, is_done, finds_none, AllDrive, found_none, sent_done}
 use Rattle.coordinator.specs.Writes.{IsDrawn, IsOwn}
-use Rattle.coordinator.proofs.Driven.{any_back, any_last, none_both}
+use Rattle.own_entries.proofs.Lists.{any_back}
+use Rattle.coordinator.proofs.Driven.{any_last, none_both}
 use Rattle.coordinator.proofs.Recalled.{never_gone}
 
 never_true : (b : Bool) → (b ≡ true → ⊥) → b ≡ false

@@ -1,8 +1,6 @@
 -- What its own entries say of a driver, step after step.
-use Rattle.std.proofs.Common.{◌≡◌, ◌⊎◌, ◌↔◌, Result, Ok, Err, IfErr, inl, inr, ℕ, ◌<◌, ◌≤◌, Bool, true, false, ◌||◌, ◌&&◌, List, [], ◌∷◌, ◌++◌, length, reverse, slice_get, Option, None, Some, IfSome, refl, sym, ap, ◌∙◌, subst, arith, length-append}
-use Rattle.std.specs.Prelude.{IsErrAnd}
+use Rattle.std.proofs.Common.{◌≡◌, ◌⊎◌, ◌↔◌, Result, Ok, Err, inl, inr, ℕ, ◌<◌, ◌≤◌, Bool, true, false, ◌||◌, ◌&&◌, List, [], ◌∷◌, ◌++◌, length, reverse, slice_get, Option, None, Some, IfSome, refl, sym, ap, ◌∙◌, subst, arith, length-append}
 use Rattle.std.specs.List.{list_any}
-use Rattle.std.proofs.lemmas.Bool.{or_right}
 use Rattle.std.proofs.lemmas.List.{append-nil, append_assoc}
 use Rattle.std.proofs.lemmas.List.Folds.{list_any-append}
 use Rattle.turnstile.specs.Passes.{PassView, most_units}
@@ -19,9 +17,9 @@ use Rattle.txn_core.specs.Service.{Service, Event, History}
 use Rattle.cluster.specs.declared.step.StepError.{StepError}
 use Rattle.own_entries.specs.Counts.{Counts, CountsUntil}
 use Rattle.own_entries.proofs.Counting.{counts_none, counts_on, counts_until}
+use Rattle.own_entries.proofs.Lists.{any_back, any_front, each_append}
 use Rattle.coordinator.specs.declared.driver.Driver.{Driver}
 use Rattle.coordinator.specs.Driving.{is_gone, is_driving, is_ending, is_done, finds_none, IsNext, AllDrive, found_none, ended, sent_done, FoundGone, IsDriver, DrivenBy, Advances, Fails}
-use Rattle.coordinator.proofs.Moving.{each_append}
 
 pub or_false : (b : Bool) → (b || false) ≡ b
 or_false true = refl
@@ -29,12 +27,6 @@ or_false false = refl
 
 pub any_last : {X : Type 0} (f : X → Bool) (xs : List X) (x : X) → list_any f (xs ++ x ∷ []) ≡ (list_any f xs || f x)
 any_last f xs x = list_any-append f xs (x ∷ []) ∙ ap (λ b. list_any f xs || b) (or_false (f x))
-
-pub any_front : {X : Type 0} (f : X → Bool) (xs ys : List X) → list_any f xs ≡ true → list_any f (xs ++ ys) ≡ true
-any_front f xs ys h = list_any-append f xs ys ∙ ap (λ b. b || list_any f ys) h
-
-pub any_back : {X : Type 0} (f : X → Bool) (xs ys : List X) → list_any f ys ≡ true → list_any f (xs ++ ys) ≡ true
-any_back f xs ys h = list_any-append f xs ys ∙ or_right (list_any f xs) (list_any f ys) h
 
 pub none_both : {X : Type 0} (f : X → Bool) (xs ys : List X) → list_any f xs ≡ false → list_any f ys ≡ false → list_any f (xs ++ ys) ≡ false
 none_both f xs ys h k = list_any-append f xs ys ∙ (λ j. h j || k j)
@@ -218,8 +210,3 @@ module _ {X Y U : Type 0} (r : Result X StepError) (h : r ≡ Err StepError.Spen
     λ e. (let s : error ≡ StepError.Spent = cc in h.0 (is ∙ ap (λ (x : StepError). Err x) s)),
     λ u. (let e = h.1 u in let s : error ≡ StepError.Spent = cc in its ∙ ap (λ (x : StepError). Err x) s),
   )
-
--- what a `?` hands on
-pub handed_on : {X : Type 0} (r : Result X StepError) (T P : StepError → Type 0) → IsErrAnd r P → ((e : StepError) → P e → T e) → IfErr r T
-handed_on (Ok x) T P h f = absurd h
-handed_on (Err e) T P h f = f e h

@@ -8,4 +8,5 @@ pub mod Closing
 pub mod Differing
 pub mod Drawn
 pub mod Writing
+pub mod Alike
 pub mod Total

@@ -1,6 +1,5 @@
 -- What a pass added, step after step.
-use Rattle.std.proofs.Common.{◌≡◌, ◌≢◌, inl, inr, ℕ, ◌+◌, ◌≤◌, List, [], ◌∷◌, ◌++◌, length, refl, ap, ◌∙◌, subst, arith, length-append}
-use Rattle.std.specs.List.{AllByRecursion}
+use Rattle.std.proofs.Common.{◌≡◌, ◌≢◌, inl, inr, ℕ, ◌+◌, ◌≤◌, List, [], ◌++◌, length, refl, ap, ◌∙◌, subst, arith, length-append}
 use Rattle.turnstile.specs.Histories.{Trail}
 use Rattle.turnstile.specs.Passes.{PassView, most_units}
 use Rattle.turnstile.proofs.Histories.{trail_on}
@@ -8,18 +7,15 @@ use Rattle.txn_core.specs.Service.{Service, Event}
 use Rattle.cluster.specs.declared.step.StepError.{StepError}
 use Rattle.cluster.specs.Events.{pass_of}
 use Rattle.own_entries.specs.Counts.{Counts, CountsUntil}
+use Rattle.own_entries.proofs.Counting.{all_at_on}
 use Rattle.coordinator.specs.Driving.{Added}
-
-pub each_append : {X : Type 0} (T : X → Type 0) (xs ys : List X) → AllByRecursion T xs → AllByRecursion T ys → AllByRecursion T (xs ++ ys)
-each_append T [] ys h k = k
-each_append T (x ∷ xs) ys h k = (h.0, each_append T xs ys h.1 k)
 
 module _ {K V A F C D Q B : Type 0} (S : Service K V A F C D Q B) where
   -- what was counted was added
   pub added_by :
       (spare more : ℕ) (p : PassView (Event S)) (own : List (Event S)) (q : PassView (Event S)) → more ≤ spare → Counts S p own more q
       → Added S spare p own q
-  added_by spare more p own q few h = let units = h.units in record { pass = h.pass; trail = h.trail; units = omega arith }
+  added_by spare more p own q few h = let units = h.units in record { pass = h.pass; trail = h.trail; moments = h.moments; units = omega arith }
 
   -- and one stretch after another
   pub added_on :
@@ -34,6 +30,7 @@ module _ {K V A F C D Q B : Type 0} (S : Service K V A F C D Q B) where
         trail =
             trail_on pass_of p.number p.front xs q.front ys r.front one.trail
             (subst (λ k. Trail pass_of k q.front ys r.front) number two.trail);
+        moments = all_at_on S p q xs ys one.pass one.moments two.moments;
         units = omega arith;
       }
 

@@ -10,23 +10,24 @@ use Rattle.turnstile.proofs.Histories.{trail_on}
 use Rattle.txn_core.specs.declared.message.Message.{Message}
 use Rattle.txn_core.specs.declared.answer.Answer.{Answer}
 use Rattle.txn_core.specs.History.{Had, commits, finishes, is_stale}
-use Rattle.txn_core.specs.Legal.{prepares}
-use Rattle.txn_core.specs.Service.{IsServiceLawful, Service, Asked, Reply, Event}
+use Rattle.txn_core.specs.Legal.{prepares, IsLegal}
+use Rattle.txn_core.specs.Service.{IsServiceLawful, Service, Asked, Reply, Event, History}
 use Rattle.cluster.specs.declared.step.StepError.{StepError}
-use Rattle.txn_core.proofs.Exports.{had_more, repeats_are_done}
+use Rattle.txn_core.proofs.Exports.{beginning_is_tail, had_more, repeats_are_done}
 use Rattle.cluster.specs.Steps.{IsLater}
 use Rattle.cluster.specs.Events.{pass_of, event_of}
 use Rattle.own_entries.specs.Counts.{Counts, CountsUntil}
-use Rattle.own_entries.proofs.Counting.{counts_none}
+use Rattle.own_entries.proofs.Counting.{all_at_on, counts_none}
+use Rattle.own_entries.proofs.Lists.{any_back, any_front, each_append}
 use Rattle.coordinator.specs.declared.drive_end.DriveEnd.{DriveEnd}
 use Rattle.coordinator.specs.declared.transact_end.TransactEnd.{TransactEnd}
 use Rattle.coordinator.specs.Driving.{is_driving, is_done, Added, AllDrive}
 use Rattle.coordinator.specs.Drives.{is_gone_end, IsEnd}
-use Rattle.coordinator.specs.Writes.{ended_by, unanswered, draws_some, Forgets, ForgetsDone, RunsDrawn, Follows, Turns, TurnsAgain, Writes, IsOfWrite, WasAnswered, WasNamed, EndsBy, AddsWriting}
-use Rattle.coordinator.proofs.Driven.{any_back, any_front}
+use Rattle.coordinator.specs.Writes.{ended_by, unanswered, draws_some, Forgets, ForgetsDone, RunsDrawn, Follows, Turns, TurnsAgain, Writes, IsOfWrite, IsAlike, WasAnswered, WasNamed, EndsBy, AddsWriting}
 use Rattle.coordinator.proofs.Finishing.{some_weaker}
-use Rattle.coordinator.proofs.Moving.{added_after, added_by, each_append, exactly, until_added, until_exact}
-use Rattle.coordinator.proofs.Writing.{none_by}
+use Rattle.coordinator.proofs.Moving.{added_after, added_by, exactly, until_added, until_exact}
+use Rattle.coordinator.proofs.Alike.{IsBegunAlike, alike_stays, running_is_alike}
+use Rattle.coordinator.proofs.Writing.{none_by, same_pass}
 
 module _ {K V A F C D Q B : Type 0} (S : Service K V A F C D Q B) (token : Option (List ℕ)) (actions : List A) where
   -- how many of these drew a number
@@ -103,6 +104,7 @@ module _ {K V A F C D Q B : Type 0} (S : Service K V A F C D Q B) (token : Optio
         trail =
             trail_on pass_of p.number p.front xs q.front ys r.front one.trail
             (subst (λ k. Trail pass_of k q.front ys r.front) number two.trail);
+        moments = all_at_on S p q xs ys one.pass one.moments two.moments;
         units = omega arith;
       }
 
@@ -191,6 +193,13 @@ module _ {K V A F C D Q B : Type 0} (S : Service K V A F C D Q B) (token : Optio
       → q.turnstile ≡ c.id
   turn_turnstile p q end c turn is = ap (λ (z : PassView (Event S)). z.turnstile) (turn_part p q end turn).added.pass ∙ is
 
+  pub writes_turnstile :
+      (p q : PassView (Event S)) (end : TransactEnd V F) (c : TurnstileView) → Writes S token actions p end q → p.turnstile ≡ c.id
+      → q.turnstile ≡ c.id
+  writes_turnstile p q end c h is =
+      turn_turnstile h.last q (Some end) c h.turn
+      (ap (λ (z : PassView (Event S)). z.turnstile) (same_pass S token actions p h.again h.last h.before) ∙ is)
+
   -- one after which the Begin is sent again drew nothing
   again_by :
       (p m q : PassView (Event S)) (cell : Option ℕ) (a : Reply S) → Counts S p (event_of p cell (Message.Begin token actions) a ∷ []) 0 m
@@ -211,7 +220,7 @@ module _ {K V A F C D Q B : Type 0} (S : Service K V A F C D Q B) (token : Optio
   again_turn p q (inr h) = absurd (let e = h.2 in cc)
 
   counts_of : (most : ℕ) (p q : PassView (Event S)) (h : Part (Unit {0}) most p q) → Counts S p h.own 0 q
-  counts_of most p q h = let units = h.exact tt in record { pass = h.added.pass; trail = h.added.trail; units = omega arith }
+  counts_of most p q h = let units = h.exact tt in record { pass = h.added.pass; trail = h.added.trail; moments = h.added.moments; units = omega arith }
 
   again_part : (p : PassView (Event S)) (k : ℕ) (q : PassView (Event S)) → TurnsAgain S token actions p k q → Part (Unit {0}) 0 p q
   again_part p zero q h = at_once (Unit {0}) p q h
@@ -230,7 +239,7 @@ module _ {K V A F C D Q B : Type 0} (S : Service K V A F C D Q B) (token : Optio
   -- the end of a number that an own Begin named
   driven_cause :
       (driven : DriveEnd V F) (end : TransactEnd V F) (n : ℕ) (xs own : List (Event S)) (q : PassView (Event S)) → Some end ≡ ended_by driven
-      → IsEnd S q n xs driven → WasNamed S token actions own n → Within xs own → EndsBy S token actions own q end
+      → IsEnd S q n xs driven → WasNamed S token actions own (reverse q.front) n → Within xs own → EndsBy S token actions own q end
   driven_cause DriveEnd.Committed end n xs own q e is named up =
       let same : TransactEnd.Committed ≡ end = cc in
       subst (λ z. EndsBy S token actions own q z) same (n, named, is.cause.0, inl (up (λ x. is_done n x.message) is.cause.1))
@@ -275,21 +284,46 @@ module _ {K V A F C D Q B : Type 0} (S : Service K V A F C D Q B) (token : Optio
     within a xs ys f h =
         any_back f older (begin_of a ∷ (xs ++ ys)) (or_right (f (begin_of a)) (list_any f (xs ++ ys)) (any_front f xs ys h))
 
+    -- what was begun with these parameters before the Begin was answered, in what the pass has seen since
+    alike_then :
+        (a : Reply S) (q : PassView (Event S)) (rest : List (Event S)) → m.front ++ rest ≡ q.front → IsLegal S (reverse q.front)
+        → (later : IsLater S (reverse p.front) (begin_of a) (reverse m.front)) (n : ℕ)
+        → IsBegunAlike S (later.newer ++ reverse p.front) actions n → IsAlike S (reverse q.front) actions n
+    alike_then a q rest is legal later n begun =
+        let es : History S = later.newer ++ reverse p.front in
+        let whole : reverse q.front ≡ reverse rest ++ reverse m.front = ap reverse (sym is) ∙ beginning_is_tail m.front rest in
+        let then_ = subst (λ xs. IsBegunAlike S xs actions n) later.is (alike_stays S law (begin_of a ∷ []) es later.legal actions n begun) in
+        (subst (λ xs. IsBegunAlike S xs actions n) (sym whole)
+        (alike_stays S law (reverse rest) (reverse m.front) (subst (IsLegal S) whole legal) actions n then_)).alike
+
     follow_cause :
-        (a : Reply S) (q : PassView (Event S)) (end : TransactEnd V F) (h : Follows S actions a m (Some end) q)
+        (a : Reply S) (q : PassView (Event S)) (end : TransactEnd V F) (h : Follows S actions a m (Some end) q) → IsLegal S (reverse q.front)
         → IsLater S (reverse p.front) (begin_of a) (reverse m.front)
         → EndsBy S token actions (older ++ (begin_of a ∷ (follow_part a m q (Some end) h).own)) q end
     unfolding follow_part weaker drawn_part at_once counted nothing
-    follow_cause (Answer.Begun n stamp) q end h later =
+    follow_cause (Answer.Begun n stamp) q end h legal later =
         let a : Reply S = Answer.Begun n stamp in
         let last = last_part h.0 h.1.middle q n h.1.forgets in
         driven_cause h.0 end n h.1.own (older ++ (begin_of a ∷ (h.1.own ++ last.own))) q h.2 h.1.is
-        (a, answered_so a (h.1.own ++ last.own), eq-eqb n n refl) (within a h.1.own last.own)
-    follow_cause (Answer.Running n) q end h later =
+        record {
+          answer = a;
+          told = answered_so a (h.1.own ++ last.own);
+          named = eq-eqb n n refl;
+          alike = ap (λ xs. S.same_actions xs actions) h.1.begun.its_actions ∙ law.same_parameters.refl actions;
+        }
+        (within a h.1.own last.own)
+    follow_cause (Answer.Running n) q end h legal later =
         let a : Reply S = Answer.Running n in
-        driven_cause h.0 end n h.1.own (older ++ (begin_of a ∷ h.1.own)) q h.2 h.1.is (a, answered_so a h.1.own, eq-eqb n n refl)
+        let begun = running_is_alike S law (later.newer ++ reverse p.front) later.legal.0 p.moment token actions n later.legal.1.answer in
+        driven_cause h.0 end n h.1.own (older ++ (begin_of a ∷ h.1.own)) q h.2 h.1.is
+        record {
+          answer = a;
+          told = answered_so a h.1.own;
+          named = eq-eqb n n refl;
+          alike = alike_then a q h.1.added.trail.rest h.1.added.trail.is legal later n begun;
+        }
         (subst (λ ys. Within h.1.own (older ++ (begin_of a ∷ ys))) (append-nil h.1.own) (within a h.1.own []))
-    follow_cause (Answer.Repeat n) q end h later =
+    follow_cause (Answer.Repeat n) q end h legal later =
         let a : Reply S = Answer.Repeat n in
         let es = later.newer ++ reverse p.front in
         let done = repeats_are_done S law es later.legal.0 p.moment token actions n later.legal.1.answer in
@@ -297,17 +331,24 @@ module _ {K V A F C D Q B : Type 0} (S : Service K V A F C D Q B) (token : Optio
         let same : TransactEnd.Committed ≡ end = (let e = h.1 in cc) in
         subst (λ z. EndsBy S token actions (older ++ (begin_of a ∷ [])) q z) same (
           n,
-          (a, answered_so a [], eq-eqb n n refl),
+          record {
+            answer = a;
+            told = answered_so a [];
+            named = eq-eqb n n refl;
+            alike =
+                alike_then a q [] (append-nil m.front ∙ ap (λ (z : PassView (Event S)). z.front) (sym h.0)) legal later n
+                record { begun = done.begun; alike = done.alike };
+          },
           subst (λ xs. Had (commits n) xs) (later.is ∙ front) (had_more (commits n) (begin_of a) es done.committed),
           inr (subst (λ xs. Had (finishes n) xs) (later.is ∙ front) (had_more (finishes n) (begin_of a) es done.done)),
         )
-    follow_cause (Answer.Mismatch n) q end h later =
+    follow_cause (Answer.Mismatch n) q end h legal later =
         let same : TransactEnd.Mismatch n ≡ end = (let e = h.1 in cc) in
         subst (λ z. EndsBy S token actions (older ++ (begin_of (Answer.Mismatch n) ∷ [])) q z) same (answered_so (Answer.Mismatch n) [])
-    follow_cause Answer.Stale q end h later =
+    follow_cause Answer.Stale q end h legal later =
         let same : TransactEnd.Stale ≡ end = (let e = h.1 in cc) in
         subst (λ z. EndsBy S token actions (older ++ (begin_of Answer.Stale ∷ [])) q z) same (answered_so Answer.Stale [])
-    follow_cause _ q end h later = absurd h
+    follow_cause _ q end h legal later = absurd h
 
   unanswered_cause :
       (why : StepError) (p q : PassView (Event S)) (own : List (Event S)) (end : TransactEnd V F) → CountsUntil S p [] why q
@@ -319,17 +360,17 @@ module _ {K V A F C D Q B : Type 0} (S : Service K V A F C D Q B) (token : Optio
 
   turn_cause :
       IsServiceLawful S → (older : List (Event S)) (p q : PassView (Event S)) (end : TransactEnd V F) (h : Turns S token actions p (Some end) q)
-      → EndsBy S token actions (older ++ (turn_part p q (Some end) h).own) q end
+      → IsLegal S (reverse q.front) → EndsBy S token actions (older ++ (turn_part p q (Some end) h).own) q end
   unfolding turn_part behind
-  turn_cause law older p q end (inl h) = follow_cause law older p h.middle h.cell h.answer q end h.follows h.later
-  turn_cause law older p q end (inr h) = unanswered_cause h.0 p q (older ++ []) end h.1 h.2
+  turn_cause law older p q end (inl h) legal = follow_cause law older p h.middle h.cell h.answer q end h.follows legal h.later
+  turn_cause law older p q end (inr h) legal = unanswered_cause h.0 p q (older ++ []) end h.1 h.2
 
   -- so all of them
   pub adds_writing :
-      IsServiceLawful S → (p q : PassView (Event S)) (end : TransactEnd V F) → Writes S token actions p end q
+      IsServiceLawful S → (p q : PassView (Event S)) (end : TransactEnd V F) → IsLegal S (reverse q.front) → Writes S token actions p end q
       → AddsWriting S token actions p end q
   unfolding behind
-  adds_writing law p q end h =
+  adds_writing law p q end legal h =
       let before = again_part p h.again h.last h.before in
       let all = behind _ 0 1 p h.last q before.own (counts_of 0 p h.last before) before.each before.few (turn_part h.last q (Some end) h.turn) in
       record {
@@ -337,7 +378,7 @@ module _ {K V A F C D Q B : Type 0} (S : Service K V A F C D Q B) (token : Optio
         added = all.added;
         exact = λ sure. all.exact (λ e. sure (let k : Some end ≡ Some TransactEnd.NoMemory = e in cc));
         each = all.each;
-        cause = turn_cause law before.own h.last q end h.turn;
+        cause = turn_cause law before.own h.last q end h.turn legal;
         once = all.few;
       }
 

@@ -20,7 +20,7 @@ use Rattle.txn_core.specs.Service.{Service, Event, History}
 use Rattle.cluster.specs.Events.{pass_of, event_of}
 use Rattle.cluster.specs.Steps.{IsLater}
 use Rattle.cluster.specs.declared.step.StepError.{StepError}
-use Rattle.own_entries.specs.Counts.{Counts, CountsUntil}
+use Rattle.own_entries.specs.Counts.{AllAt, Counts, CountsUntil}
 use Rattle.coordinator.specs.declared.driver.Driver.{Driver}
 use Rattle.coordinator.specs.declared.record.Record.{Record}
 
@@ -90,10 +90,11 @@ module _ {A V F : Type 0} where
     pub same : new ≡ record d { course = new.course; found = new.found; no_table = new.no_table }
 
 module _ {K V A F C D Q B : Type 0} (S : Service K V A F C D Q B) where
-  -- from p to q the pass added these own entries and no other, for one unit each and at most so many more
+  -- from p to q the pass added these own entries and no other, at its moment, for one unit each and at most so many more
   pub record Added (spare : ℕ) (p : PassView (Event S)) (own : List (Event S)) (q : PassView (Event S)) : Type 0 where
     pub pass : q ≡ record p { used = q.used; front = q.front }
     pub trail : Trail pass_of p.number p.front own q.front
+    pub moments : AllAt S p.moment own
     pub units : q.used ≤ p.used + length own + spare
 
   abbrev pub AllDrive : ℕ → List (Event S) → Type 0

@@ -10,7 +10,8 @@ use Rattle.txn_core.specs.declared.reason.Reason.{Reason}
 use Rattle.txn_core.specs.declared.stamp.Stamp.{Stamp}
 use Rattle.txn_core.specs.Course.{IsToldSo}
 use Rattle.txn_core.specs.Driver.{told_nothing, KnowsBegun, Knows}
-use Rattle.txn_core.specs.History.{Had, commits, finishes, forgets, is_own_begin}
+use Rattle.txn_core.specs.History.{effects, Had, commits, finishes, forgets, is_own_begin}
+use Rattle.txn_core.specs.Serial.{begun_actions}
 use Rattle.txn_core.specs.Service.{Service, Asked, Reply, Event, History}
 use Rattle.cluster.specs.declared.step.StepError.{StepError}
 use Rattle.cluster.specs.Events.{event_of}
@@ -125,6 +126,10 @@ module _ {K V A F C D Q B : Type 0} (S : Service K V A F C D Q B) where
   Follows actions Answer.Stale p end q = (q ≡ p) × (end ≡ Some TransactEnd.Stale)
   Follows actions _ p end q = ⊥
 
+  -- the number was begun with the same parameters as these actions have
+  abbrev pub IsAlike : History S → List A → ℕ → Type 0
+  IsAlike es actions n = S.same_actions (begun_actions (effects es) n) actions ≡ true
+
   module _ (token : Option (List ℕ)) (actions : List A) where
     -- a Begin with this token and these actions was answered, and this came of it
     pub record Answered (p : PassView (Event S)) (end : Option (TransactEnd V F)) (q : PassView (Event S)) : Type 0 where
@@ -155,19 +160,23 @@ module _ {K V A F C D Q B : Type 0} (S : Service K V A F C D Q B) where
     abbrev pub WasAnswered : List (Event S) → Reply S → Type 0
     WasAnswered own a = (e : Event S) × Has own e × (e.message ≡ Message.Begin token actions) × (e.answer ≡ a)
 
-    -- one named this number: it drew it, or found it running or completed
-    abbrev pub WasNamed : List (Event S) → ℕ → Type 0
-    WasNamed own n = (a : Reply S) × WasAnswered own a × (names n a ≡ true)
+    -- one named this number: it drew it, or found it running or completed; and the number was begun with the same parameters
+    pub record WasNamed (own : List (Event S)) (es : History S) (n : ℕ) : Type 0 where
+      pub answer : Reply S
+      pub told : WasAnswered own answer
+      pub named : names n answer ≡ true
+      pub alike : IsAlike es actions n
 
     -- the cause of an end, by own entries and what the pass has seen: a number that an own Begin named is committed, and done by an own
     -- Done or before that Begin; it is cancelled with these reasons, and done; an own Begin was answered so; no unit is left
     abbrev pub EndsBy : List (Event S) → PassView (Event S) → TransactEnd V F → Type 0
     EndsBy own q TransactEnd.Committed =
-        (n : ℕ) × WasNamed own n × Had (commits n) (reverse q.front) × ((sent_done S n own ≡ true) ⊎ Had (finishes n) (reverse q.front))
+        (n : ℕ) × WasNamed own (reverse q.front) n × Had (commits n) (reverse q.front)
+        × ((sent_done S n own ≡ true) ⊎ Had (finishes n) (reverse q.front))
     EndsBy own q (TransactEnd.Cancelled reasons) =
-        (n : ℕ) × WasNamed own n × IsCancelled S (reverse q.front) n own reasons × (list_all is_none reasons ≡ false)
+        (n : ℕ) × WasNamed own (reverse q.front) n × IsCancelled S (reverse q.front) n own reasons × (list_all is_none reasons ≡ false)
     EndsBy own q (TransactEnd.NoTable place) =
-        (n : ℕ) × WasNamed own n × (reasons : List (Reason V F)) × IsCancelled S (reverse q.front) n own reasons
+        (n : ℕ) × WasNamed own (reverse q.front) n × (reasons : List (Reason V F)) × IsCancelled S (reverse q.front) n own reasons
         × (list_all is_none reasons ≡ true) × IfSome place (FoundGone S (reverse q.front) n own)
     EndsBy own q (TransactEnd.Mismatch n) = WasAnswered own (Answer.Mismatch n)
     EndsBy own q TransactEnd.Stale = WasAnswered own Answer.Stale

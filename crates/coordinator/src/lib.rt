@@ -13,7 +13,8 @@
 //!
 //! [`transact_write`] begins a transaction of its own and drives it so, or follows what its token stands for. Its own entries are Begins
 //! with its token and its actions, of which one at most draws a number, messages that drive the number that a Begin named, and at last the
-//! Forget of the number that it drew (`specs/Writes.antt`). That number is never found gone, whatever other drivers do.
+//! Forget of the number that it drew (`specs/Writes.antt`). That number is never found gone, whatever other drivers do. A number that is
+//! followed, whether it was drawn, found running or found completed, was begun with the same parameters as the request has.
 #![tactic(auto)]
 
 mod apart;

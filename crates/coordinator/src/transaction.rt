@@ -209,7 +209,8 @@ where
 }
 
 /// Writes 1 to 100 actions as one transaction: begins it, drives it to its end, and has its record forgotten. With a token whose
-/// transaction runs already that one is driven on, and its end is the answer; where it is completed, nothing is changed.
+/// transaction runs already that one is driven on, and its end is the answer; where it is completed, nothing is changed. In both cases
+/// it was begun with the same parameters as these actions have.
 ///
 /// After `Stopped`, `Spent` and `NoMemory` the transaction stands once and whole in the end, or nowhere, once others have driven it on.
 /// `Stopped` comes only where the gate counted a stop, and `Spent` only where no unit is left. `Twice` comes exactly where two actions
@@ -242,5 +243,7 @@ where
     if !apart {
         return TransactEnd::Twice;
     }
-    write_apart(cluster, rt, alloc, pass, token, actions, gate)
+    let end = write_apart(cluster, rt, alloc, pass, token, actions, gate);
+    cluster.facts(pass);
+    end
 }

@@ -8,12 +8,13 @@ use Rattle.txn_core.specs.Service.{Service, Asked, Reply, Event}
 use Rattle.cluster.specs.declared.step.StepError.{StepError}
 use Rattle.cluster.specs.Events.{pass_of, event_of}
 use Rattle.cluster.specs.Steps.{Adds, AddsNone}
-use Rattle.own_entries.specs.Counts.{Counts, CountsUntil}
+use Rattle.own_entries.specs.Counts.{AllAt, Counts, CountsUntil}
+use Rattle.own_entries.proofs.Lists.{each_append}
 
 module _ {K V A F C D Q B : Type 0} (S : Service K V A F C D Q B) where
   -- nothing was counted
   pub counts_none : (p : PassView (Event S)) → Counts S p [] 0 p
-  counts_none p = record { pass = refl; trail = trail_self pass_of p.number p.front; units = omega arith }
+  counts_none p = record { pass = refl; trail = trail_self pass_of p.number p.front; moments = tt; units = omega arith }
 
   -- one message was answered
   pub counts_one :
@@ -24,6 +25,7 @@ module _ {K V A F C D Q B : Type 0} (S : Service K V A F C D Q B) where
       record {
         pass = adds.pass ∙ (λ j. record p { used = sym used j; front = q.front });
         trail = trail_end pass_of p.number p.front (event_of p cell m a) q.front refl adds.ends;
+        moments = (refl, tt);
         units = omega arith;
       }
 
@@ -31,7 +33,15 @@ module _ {K V A F C D Q B : Type 0} (S : Service K V A F C D Q B) where
   counts_turn : (p q : PassView (Event S)) → AddsNone S p q → Counts S p [] 1 q
   counts_turn p q none =
       let used : q.used ≡ p.used + 1 = ap (λ (z : PassView (Event S)). z.used) none.pass in
-      record { pass = none.pass ∙ (λ j. record p { used = sym used j; front = q.front }); trail = none.trail; units = omega arith }
+      record { pass = none.pass ∙ (λ j. record p { used = sym used j; front = q.front }); trail = none.trail; moments = tt; units = omega arith }
+
+  -- the moments of one stretch and another
+  pub all_at_on :
+      (p q : PassView (Event S)) (xs ys : List (Event S)) → q ≡ record p { used = q.used; front = q.front } → AllAt S p.moment xs
+      → AllAt S q.moment ys → AllAt S p.moment (xs ++ ys)
+  all_at_on p q xs ys same one two =
+      let moment : q.moment ≡ p.moment = ap (λ (z : PassView (Event S)). z.moment) same in
+      each_append (λ e. e.moment ≡ p.moment) xs ys one (subst (λ k. AllAt S k ys) moment two)
 
   -- one stretch after another
   pub counts_on :
@@ -47,6 +57,7 @@ module _ {K V A F C D Q B : Type 0} (S : Service K V A F C D Q B) where
         trail =
             trail_on pass_of p.number p.front xs q.front ys r.front one.trail
             (subst (λ k. Trail pass_of k q.front ys r.front) number two.trail);
+        moments = all_at_on p q xs ys one.pass one.moments two.moments;
         units = omega arith;
       }
 

@@ -5,7 +5,8 @@ use Rattle.cluster.specs.Steps.{IsLater}
 use Rattle.own_entries.specs.Counts.{Counts}
 use Rattle.coordinator.specs.Driving.{Fails}
 use Rattle.coordinator.proofs.Deciding.{decided_on, fated_first, fated_less, is_answered}
-use Rattle.coordinator.proofs.Driven.{given_up_early, handed_on}
+use Rattle.own_entries.proofs.Handed.{handed_on}
+use Rattle.coordinator.proofs.Driven.{given_up_early}
 use Rattle.coordinator.proofs.decision.decide.Goals as goal
 
 pub unreachable-requires : goal.unreachable-requires

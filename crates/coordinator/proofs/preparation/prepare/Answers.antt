@@ -2,7 +2,8 @@ use Rattle.std.proofs.Common.{◌-◌, inl, Some, refl, reverse, sym, ◌∙◌,
 use Rattle.cluster.specs.declared.step.StepError.{StepError}
 use Rattle.own_entries.proofs.Counting.{counts_none}
 use Rattle.coordinator.specs.Driving.{Fails}
-use Rattle.coordinator.proofs.Driven.{given_up_early, handed_on, spent_now}
+use Rattle.own_entries.proofs.Handed.{handed_on}
+use Rattle.coordinator.proofs.Driven.{given_up_early, spent_now}
 use Rattle.coordinator.proofs.Knowing.{may_prepare_next, noted_less, place_within, prepared_in_vain, prepared_on, preparing, told_verdict}
 use Rattle.coordinator.proofs.preparation.prepare.Goals as goal
 

@@ -1,6 +1,7 @@
 use Rattle.std.proofs.Common.{◌-◌, sym, ap, ◌∙◌, subst, arith}
 use Rattle.coordinator.specs.Driving.{Fails}
-use Rattle.coordinator.proofs.Driven.{fails_on, goes_on, handed_on, rests}
+use Rattle.own_entries.proofs.Handed.{handed_on}
+use Rattle.coordinator.proofs.Driven.{fails_on, goes_on, rests}
 use Rattle.coordinator.proofs.run.take_steps.Goals as goal
 
 pub loop-point-init : goal.loop-point-init
