@@ -33,25 +33,19 @@ pub fn feed_one<R: PageRules, T: Wait>(
     rt: &T,
     alloc: Global,
     pass: &mut Pass<TableWorld<R>>,
-    cell: u32,
+    source: u32,
 ) -> Result<Feed, StepError>
 where
     R::Fault: Copy,
     requires of { pass.old.turnstile ≡ cluster.now.id }
     requires free { pass.old.turns ≡ [] }
-    requires cell { cell < partitions_of cluster.now }
-    ensures ok { IfOk result (λ feed. Feeds (R.protocol (partitions_of cluster.now)) pass.old cell feed pass.new) }
-    ensures err { IfErr result (λ why. FeedsPartly (R.protocol (partitions_of cluster.now)) pass.old cell why pass.new) }
+    requires source { source < partitions_of cluster.now }
+    ensures ok { IfOk result (λ feed. Feeds (R.protocol (partitions_of cluster.now)) pass.old source feed pass.new) }
+    ensures err { IfErr result (λ why. FeedsPartly (R.protocol (partitions_of cluster.now)) pass.old source why pass.new) }
     ensures spent { pass.old.used ≡ most_units → result ≡ Err StepError.Spent }
 {
-    let shown = ask(
-        cluster,
-        rt,
-        alloc,
-        pass,
-        cell,
-        Message::PeekOut { source: cell },
-    )?;
+    let message = Message::PeekOut { source };
+    let shown = ask(cluster, rt, alloc, pass, source, message)?;
     match shown {
         Answer::Out {
             sequence,
@@ -61,7 +55,7 @@ where
             after,
         } => {
             let message = Message::ApplyIndex {
-                source: cell,
+                source,
                 sequence,
                 index,
                 row_key,
@@ -69,11 +63,8 @@ where
             };
             let applied = ask(cluster, rt, alloc, pass, target, message)?;
             drop(applied);
-            let message = Message::Ack {
-                source: cell,
-                sequence,
-            };
-            let acknowledged = ask(cluster, rt, alloc, pass, cell, message)?;
+            let message = Message::Ack { source, sequence };
+            let acknowledged = ask(cluster, rt, alloc, pass, source, message)?;
             drop(acknowledged);
             Ok(Feed::Fed)
         }

@@ -4,14 +4,9 @@ use Rattle.std.specs.Prelude.{Contains}
 use Rattle.std.specs.List.{AllByRecursion, list_any}
 use Rattle.std.proofs.lemmas.Bool.{or_cases, or_right}
 use Rattle.std.proofs.lemmas.List.{take-append-drop, take_more}
-use Rattle.std.proofs.lemmas.List.Folds.{list_any-append}
 use Rattle.std.proofs.lemmas.List.Elements.{All-from_recursion, recursion_from_All}
 
 module _ {X : Type 0} where
-  pub each_append : (T : X → Type 0) (xs ys : List X) → AllByRecursion T xs → AllByRecursion T ys → AllByRecursion T (xs ++ ys)
-  each_append T [] ys h k = k
-  each_append T (x ∷ xs) ys h k = (h.0, each_append T xs ys h.1 k)
-
   pub each_first : (T : X → Type 0) (xs ys : List X) → AllByRecursion T (xs ++ ys) → AllByRecursion T xs
   each_first T [] ys h = tt
   each_first T (x ∷ xs) ys h = (h.0, each_first T xs ys h.1)
@@ -28,6 +23,9 @@ module _ {X : Type 0} where
       (T U W : X → Type 0) → ((x : X) → T x → U x → W x) → (xs : List X) → AllByRecursion T xs → AllByRecursion U xs → AllByRecursion W xs
   each_both T U W f [] h k = tt
   each_both T U W f (x ∷ xs) h k = (f x h.0 k.0, each_both T U W f xs h.1 k.1)
+
+  pub each_at : (T : X → Type 0) (xs : List X) (x : X) → Contains xs x → AllByRecursion T xs → T x
+  each_at T xs x at h = subst T at.2 (All-from_recursion T xs h at.0 x at.1)
 
   -- of a list that has no other elements
   pub each_among : (T : X → Type 0) (xs ys : List X) → ((x : X) → Contains ys x → Contains xs x) → AllByRecursion T xs → AllByRecursion T ys
@@ -65,12 +63,6 @@ module _ {X : Type 0} where
     | inl now ↦ ([], x, xs, refl, now)
     | inr older ↦ (let r = splits f xs older in (x ∷ r.0, r.1, r.2, ap (λ zs. x ∷ zs) r.3, r.4))
   ]
-
-  pub any_front : (f : X → Bool) (xs ys : List X) → list_any f xs ≡ true → list_any f (xs ++ ys) ≡ true
-  any_front f xs ys h = list_any-append f xs ys ∙ ap (λ b. b || list_any f ys) h
-
-  pub any_back : (f : X → Bool) (xs ys : List X) → list_any f ys ≡ true → list_any f (xs ++ ys) ≡ true
-  any_back f xs ys h = list_any-append f xs ys ∙ or_right (list_any f xs) (list_any f ys) h
 
 module _ {X Y : Type 0} where
   -- of what becomes of each

@@ -1,6 +1,8 @@
 -- Drives one after another, and where each ended.
 use Rattle.std.proofs.Common.{◌≡◌, ◌⊎◌, inl, inr, ℕ, ◌+◌, ◌*◌, Bool, true, false, ◌&&◌, ◌||◌, nat_eq, List, [], ◌∷◌, ◌++◌, length, reverse, Ok, Err, refl, sym, ap, ◌∙◌, subst, arith, eq-eqb, length-append}
+use Rattle.std.specs.Prelude.{Contains}
 use Rattle.std.proofs.lemmas.Bool.{and_parts, eqb-true, or_cases, or_right}
+use Rattle.std.proofs.lemmas.List.Folds.{list_any-append}
 use Rattle.std.proofs.lemmas.List.Sums.{sum_by-append, sum_by_push}
 use Rattle.turnstile.specs.Histories.{Trail}
 use Rattle.turnstile.specs.Passes.{PassView, most_units}
@@ -16,13 +18,14 @@ use Rattle.txn_core.proofs.Exports.{beginning_is_tail, had_more, had_stays, lega
 use Rattle.cluster.specs.Events.{pass_of}
 use Rattle.own_entries.proofs.Counting.{counts_none}
 use Rattle.coordinator.specs.declared.drive_end.DriveEnd.{DriveEnd}
-use Rattle.coordinator.specs.Driving.{is_done, is_driving, finds_none, found_none}
+use Rattle.coordinator.specs.Driving.{is_done, is_driving, is_ending, finds_none, AllDrive, found_none, ended, sent_done}
 use Rattle.coordinator.specs.Drives.{is_gone_end, HasCause, Drives}
 use Rattle.coordinator.proofs.Moving.{added_on}
 use Rattle.recovery_manager.specs.declared.sweep_end.SweepEnd.{SweepEnd}
-use Rattle.recovery_manager.specs.Ends.{found_gone, IsDone, IsForgotten}
+use Rattle.recovery_manager.specs.Ends.{found_gone, IsDone, IsForgotten, LeavesNoneDecided}
 use Rattle.recovery_manager.specs.Parts.{is_on, AllOn, DrivesSome, DrivesAll, DrivesPartly}
-use Rattle.recovery_manager.proofs.Each.{any_back, any_front, each_append, each_so, splits}
+use Rattle.own_entries.proofs.Lists.{any_back, any_front, each_append}
+use Rattle.recovery_manager.proofs.Each.{each_at, each_so, found, splits}
 use Rattle.recovery_manager.proofs.Forgotten.{decide_finds_none, recall_finds_none}
 use Rattle.recovery_manager.proofs.Grown.{counted, same_actions, still_done, still_forgotten, still_had, with_more}
 
@@ -79,6 +82,18 @@ module _ {K V A F C D Q B : Type 0} (S : Service K V A F C D Q B) where
     spent_of DriveEnd.Stopped why h is spent = absurd (let e : SweepEnd.Stopped ≡ why = cc in cc)
     spent_of DriveEnd.NoMemory why h is spent = absurd (let e : SweepEnd.NoMemory ≡ why = cc in cc)
 
+    -- want of memory leaves a number undecided, or done
+    memory_of :
+        (end : DriveEnd V F) (why : SweepEnd) → HasCause S q n own end → found_gone end ≡ Err why → why ≡ SweepEnd.NoMemory
+        → (ended S n own ≡ false) ⊎ (sent_done S n own ≡ true)
+    memory_of DriveEnd.NoMemory why h is memory = h
+    memory_of DriveEnd.Committed why h is memory = absurd (cc)
+    memory_of (DriveEnd.Cancelled reasons) why h is memory = absurd (cc)
+    memory_of (DriveEnd.NoTable place) why h is memory = absurd (cc)
+    memory_of DriveEnd.Gone why h is memory = absurd (cc)
+    memory_of DriveEnd.Stopped why h is memory = absurd (let e : SweepEnd.Stopped ≡ why = cc in cc)
+    memory_of DriveEnd.Spent why h is memory = absurd (let e : SweepEnd.Spent ≡ why = cc in cc)
+
   gone_of : (end : DriveEnd V F) → found_gone end ≡ Ok true → is_gone_end end ≡ true
   gone_of DriveEnd.Gone is = refl
   gone_of DriveEnd.Committed is = absurd (cc)
@@ -88,6 +103,43 @@ module _ {K V A F C D Q B : Type 0} (S : Service K V A F C D Q B) where
   gone_of DriveEnd.Spent is = absurd (cc)
   gone_of DriveEnd.NoMemory is = absurd (cc)
 
+  -- a number that a message decides or ends is the one that it drives
+  ends_its_own : (n m : ℕ) (x : Asked S) → is_ending n x ≡ true → is_driving m x ≡ true → n ≡ m
+  ends_its_own n m (Message.Decide k commit reasons) ends drives = sym (eqb-true k n ends) ∙ eqb-true k m drives
+  ends_its_own n m (Message.Apply k key) ends drives = sym (eqb-true k n ends) ∙ eqb-true k m drives
+  ends_its_own n m (Message.Release k key) ends drives = sym (eqb-true k n ends) ∙ eqb-true k m drives
+  ends_its_own n m (Message.Done k) ends drives = sym (eqb-true k n ends) ∙ eqb-true k m drives
+  ends_its_own n m _ ends drives = absurd (cc)
+
+  -- so it is one of those that the entries are on
+  ended_among : (n : ℕ) (numbers : List ℕ) (own : List (Event S)) → AllOn S numbers own → ended S n own ≡ true → Contains numbers n
+  ended_among n numbers [] each h = absurd (cc)
+  ended_among n numbers (e ∷ own) each h = elim (or_cases (is_ending n e.message) (ended S n own) h) [
+    | inl now ↦
+        let m = found (λ k. is_driving k e.message) numbers each.0 in
+        subst (Contains numbers) (sym (ends_its_own n m.0 e.message now m.2)) m.1
+    | inr older ↦ ended_among n numbers own each.1 older
+  ]
+
+  ended_is : (n m : ℕ) (own : List (Event S)) → AllDrive S m own → ended S n own ≡ true → n ≡ m
+  ended_is n m [] each h = absurd (cc)
+  ended_is n m (e ∷ own) each h = elim (or_cases (is_ending n e.message) (ended S n own) h) [
+    | inl now ↦ ends_its_own n m e.message now each.0
+    | inr older ↦ ended_is n m own each.1 older
+  ]
+
+  -- where each came to its end, none was left in between
+  none_left :
+      (gone : ℕ → Bool) (numbers : List ℕ) (p q : PassView (Event S)) (all : DrivesAll S gone numbers p q) → LeavesNoneDecided S all.drives.own
+  none_left gone numbers p q all n h = by (gone n) refl
+    where
+      by : (g : Bool) → gone n ≡ g → (sent_done S n all.drives.own ≡ true) ⊎ (found_none S n all.drives.own ≡ true)
+      by true is = inr (all.forgotten n is).found
+      by false is =
+          inl
+          (each_at (λ m. gone m ≡ false → IsDone S (reverse q.front) all.drives.own m) numbers n
+          (ended_among n numbers all.drives.own all.drives.each h) all.done is).done
+
   -- some numbers and then others
   on_front : (ms ns : List ℕ) (own : List (Event S)) → AllOn S ms own → AllOn S (ms ++ ns) own
   on_front ms ns own h = each_so (λ e. is_on S ms e ≡ true) (λ e. is_on S (ms ++ ns) e ≡ true) (λ e is. any_front (λ m. is_driving m e.message) ms ns is) own h
@@ -95,11 +147,9 @@ module _ {K V A F C D Q B : Type 0} (S : Service K V A F C D Q B) where
   some_none : (p : PassView (Event S)) → DrivesSome S [] p p
   some_none p = record { own = []; added = counted S p [] 0 p (counts_none S p); each = tt; few = omega arith }
 
-  some_within :
-      (numbers ms rest : List ℕ) (p q : PassView (Event S)) → numbers ≡ ms ++ rest → DrivesSome S ms p q → DrivesSome S numbers p q
-  some_within numbers ms rest p q is so =
-      subst (λ ns. DrivesSome S ns p q) (sym is)
-      (let long = length-append ms rest in
+  some_within : (ms rest : List ℕ) (p q : PassView (Event S)) → DrivesSome S ms p q → DrivesSome S (ms ++ rest) p q
+  some_within ms rest p q so =
+      let long = length-append ms rest in
       let sum = sum_by-append (λ n. 2 * length (begun_actions (effects (reverse p.front)) n) + 4) ms rest in
       let few = so.few in
       record {
@@ -107,7 +157,7 @@ module _ {K V A F C D Q B : Type 0} (S : Service K V A F C D Q B) where
         added = with_more S (length ms) (length (ms ++ rest)) p so.own q (omega arith) so.added;
         each = on_front ms rest so.own so.each;
         few = omega arith;
-      })
+      }
 
   module _
       (law : IsServiceLawful S) (ms : List ℕ) (p q : PassView (Event S)) (n : ℕ) (r : PassView (Event S)) (end : DriveEnd V F)
@@ -194,20 +244,57 @@ module _ {K V A F C D Q B : Type 0} (S : Service K V A F C D Q B) where
           by_turn m (inr now) = subst (λ k. IsForgotten S (reverse r.front) (older ++ d.own) k) now.1 (forgot_now now.0)
 
     -- where the drive did not come to its end, or what it found could not be noted
-    module _ (numbers rest : List ℕ) (whole : numbers ≡ (ms ++ n ∷ []) ++ rest) (so : DrivesSome S ms p q) where
-      pub partly_ended : (why : SweepEnd) → found_gone end ≡ Err why → DrivesPartly S numbers p why r
-      partly_ended why is =
-          record {
-            drives = some_within numbers (ms ++ n ∷ []) rest p r whole (some_more so);
-            spent = λ e. spent_of r n d.own end why d.is.cause is e;
-          }
+    module _ (numbers rest : List ℕ) (whole : numbers ≡ (ms ++ n ∷ []) ++ rest) (gone : ℕ → Bool) (so : DrivesAll S gone ms p q) where
+      abbrev Comes : ℕ → List (Event S) → Type 0
+      Comes m own = (sent_done S m own ≡ true) ⊎ (found_none S m own ≡ true)
 
-      pub partly_noted : DrivesPartly S numbers p SweepEnd.NoMemory r
-      partly_noted =
+      -- the drives before left none in between, so the last one alone may
+      last_leaves : (ended S n d.own ≡ true → Comes n d.own) → LeavesNoneDecided S (so.drives.own ++ d.own)
+      last_leaves last m h =
+          by_turn
+          (or_cases (ended S m so.drives.own) (ended S m d.own) (sym (list_any-append (λ e. is_ending m e.message) so.drives.own d.own) ∙ h))
+        where
+          before : Comes m so.drives.own → Comes m (so.drives.own ++ d.own)
+          before (inl done) = inl (any_front (λ e. is_done m e.message) so.drives.own d.own done)
+          before (inr none) = inr (any_front (λ e. finds_none m e.message e.answer) so.drives.own d.own none)
+
+          behind : Comes m d.own → Comes m (so.drives.own ++ d.own)
+          behind (inl done) = inl (any_back (λ e. is_done m e.message) so.drives.own d.own done)
+          behind (inr none) = inr (any_back (λ e. finds_none m e.message e.answer) so.drives.own d.own none)
+
+          by_turn : (ended S m so.drives.own ≡ true) ⊎ (ended S m d.own ≡ true) → Comes m (so.drives.own ++ d.own)
+          by_turn (inl old) = before (none_left gone ms p q so m old)
+          by_turn (inr now) =
+              let same = ended_is m n d.own d.each now in
+              behind (subst (λ k. Comes k d.own) (sym same) (last (subst (λ k. ended S k d.own ≡ true) same now)))
+
+      pub partly_ended : (why : SweepEnd) → found_gone end ≡ Err why → DrivesPartly S numbers p why r
+      unfolding some_more some_within
+      partly_ended why is =
+          subst (λ ns. DrivesPartly S ns p why r) (sym whole)
           record {
-            drives = some_within numbers (ms ++ n ∷ []) rest p r whole (some_more so);
-            spent = λ e. absurd (cc);
+            drives = some_within (ms ++ n ∷ []) rest p r (some_more so.drives);
+            spent = λ e. spent_of r n d.own end why d.is.cause is e;
+            memory = λ e. last_leaves (undecided_or_done (memory_of r n d.own end why d.is.cause is e));
           }
+        where
+          undecided_or_done : (ended S n d.own ≡ false) ⊎ (sent_done S n d.own ≡ true) → ended S n d.own ≡ true → Comes n d.own
+          undecided_or_done (inl undecided) h = absurd (cc)
+          undecided_or_done (inr done) h = inl done
+
+      pub partly_noted : (b : Bool) → found_gone end ≡ Ok b → DrivesPartly S numbers p SweepEnd.NoMemory r
+      unfolding some_more some_within
+      partly_noted b is =
+          subst (λ ns. DrivesPartly S ns p SweepEnd.NoMemory r) (sym whole)
+          record {
+            drives = some_within (ms ++ n ∷ []) rest p r (some_more so.drives);
+            spent = λ e. absurd (cc);
+            memory = λ _. last_leaves (λ _. came b is);
+          }
+        where
+          came : (c : Bool) → found_gone end ≡ Ok c → Comes n d.own
+          came false told = inl (done_of r n d.own end d.is.cause told).done
+          came true told = inr (sym d.is.gone ∙ gone_of end told)
 
   pub all_none : (gone : ℕ → Bool) → ((n : ℕ) → gone n ≡ false) → (p : PassView (Event S)) → DrivesAll S gone [] p p
   all_none gone none p =

@@ -1,20 +1,19 @@
 -- A number that was begun and has no record was forgotten.
 use Rattle.std.proofs.Common.{◌≡◌, ◌⊎◌, inl, inr, ℕ, Bool, true, false, ◌&&◌, ◌||◌, nat_eq, List, [], ◌∷◌, refl, ap, eq-eqb}
 use Rattle.std.specs.List.{list_any}
-use Rattle.std.proofs.lemmas.Bool.{cond_both, and_parts, or_cases, or_right}
+use Rattle.std.proofs.lemmas.Bool.{and_parts, or_cases, or_right}
 use Rattle.txn_core.specs.declared.stamp.Stamp.{Stamp}
 use Rattle.txn_core.specs.declared.fate.Fate.{Fate}
 use Rattle.txn_core.specs.declared.reason.Reason.{Reason}
 use Rattle.txn_core.specs.declared.message.Message.{Message}
 use Rattle.txn_core.specs.declared.answer.Answer.{Answer}
 use Rattle.txn_core.specs.declared.entry.Entry.{Entry}
-use Rattle.txn_core.specs.Effects.{Effect, Commits, Cancels}
 use Rattle.txn_core.specs.Service.{Service, IsServiceLawful, History}
-use Rattle.txn_core.specs.State.{state_after}
 use Rattle.txn_core.specs.Answers.{has_record, recall_answer, decide_answer}
 use Rattle.txn_core.specs.History.{effects, Had, begins, forgets, is_own_begin}
 use Rattle.txn_core.specs.Legal.{state, IsAnswer, IsLegal}
 use Rattle.txn_core.proofs.Exports.{had_now, had_more, own_number_is_kept}
+use Rattle.coordinator.proofs.Recalled.{never_gone}
 
 true_or_false : {Q : Type 0} (b : Bool) → b ≡ true → b ≡ false → Q
 true_or_false true h k = absurd (cc)
@@ -61,15 +60,6 @@ module _ {K V A F B : Type 0} where
   no_decide true Fate.Gone commit first there e = absurd (there refl)
 
 module _ {K V A F C D Q B : Type 0} (S : Service K V A F C D Q B) where
-  -- no decision makes a number gone
-  never_gone : (es : List (Effect K A D)) (n : ℕ) → (state_after S.core es).ledger.fate n ≡ Fate.Gone → ⊥
-  never_gone [] n h = cc
-  never_gone (Commits m ∷ es) n h =
-      cond_both (nat_eq m n) Fate.Committed ((state_after S.core es).ledger.fate n) (λ f. f ≡ Fate.Gone → ⊥) (λ _ k. cc) (λ _ k. never_gone es n k) h
-  never_gone (Cancels m ∷ es) n h =
-      cond_both (nat_eq m n) Fate.Cancelled ((state_after S.core es).ledger.fate n) (λ f. f ≡ Fate.Gone → ⊥) (λ _ k. cc) (λ _ k. never_gone es n k) h
-  never_gone (_ ∷ es) n h = never_gone es n h
-
   module _ (law : IsServiceLawful S) (es : History S) (legal : IsLegal S es) (n : ℕ) (begun : Had (begins n) es) where
     -- a begun number that has no record
     pub was_forgotten : has_record (state S es).ledger n ≡ false → Had (forgets n) es
@@ -93,4 +83,4 @@ module _ {K V A F C D Q B : Type 0} (S : Service K V A F C D Q B) where
         → IsAnswer S es moment (Message.Decide n commit reasons) (Answer.Decided Fate.Gone first) → Had (forgets n) es
     decide_finds_none moment commit first reasons is =
         let l = (state S es).ledger in
-        was_forgotten (no_decide (has_record l n) (l.fate n) commit first (never_gone (effects es) n) is)
+        was_forgotten (no_decide (has_record l n) (l.fate n) commit first (never_gone S (effects es) n) is)

@@ -9,27 +9,27 @@ use Rattle.txn_core.specs.Legal.{state, holder_in, releases}
 use Rattle.txn_core.specs.Service.{Service, IsServiceLawful, Reply, Event}
 use Rattle.cluster.specs.declared.step.StepError.{StepError}
 use Rattle.cluster.specs.Events.{event_of}
-use Rattle.cluster.specs.Steps.{Adds}
-use Rattle.cluster.proofs.Later.{is_later}
-use Rattle.own_entries.specs.Counts.{CountsUntil}
-use Rattle.own_entries.proofs.Counting.{counts_none, counts_on, counts_one, counts_until}
+use Rattle.cluster.specs.Steps.{IsLater}
+use Rattle.own_entries.specs.Counts.{Counts, CountsUntil}
+use Rattle.own_entries.proofs.Counting.{counts_none, counts_on, counts_until}
 use Rattle.coordinator.specs.Driving.{is_driving}
 use Rattle.recovery_manager.specs.Ends.{lets_go}
 use Rattle.recovery_manager.specs.Parts.{is_on, AllOn, Releases, ReleasesGone, ReleasesPartly}
-use Rattle.recovery_manager.proofs.Each.{any_back, any_front, each_append, each_so}
+use Rattle.own_entries.proofs.Lists.{any_back, any_front, each_append}
+use Rattle.recovery_manager.proofs.Each.{each_so}
 use Rattle.recovery_manager.proofs.Listed.{released}
 
 module _ {K V A F C D Q B : Type 0} (S : Service K V A F C D Q B) where
   pub releases_one :
       IsServiceLawful S → (p q : PassView (Event S)) (cell : Option ℕ) (n : ℕ) (key : K) (a : Reply S)
-      → Adds S p cell (Message.Release n key) a q → Releases S n key p q
-  releases_one law p q cell n key a adds =
+      → IsLater S (reverse p.front) (event_of p cell (Message.Release n key) a) (reverse q.front)
+      → Counts S p (event_of p cell (Message.Release n key) a ∷ []) 0 q → Releases S n key p q
+  releases_one law p q cell n key a later counts =
       let e : Event S = event_of p cell (Message.Release n key) a in
-      let later = is_later S p q cell (Message.Release n key) a adds in
       record {
         cell = cell;
         answer = a;
-        counts = counts_one S p q cell (Message.Release n key) a adds;
+        counts = counts;
         free =
             subst (λ es. is_holder (holder_in S (state S es) key) n ≡ false) later.is
             (released S law e (later.newer ++ reverse p.front) later.legal n key refl);

@@ -11,20 +11,20 @@ use Rattle.txn_core.proofs.Exports.{beginning_is_tail, begun_stays, had_stays}
 use Rattle.cluster.specs.Events.{pass_of}
 use Rattle.own_entries.specs.Counts.{Counts}
 use Rattle.coordinator.specs.Driving.{is_done, finds_none, Added}
+use Rattle.coordinator.proofs.Moving.{added_by}
 use Rattle.recovery_manager.specs.Ends.{IsDone, IsForgotten}
 use Rattle.recovery_manager.specs.Lists.{AllBegun}
 use Rattle.recovery_manager.specs.Parts.{most_drives}
-use Rattle.recovery_manager.proofs.Each.{any_front}
+use Rattle.own_entries.proofs.Lists.{any_front}
 
 module _ {K V A F C D Q B : Type 0} (S : Service K V A F C D Q B) where
   -- what was counted for one unit each was added
   pub counted : (p : PassView (Event S)) (own : List (Event S)) (more : ℕ) (q : PassView (Event S)) → Counts S p own more q → Added S more p own q
-  counted p own more q counts =
-      let units = counts.units in record { pass = counts.pass; trail = counts.trail; units = omega arith }
+  counted p own more q counts = added_by S more more p own q (omega arith) counts
 
   -- more units than that
   pub with_more : (s t : ℕ) (p : PassView (Event S)) (own : List (Event S)) (q : PassView (Event S)) → s ≤ t → Added S s p own q → Added S t p own q
-  with_more s t p own q le added = let units = added.units in record { pass = added.pass; trail = added.trail; units = omega arith }
+  with_more s t p own q le added = let units = added.units in record { pass = added.pass; trail = added.trail; moments = added.moments; units = omega arith }
 
   module _ (k : ℕ) (old own new : List (Event S)) (trail : Trail pass_of k old own new) where
     abbrev newer : History S

@@ -1,7 +1,6 @@
 mod Forgotten
 mod Listed
 mod Each
-mod Handed
 mod Grown
 mod Told
 mod Ended

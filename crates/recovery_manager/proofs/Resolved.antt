@@ -13,7 +13,7 @@ use Rattle.coordinator.specs.Drives.{is_gone_end, HasCause, Drives}
 use Rattle.coordinator.proofs.Moving.{added_on}
 use Rattle.recovery_manager.specs.Ends.{IsResolved, Resolves}
 use Rattle.recovery_manager.specs.Parts.{Releases}
-use Rattle.recovery_manager.proofs.Each.{any_back, any_front, each_append}
+use Rattle.own_entries.proofs.Lists.{any_back, any_front, each_append}
 use Rattle.recovery_manager.proofs.Ended.{was_gone}
 use Rattle.recovery_manager.proofs.Freed.{sent_one}
 use Rattle.recovery_manager.proofs.Grown.{counted, same_actions, still_had, with_more}

@@ -15,13 +15,14 @@ use Rattle.cluster.specs.Events.{pass_of}
 use Rattle.own_entries.specs.Counts.{Counts, CountsUntil}
 use Rattle.own_entries.proofs.Counting.{counts_on, same_event}
 use Rattle.coordinator.specs.Driving.{is_driving, Added}
-use Rattle.coordinator.proofs.Moving.{added_on}
+use Rattle.coordinator.proofs.Moving.{added_on, until_added}
 use Rattle.recovery_manager.specs.declared.sweep_end.SweepEnd.{SweepEnd}
 use Rattle.recovery_manager.specs.Ends.{left_off, IsDone, IsForgotten, lets_go}
 use Rattle.recovery_manager.specs.Lists.{Listing, all_items, numbers_in, AreTheNumbers, lists_held, lists_numbers, lists, AllBegun, ListsHeld, ListsNumbers, ListsPartly}
 use Rattle.recovery_manager.specs.Parts.{is_on, AllOn, DrivesAll, DrivesPartly, ReleasesGone, ReleasesPartly}
 use Rattle.recovery_manager.specs.Sweeps.{IsEnded, IsLetGo, Sweeps, AreLists, SweepsPartly}
-use Rattle.recovery_manager.proofs.Each.{any_among, any_back, each_among, each_append, each_both, each_from, each_so}
+use Rattle.own_entries.proofs.Lists.{any_back, each_append}
+use Rattle.recovery_manager.proofs.Each.{any_among, each_among, each_both, each_from, each_so}
 use Rattle.recovery_manager.proofs.Grown.{counted, same_most, still_begun, still_done, still_forgotten, with_more}
 
 -- a step that was not taken stops no drive
@@ -35,12 +36,12 @@ pub never_stopped_by_memory : {X : Type 0} (r : Result X SweepEnd) → IsErrAnd 
 never_stopped_by_memory (Ok x) h is = absurd h
 never_stopped_by_memory (Err e) h is = absurd (let s : e ≡ SweepEnd.Stopped = cc in cc)
 
-module _ {K V A F C D Q B : Type 0} (S : Service K V A F C D Q B) where
-  pub until_added : (p : PassView (Event S)) (es : List (Event S)) (why : StepError) (q : PassView (Event S)) → CountsUntil S p es why q → Added S 1 p es q
-  until_added p es StepError.Spent q h = with_more S 0 1 p es q (omega arith) (counted S p es 0 q h.0)
-  until_added p es StepError.NoMemory q (inl h) = with_more S 0 1 p es q (omega arith) (counted S p es 0 q h)
-  until_added p es StepError.NoMemory q (inr h) = counted S p es 1 q h
+-- memory was refused where a sweep left off for want of it
+forgot_memory : (why : StepError) → left_off why ≡ SweepEnd.NoMemory → why ≡ StepError.NoMemory
+forgot_memory StepError.NoMemory is = refl
+forgot_memory StepError.Spent is = absurd (cc)
 
+module _ {K V A F C D Q B : Type 0} (S : Service K V A F C D Q B) where
   until_spent :
       (p : PassView (Event S)) (es : List (Event S)) (why : StepError) (q : PassView (Event S)) → CountsUntil S p es why q
       → left_off why ≡ SweepEnd.Spent → q.used ≡ most_units
@@ -59,7 +60,7 @@ module _ {K V A F C D Q B : Type 0} (S : Service K V A F C D Q B) where
       {X : Type 0} (gone : ℕ → Bool) (items : List (HeldItem K)) (p q : PassView (Event S)) (r : Result X StepError)
       → OnOk r (ReleasesGone S gone items p q) → IfErr r (λ why. ReleasesPartly S items p why q) → q ≡ record p { used = q.used; front = q.front }
   releases_pass gone items p q (Ok x) h k = h.counts.pass
-  releases_pass gone items p q (Err why) h k = (until_added p k.own why q k.counts).pass
+  releases_pass gone items p q (Err why) h k = (until_added S p k.own q why k.counts).pass
 
   -- entries on some of these numbers are on others that have them all
   on_among : (ms ns : List ℕ) (own : List (Event S)) → ((m : ℕ) → Contains ms m → Contains ns m) → AllOn S ms own → AllOn S ns own
@@ -84,12 +85,13 @@ module _ {K V A F C D Q B : Type 0} (S : Service K V A F C D Q B) where
           each = tt;
           few = omega arith;
           spent = spent;
+          memory = λ _ m is. absurd (cc);
         }
 
     pub left_in_lists : (why : StepError) (q : PassView (Event S)) → ListsPartly S n p why q → SweepsPartly S n p (left_off why) q
     left_in_lists why q h =
         left_at record { held = h.held; unfinished = [] } (lists_held S p 0 h.held) q (left_off why) (inl (refl, h.few, refl))
-        (until_added p (lists_held S p 0 h.held) why q h.counts) (until_spent p (lists_held S p 0 h.held) why q h.counts)
+        (until_added S p (lists_held S p 0 h.held) q why h.counts) (until_spent p (lists_held S p 0 h.held) why q h.counts)
 
     module _
         (items : List (HeldItem K)) (q : PassView (Event S)) (one : ListsHeld S n p items q) (unfinished : List ℕ) (r : PassView (Event S))
@@ -146,6 +148,7 @@ module _ {K V A F C D Q B : Type 0} (S : Service K V A F C D Q B) where
                 each = d.each;
                 few = omega arith;
                 spent = h.spent;
+                memory = h.memory;
               }
 
           module _ (gone : ℕ → Bool) (s : PassView (Event S)) (all : DrivesAll S gone numbers r s) where
@@ -162,11 +165,11 @@ module _ {K V A F C D Q B : Type 0} (S : Service K V A F C D Q B) where
 
             -- no unit was left for a Release
             pub left_in_releases :
-                (why : StepError) (t : PassView (Event S)) → IsLegal S (reverse t.front) → ReleasesPartly S items s why t
-                → SweepsPartly S n p (left_off why) t
-            left_in_releases why t legal h =
+                (why : StepError) (t : PassView (Event S)) → IsLegal S (reverse t.front) → (why ≡ StepError.NoMemory → ⊥)
+                → ReleasesPartly S items s why t → SweepsPartly S n p (left_off why) t
+            left_in_releases why t legal sure h =
                 let added =
-                added_on S (length numbers) 1 r s t driven h.own all.drives.added (until_added s h.own why t h.counts) in
+                added_on S (length numbers) 1 r s t driven h.own all.drives.added (until_added S s h.own t why h.counts) in
                 let same = same_most S r.number r.front (driven ++ h.own) t.front added.trail law legal numbers numbers_begun in
                 let few = all.drives.few in
                 let more = h.few in
@@ -188,6 +191,7 @@ module _ {K V A F C D Q B : Type 0} (S : Service K V A F C D Q B) where
                       (on_among (map (λ item. item.number) items) numbers h.own within h.each);
                   few = omega arith;
                   spent = until_spent s h.own why t h.counts;
+                  memory = λ is. absurd (sure (forgot_memory why is));
                 }
 
             -- all is done

@@ -16,7 +16,8 @@ use Rattle.cluster.specs.Steps.{IsLater}
 use Rattle.own_entries.specs.Counts.{Counts, CountsUntil}
 use Rattle.own_entries.proofs.Counting.{counts_none, counts_on, counts_until, same_event}
 use Rattle.recovery_manager.specs.Lists.{all_items, lists_items, lists_held, AllBegun, ListsItems, ListsHeld, ListsPartly}
-use Rattle.recovery_manager.proofs.Each.{each_append, each_of, each_so}
+use Rattle.own_entries.proofs.Lists.{each_append}
+use Rattle.recovery_manager.proofs.Each.{each_of, each_so}
 use Rattle.recovery_manager.proofs.Grown.{still_begun}
 use Rattle.recovery_manager.proofs.Listed.{is_list, listed_begun, unfinished_begun}
 

@@ -14,7 +14,7 @@ use Rattle.cluster.specs.Events.{event_of}
 use Rattle.own_entries.specs.Counts.{Counts, CountsUntil}
 use Rattle.coordinator.specs.Driving.{is_driving, Added}
 use Rattle.recovery_manager.specs.declared.sweep_end.SweepEnd.{SweepEnd}
-use Rattle.recovery_manager.specs.Ends.{IsDone, IsForgotten, lets_go}
+use Rattle.recovery_manager.specs.Ends.{IsDone, IsForgotten, LeavesNoneDecided, lets_go}
 
 module _ {K V A F C D Q B : Type 0} (S : Service K V A F C D Q B) where
   -- the entry is a message that drives one of these transactions: no Write, no Begin and no command is
@@ -41,10 +41,11 @@ module _ {K V A F C D Q B : Type 0} (S : Service K V A F C D Q B) where
     pub done : AllByRecursion (λ n. gone n ≡ false → IsDone S (reverse q.front) drives.own n) numbers
     pub forgotten : (n : ℕ) → gone n ≡ true → IsForgotten S (reverse q.front) drives.own n
 
-  -- a drive did not come to its end, or memory was refused
+  -- a drive did not come to its end, or memory was refused, which leaves none between its decision and its end
   pub record DrivesPartly (numbers : List ℕ) (p : PassView (Event S)) (why : SweepEnd) (q : PassView (Event S)) : Type 0 where
     pub drives : DrivesSome numbers p q
     pub spent : why ≡ SweepEnd.Spent → q.used ≡ most_units
+    pub memory : why ≡ SweepEnd.NoMemory → LeavesNoneDecided S drives.own
 
   -- a Release of the number on the item was answered, and then the number does not hold it
   pub record Releases (n : ℕ) (key : K) (p q : PassView (Event S)) : Type 0 where

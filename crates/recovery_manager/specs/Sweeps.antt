@@ -7,7 +7,7 @@ use Rattle.txn_core.specs.declared.answer.HeldItem.{HeldItem}
 use Rattle.txn_core.specs.Service.{Service, Event, History}
 use Rattle.coordinator.specs.Driving.{Added}
 use Rattle.recovery_manager.specs.declared.sweep_end.SweepEnd.{SweepEnd}
-use Rattle.recovery_manager.specs.Ends.{IsDone, IsForgotten, lets_go}
+use Rattle.recovery_manager.specs.Ends.{IsDone, IsForgotten, LeavesNoneDecided, lets_go}
 use Rattle.recovery_manager.specs.Lists.{Listing, all_items, numbers_in, AreTheNumbers, lists_held, lists}
 use Rattle.recovery_manager.specs.Parts.{AllOn, most_drives}
 
@@ -57,3 +57,4 @@ module _ {K V A F C D Q B : Type 0} (S : Service K V A F C D Q B) where
     pub each : AllOn S numbers own
     pub few : length own ≤ most_drives S (reverse q.front) numbers + length (all_items listing.held)
     pub spent : why ≡ SweepEnd.Spent → q.used ≡ most_units
+    pub memory : why ≡ SweepEnd.NoMemory → LeavesNoneDecided S own

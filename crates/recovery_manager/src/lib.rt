@@ -8,7 +8,8 @@
 //!   (`specs/Sweeps.antt`): it writes nothing, begins nothing and changes no catalog.
 //! - After it each of these transactions is decided and its Done was sent, or its record was forgotten; then a Release of each item
 //!   that it was listed with was sent.
-//! - It ends before that only where the gate stopped it, no unit is left, or memory was refused. What was done stays done.
+//! - It ends before that only where the gate stopped it, no unit is left, or memory was refused. What was done stays done, and where
+//!   memory was refused no transaction that it drove is left between its decision and its Done.
 #![tactic(auto)]
 
 mod driving;

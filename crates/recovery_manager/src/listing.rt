@@ -7,7 +7,7 @@ ghost use Rattle.recovery_manager.specs.Lists.{AreTheNumbers, ListsHeld, ListsIt
 
 use base_types::Seq;
 use cluster::{Cluster, StepError, TableWorld};
-use own_entries::ask;
+use own_entries::{ask, ask_ledger};
 use partition::PageRules;
 use std::alloc::{AllocError as NoMemory, Global};
 use std::sync::Wait;
@@ -75,7 +75,7 @@ where
     ensures ok { IfOk result (λ numbers. ListsNumbers (R.protocol (partitions_of cluster.now)) pass.old numbers pass.new) }
     ensures err { IfErr result (λ why. CountsUntil (R.protocol (partitions_of cluster.now)) pass.old [] why pass.new) }
 {
-    let answer = cluster.step_ledger(rt, alloc, pass, Message::Unfinished)?;
+    let answer = ask_ledger(cluster, rt, alloc, pass, Message::Unfinished)?;
     match answer {
         Answer::Numbers { numbers } => Ok(numbers),
         _ => unreachable!(),

@@ -10,6 +10,7 @@ ghost use Rattle.own_entries.specs.Counts.{CountsUntil};
 ghost use Rattle.recovery_manager.specs.Parts.{Releases, ReleasesGone, ReleasesPartly};
 
 use cluster::{Cluster, StepError, TableWorld};
+use own_entries::ask;
 use partition::PageRules;
 use std::alloc::Global;
 use std::collections::BTreeSet;
@@ -37,12 +38,19 @@ where
     ensures err { IfErr result (λ why. CountsUntil (R.protocol (partitions_of cluster.now)) pass.old [] why pass.new) }
     ensures sure { result ≢ Err StepError.NoMemory }
 {
-    let answer = cluster.step(rt, alloc, pass, cell, Message::Release { number, key })?;
+    let answer = ask(
+        cluster,
+        rt,
+        alloc,
+        pass,
+        cell,
+        Message::Release { number, key },
+    )?;
     drop(answer);
     Ok(())
 }
 
-/// Lets an item go where its transaction is gone.
+/// Lets an item go where its transaction is gone. It takes no memory.
 fn release_gone<R: PageRules, T: Wait>(
     cluster: &Cluster<R>,
     rt: &T,
@@ -58,6 +66,7 @@ where
     requires forgotten { contains nat_cmp gone.now item.number ≡ true → Had (forgets item.number) (reverse pass.old.front) }
     ensures ok { OnOk result (ReleasesGone (R.protocol (partitions_of cluster.now)) (contains nat_cmp gone.now) (item ∷ []) pass.old pass.new) }
     ensures err { IfErr result (λ why. CountsUntil (R.protocol (partitions_of cluster.now)) pass.old [] why pass.new) }
+    ensures sure { result ≢ Err StepError.NoMemory }
 {
     let HeldItem { key, number } = item;
     if !gone.contains(&number) {
@@ -67,7 +76,7 @@ where
     release(cluster, rt, alloc, pass, cell, number, key)
 }
 
-/// Lets each of these items go whose transaction is gone, the last one first.
+/// Lets each of these items go whose transaction is gone, the last one first. It takes no memory.
 pub(crate) fn release_all<R: PageRules, T: Wait>(
     cluster: &Cluster<R>,
     rt: &T,
@@ -83,6 +92,7 @@ where
     requires forgotten { (n : ℕ) → contains nat_cmp gone.now n ≡ true → Had (forgets n) (reverse pass.old.front) }
     ensures ok { OnOk result (ReleasesGone (R.protocol (partitions_of cluster.now)) (contains nat_cmp gone.now) items.items pass.old pass.new) }
     ensures err { IfErr result (λ why. ReleasesPartly (R.protocol (partitions_of cluster.now)) items.items pass.old why pass.new) }
+    ensures sure { result ≢ Err StepError.NoMemory }
 {
     while let Some(item) = items.pop() {
         release_gone(cluster, rt, alloc, pass, item, gone)?;

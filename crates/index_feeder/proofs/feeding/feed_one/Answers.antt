@@ -10,7 +10,7 @@ use Rattle.index_feeder.proofs.feeding.feed_one.Goals as goal
 pub unreachable-requires : goal.unreachable-requires
 unreachable-requires g c =
     is_answered (g.R.Rules.protocol (c.args.cluster.now.id.slots - 1)) (reverse c.args.pass.now.front) (reverse c.ask.new.pass.front)
-    c.args.pass.now c.args.cell c.in_ok-shown.shown c.in_ok-shown.ensures.later c.in_default.not-Out c.in_default.not-Empty
+    c.args.pass.now c.args.source c.in_ok-shown.shown c.in_ok-shown.ensures.later c.in_default.not-Out c.in_default.not-Empty
 
 pub ask-requires-in-Out-clause-sent : goal.ask-requires-in-Out-clause-sent
 ask-requires-in-Out-clause-sent g c =
@@ -19,9 +19,9 @@ ask-requires-in-Out-clause-sent g c =
     let o = c.in-Out in
     let later = reverse c.ask.new.pass.front in
     let step =
-    subst (λ y. IsLater S (reverse p.front) (event_of p (Some c.args.cell) (Message.PeekOut c.args.cell) y) later) o.is
+    subst (λ y. IsLater S (reverse p.front) (event_of p (Some c.args.source) (Message.PeekOut c.args.source) y) later) o.is
     c.in_ok-shown.ensures.later in
-    ap Some (sym (target_is S (reverse p.front) later p c.args.cell o.sequence o.index o.target o.row_key o.after step))
+    ap Some (sym (target_is S (reverse p.front) later p c.args.source o.sequence o.index o.target o.row_key o.after step))
 
 pub ask-requires-in-Out-clause-may : goal.ask-requires-in-Out-clause-may
 ask-requires-in-Out-clause-may g c =
@@ -30,9 +30,9 @@ ask-requires-in-Out-clause-may g c =
     let o = c.in-Out in
     let later = reverse c.ask.new.pass.front in
     let step =
-    subst (λ y. IsLater S (reverse p.front) (event_of p (Some c.args.cell) (Message.PeekOut c.args.cell) y) later) o.is
+    subst (λ y. IsLater S (reverse p.front) (event_of p (Some c.args.source) (Message.PeekOut c.args.source) y) later) o.is
     c.in_ok-shown.ensures.later in
-    may_apply S (reverse p.front) later p c.args.cell o.sequence o.index o.target o.row_key o.after step c.ask.new.pass.number
+    may_apply S (reverse p.front) later p c.args.source o.sequence o.index o.target o.row_key o.after step c.ask.new.pass.number
 
 pub ask-requires-in-Out-2-clause-may : goal.ask-requires-in-Out-2-clause-may
 ask-requires-in-Out-2-clause-may g c =
@@ -40,7 +40,7 @@ ask-requires-in-Out-2-clause-may g c =
     let q = c.ask.new.pass in
     let o = c.in-Out in
     let r = c.ask-in-Out.new.pass in
-    may_acknowledge S (reverse q.front) (reverse r.front) q (Some o.target) c.args.cell o.sequence o.index o.row_key o.after
+    may_acknowledge S (reverse q.front) (reverse r.front) q (Some o.target) c.args.source o.sequence o.index o.row_key o.after
     c.in_ok-applied-in-Out.applied c.in_ok-applied-in-Out.ensures.later r.number
 
 pub returns-in_err-applied-in-Out-clause-err : goal.returns-in_err-applied-in-Out-clause-err
@@ -50,14 +50,14 @@ returns-in_err-applied-in-Out-clause-err g c =
     let o = c.in-Out in
     let q = c.ask.new.pass in
     let step =
-    subst (λ y. IsLater S (reverse p.front) (event_of p (Some c.args.cell) (Message.PeekOut c.args.cell) y) (reverse q.front)) o.is
+    subst (λ y. IsLater S (reverse p.front) (event_of p (Some c.args.source) (Message.PeekOut c.args.source) y) (reverse q.front)) o.is
     c.in_ok-shown.ensures.later in
-    let here = target_is S (reverse p.front) (reverse q.front) p c.args.cell o.sequence o.index o.target o.row_key o.after step in
+    let here = target_is S (reverse p.front) (reverse q.front) p c.args.source o.sequence o.index o.target o.row_key o.after step in
     let shown =
-    subst (λ y. Counts S p (event_of p (Some c.args.cell) (Message.PeekOut c.args.cell) y ∷ []) 0 q) o.is c.in_ok-shown.ensures.ok in
+    subst (λ y. Counts S p (event_of p (Some c.args.source) (Message.PeekOut c.args.source) y ∷ []) 0 q) o.is c.in_ok-shown.ensures.ok in
     let e = err_from_is_err_and c.from_residual-in_err-applied-in-Out.result c.from_residual-in_err-applied-in-Out.ensures.1 in
     rw (e.1, e.2)
-    (cut_shown S p q c.args.cell o.sequence o.index o.target o.row_key o.after here shown c.in_err-applied-in-Out.field-0.0
+    (cut_shown S p q c.args.source o.sequence o.index o.target o.row_key o.after here shown c.in_err-applied-in-Out.field-0.0
     c.ask-in-Out.new.pass c.in_err-applied-in-Out.ensures.err)
 
 pub returns-in_err-acknowledged-in-Out-clause-err : goal.returns-in_err-acknowledged-in-Out-clause-err
@@ -68,17 +68,17 @@ returns-in_err-acknowledged-in-Out-clause-err g c =
     let q = c.ask.new.pass in
     let r = c.ask-in-Out.new.pass in
     let step =
-    subst (λ y. IsLater S (reverse p.front) (event_of p (Some c.args.cell) (Message.PeekOut c.args.cell) y) (reverse q.front)) o.is
+    subst (λ y. IsLater S (reverse p.front) (event_of p (Some c.args.source) (Message.PeekOut c.args.source) y) (reverse q.front)) o.is
     c.in_ok-shown.ensures.later in
-    let here = target_is S (reverse p.front) (reverse q.front) p c.args.cell o.sequence o.index o.target o.row_key o.after step in
+    let here = target_is S (reverse p.front) (reverse q.front) p c.args.source o.sequence o.index o.target o.row_key o.after step in
     let shown =
-    subst (λ y. Counts S p (event_of p (Some c.args.cell) (Message.PeekOut c.args.cell) y ∷ []) 0 q) o.is c.in_ok-shown.ensures.ok in
+    subst (λ y. Counts S p (event_of p (Some c.args.source) (Message.PeekOut c.args.source) y ∷ []) 0 q) o.is c.in_ok-shown.ensures.ok in
     let applied =
-    applied_answer S (reverse q.front) (reverse r.front) q (Some o.target) c.args.cell o.sequence o.index o.row_key o.after
+    applied_answer S (reverse q.front) (reverse r.front) q (Some o.target) c.args.source o.sequence o.index o.row_key o.after
     c.in_ok-applied-in-Out.applied c.in_ok-applied-in-Out.ensures.later in
     let e = err_from_is_err_and c.from_residual-in_err-acknowledged-in-Out.result c.from_residual-in_err-acknowledged-in-Out.ensures.1 in
     rw (e.1, e.2)
-    (cut_applied S p q c.args.cell o.sequence o.index o.target o.row_key o.after here shown r c.in_ok-applied-in-Out.applied applied.0
+    (cut_applied S p q c.args.source o.sequence o.index o.target o.row_key o.after here shown r c.in_ok-applied-in-Out.applied applied.0
     applied.1 c.in_ok-applied-in-Out.ensures.ok c.in_err-acknowledged-in-Out.field-0.0 c.ask-in-Out-2.new.pass
     c.in_err-acknowledged-in-Out.ensures.err)
 
@@ -91,16 +91,16 @@ returns-in_ok-acknowledged-in-Out-clause-ok g c =
     let r = c.ask-in-Out.new.pass in
     let last = c.ask-in-Out-2.new.pass in
     let step =
-    subst (λ y. IsLater S (reverse p.front) (event_of p (Some c.args.cell) (Message.PeekOut c.args.cell) y) (reverse q.front)) o.is
+    subst (λ y. IsLater S (reverse p.front) (event_of p (Some c.args.source) (Message.PeekOut c.args.source) y) (reverse q.front)) o.is
     c.in_ok-shown.ensures.later in
-    let here = target_is S (reverse p.front) (reverse q.front) p c.args.cell o.sequence o.index o.target o.row_key o.after step in
+    let here = target_is S (reverse p.front) (reverse q.front) p c.args.source o.sequence o.index o.target o.row_key o.after step in
     let shown =
-    subst (λ y. Counts S p (event_of p (Some c.args.cell) (Message.PeekOut c.args.cell) y ∷ []) 0 q) o.is c.in_ok-shown.ensures.ok in
+    subst (λ y. Counts S p (event_of p (Some c.args.source) (Message.PeekOut c.args.source) y ∷ []) 0 q) o.is c.in_ok-shown.ensures.ok in
     let applied =
-    applied_answer S (reverse q.front) (reverse r.front) q (Some o.target) c.args.cell o.sequence o.index o.row_key o.after
+    applied_answer S (reverse q.front) (reverse r.front) q (Some o.target) c.args.source o.sequence o.index o.row_key o.after
     c.in_ok-applied-in-Out.applied c.in_ok-applied-in-Out.ensures.later in
     let acked =
-    acked_answer S (reverse r.front) (reverse last.front) r (Some c.args.cell) c.args.cell o.sequence
+    acked_answer S (reverse r.front) (reverse last.front) r (Some c.args.source) c.args.source o.sequence
     c.in_ok-acknowledged-in-Out.acknowledged c.in_ok-acknowledged-in-Out.ensures.later in
-    counts_fed S p q c.args.cell o.sequence o.index o.target o.row_key o.after here shown r c.in_ok-applied-in-Out.applied applied.0 applied.1
+    counts_fed S p q c.args.source o.sequence o.index o.target o.row_key o.after here shown r c.in_ok-applied-in-Out.applied applied.0 applied.1
     c.in_ok-applied-in-Out.ensures.ok last c.in_ok-acknowledged-in-Out.acknowledged acked.0 acked.1 c.in_ok-acknowledged-in-Out.ensures.ok

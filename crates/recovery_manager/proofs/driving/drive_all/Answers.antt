@@ -10,7 +10,7 @@ use Rattle.txn_core.specs.History.{Had, begins}
 use Rattle.recovery_manager.specs.Parts.{DrivesAll, DrivesPartly}
 use Rattle.recovery_manager.proofs.Each.{taken_rest}
 use Rattle.recovery_manager.proofs.Ended.{all_none, all_more, partly_ended, partly_noted}
-use Rattle.recovery_manager.proofs.Handed.{handed_on}
+use Rattle.own_entries.proofs.Handed.{handed_on}
 use Rattle.recovery_manager.proofs.driving.drive_all.Goals as goal
 
 pub loop-number-init : goal.loop-number-init
@@ -55,7 +55,7 @@ returns-in_err-is_gone-clause-err g c =
     rw (e.1, e.2)
     (partly_ended (g.R.Rules.protocol n) (g.met.R.Rules.lawful n) (take i xs) p c.loop-number.pass (get_or xs i 0) c.drive-end.new.pass
     c.drive-end.result c.facts.ensures.legal begun c.drive-end.ensures.drives xs (drop (i + 1) xs) (taken_rest xs i 0 lt)
-    c.loop-number.invariant.drives.drives c.in_err-is_gone.field-0.0 (sym c.in_err-is_gone.ensures))
+    (contains nat_cmp c.loop-number.gone) c.loop-number.invariant.drives c.in_err-is_gone.field-0.0 (sym c.in_err-is_gone.ensures))
 
 pub returns-in_err-note-clause-err : goal.returns-in_err-note-clause-err
 returns-in_err-note-clause-err g c =
@@ -70,7 +70,7 @@ returns-in_err-note-clause-err g c =
     let left =
     partly_noted S (g.met.R.Rules.lawful n) (take i xs) p c.loop-number.pass (get_or xs i 0) r
     c.drive-end.result c.facts.ensures.legal begun c.drive-end.ensures.drives xs (drop (i + 1) xs) (taken_rest xs i 0 lt)
-    c.loop-number.invariant.drives.drives in
+    (contains nat_cmp c.loop-number.gone) c.loop-number.invariant.drives c.in_ok-is_gone.is_gone (sym c.in_ok-is_gone.ensures) in
     handed_on c.from_residual-in_err-note.result (λ e. DrivesPartly S xs p e r) _ c.from_residual-in_err-note.ensures.1
     (λ e same. subst (λ z. DrivesPartly S xs p z r) (sym same) left)
 

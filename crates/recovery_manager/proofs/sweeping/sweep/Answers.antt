@@ -5,7 +5,7 @@ use Rattle.std.specs.Ordering.{nat_cmp}
 use Rattle.recovery_manager.specs.declared.sweep_end.SweepEnd.{SweepEnd}
 use Rattle.recovery_manager.specs.Lists.{numbers_in, AreTheNumbers}
 use Rattle.recovery_manager.specs.Sweeps.{Sweeps, SweepsPartly}
-use Rattle.recovery_manager.proofs.Handed.{handed_on}
+use Rattle.own_entries.proofs.Handed.{handed_on}
 use Rattle.recovery_manager.proofs.Told.{held_until}
 use Rattle.recovery_manager.proofs.Swept.{drives_pass, releases_pass, left_in_lists, left_at_numbers, numbers_begun, left_in_drives, left_in_releases, swept, never_stopped, never_stopped_by_memory}
 use Rattle.recovery_manager.proofs.sweeping.sweep.Goals as goal
@@ -143,7 +143,8 @@ returns-in_err-released-clause-err g c =
     handed_on c.from_residual-in_err-released.result (λ e. SweepsPartly S n p e t) _ c.from_residual-in_err-released.ensures.1
     (λ e same. subst (λ z. SweepsPartly S n p z t) (sym same)
     (left_in_releases S n p items q one unfinished r two numbers they (g.met.R.Rules.lawful n) (contains nat_cmp c.in_ok-gone.gone)
-    c.drive_all-driven.new.pass c.in_ok-gone.ensures.ok c.in_err-released.field-0.0 t c.facts-2.ensures.legal c.in_err-released.ensures.err))
+    c.drive_all-driven.new.pass c.in_ok-gone.ensures.ok c.in_err-released.field-0.0 t c.facts-2.ensures.legal
+    (λ e. c.in_err-released.ensures.sure (ap Err e)) c.in_err-released.ensures.err))
 
 pub returns-clause-ok : goal.returns-clause-ok
 returns-clause-ok g c =
