@@ -10,7 +10,13 @@ mod orders;
 #[cfg(test)]
 mod reads;
 #[cfg(test)]
+mod recorded;
+#[cfg(test)]
 mod stops;
+#[cfg(test)]
+mod tape;
+#[cfg(test)]
+mod told;
 #[cfg(test)]
 mod transactions;
 #[cfg(test)]
