@@ -1,3 +1,5 @@
+pub mod Halves
+pub mod HalvesLaws
 pub mod Digits
 pub mod DigitLaws
 pub mod Number

@@ -13,6 +13,7 @@
 //! - Only `print` takes memory.
 #![tactic(auto)]
 
+mod halves;
 mod mantissa;
 mod number;
 mod numeral;

@@ -2,6 +2,7 @@
 
 ghost use Rattle.std.specs.Prelude.{◌≡◌, ◌+◌, ◌*◌, ◌%◌, ◌^◌, ◌<◌, ◌≤◌, IsTrue, SomeIff, pos, max, unsigned_abs};
 
+use crate::halves::Halves;
 use crate::scaled::{COEFFICIENT_LIMIT, Scaled};
 use std::hash::{Hash, Hasher};
 use std::marker::Model;
@@ -23,9 +24,10 @@ pub enum NumberFault {
 /// exponent 0 and no sign.
 #[derive(Clone, Copy, Debug)]
 pub struct Number {
-    negative: bool,
-    coefficient: u128,
+    // Fields lie in this order: with the greatest first, nothing is lost between them.
+    coefficient: Halves,
     exponent: i16,
+    negative: bool,
 }
 
 impl Model for Number {
@@ -56,7 +58,7 @@ impl Number {
     {
         Number {
             negative: false,
-            coefficient: 0,
+            coefficient: Halves::of(0),
             exponent: 0,
         }
     }
@@ -73,7 +75,7 @@ impl Number {
     {
         Scaled {
             negative: self.negative,
-            coefficient: self.coefficient,
+            coefficient: self.coefficient.word(),
             power: (self.exponent + 167) as u32,
         }
     }
@@ -84,10 +86,11 @@ impl Number {
         ensures count { result ≡ max 1 (significant_digits (unsigned_abs self.now)) }
         ensures most { result ≤ 38 }
     {
-        if self.coefficient == 0 {
+        let coefficient = self.coefficient.word();
+        if coefficient == 0 {
             return 1;
         }
-        self.coefficient.ilog10() + 1
+        coefficient.ilog10() + 1
     }
 }
 
@@ -102,7 +105,7 @@ impl PartialEq for Number {
 
     fn eq(&self, other: &Number) -> bool {
         self.negative == other.negative
-            && self.coefficient == other.coefficient
+            && self.coefficient.word() == other.coefficient.word()
             && self.exponent == other.exponent
     }
 }
@@ -123,7 +126,7 @@ impl Hash for Number {
 
     fn hash<H: Hasher>(&self, state: &mut H) {
         self.negative.hash(state);
-        self.coefficient.hash(state);
+        self.coefficient.word().hash(state);
         self.exponent.hash(state);
     }
 }
@@ -160,7 +163,7 @@ impl Scaled {
         }
         Some(Number {
             negative: self.negative,
-            coefficient: self.coefficient,
+            coefficient: Halves::of(self.coefficient),
             exponent: self.power as i16 - 167,
         })
     }

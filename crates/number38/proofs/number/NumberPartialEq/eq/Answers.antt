@@ -55,28 +55,28 @@ beq_same false false h = refl
 exponents : (d e : ℤ) → neg_ℤ (pos 167) ≤ℤ d → d ≤ℤ pos 125 → neg_ℤ (pos 167) ≤ℤ e → e ≤ℤ pos 125 → of_z w16 d ≡ of_z w16 e → d ≡ e
 exponents d e h1 h2 h3 h4 h = omega (arith, ints)
 
-pub returns-then-self-other-2 : goal.returns-then-self-other-2
-returns-then-self-other-2 c =
+pub returns-then-word : goal.returns-then-word
+returns-then-word c =
     let a = c.self.inside in
     let b = c.other.inside in
     elim c.if-self-other.branch [
       | then-self-other w ↦ eq_answer a b _ _ c.self.invariant c.other.invariant c.self.view_is c.other.view_is (nat_eq (of_z w16 a.exponent) (of_z w16 b.exponent))
           (λ h. record {
             sign = beq_true a.negative b.negative w.if-self-other.true;
-            coefficient = eqb-true a.coefficient b.coefficient (sym w.value-is ∙ c.if-self-other-2.true);
+            coefficient = sym w.word.ensures ∙ eqb-true w.word.result w.word-then-self-other.result (sym w.value-is ∙ c.if-word.true) ∙ w.word-then-self-other.ensures;
             exponent = exponents a.exponent b.exponent c.self.invariant.low c.self.invariant.high c.other.invariant.low c.other.invariant.high (eqb-true _ _ h);
           })
           (λ h e. eqb-false _ _ h (ap (λ (x : Inside). of_z w16 x.exponent) e))
-      | else-self-other w ↦ let g : c.if-self-other.value ≡ false = w.value-is ∙ w.if-self-other.false in let k : c.if-self-other.value ≡ true = c.if-self-other-2.true in cc
+      | else-self-other w ↦ let g : c.if-self-other.value ≡ false = w.value-is ∙ w.if-self-other.false in let k : c.if-self-other.value ≡ true = c.if-word.true in cc
     ]
 
-pub returns-else-self-other-2 : goal.returns-else-self-other-2
-returns-else-self-other-2 c =
+pub returns-else-word : goal.returns-else-word
+returns-else-word c =
     let a = c.self.inside in
     let b = c.other.inside in
     eq_answer a b _ _ c.self.invariant c.other.invariant c.self.view_is c.other.view_is c.if-self-other.value
-    (λ h. let k : c.if-self-other.value ≡ false = c.if-self-other-2.false in cc)
+    (λ h. let k : c.if-self-other.value ≡ false = c.if-word.false in cc)
     (λ h e. elim c.if-self-other.branch [
-      | then-self-other w ↦ eqb-false a.coefficient b.coefficient (sym w.value-is ∙ c.if-self-other-2.false) (ap (λ (x : Inside). x.coefficient) e)
+      | then-self-other w ↦ eqb-false w.word.result w.word-then-self-other.result (sym w.value-is ∙ c.if-word.false) (w.word.ensures ∙ ap (λ (x : Inside). x.coefficient) e ∙ sym w.word-then-self-other.ensures)
       | else-self-other w ↦ let t : beq a.negative b.negative ≡ true = beq_same a.negative b.negative (ap (λ (x : Inside). x.negative) e) in let f : beq a.negative b.negative ≡ false = w.if-self-other.false in cc
     ])
