@@ -1,7 +1,7 @@
 //! What commands make of the catalog, and what is told of them.
 
 ghost use Rattle.std.specs.Prelude.{◌≡◌, ℕ, ◌+◌, ◌^◌, ◌≤◌, IfOk, MatchOption, is_some, length, None, Some, if◌then◌else◌};
-ghost use Rattle.std.specs.List.{filter_map, insert, range_with_len};
+ghost use Rattle.std.specs.List.{filter_map, insert, list_all, range_with_len};
 ghost use Rattle.table_model.specs.Catalog.{updated_schema};
 ghost use Rattle.cell_model.specs.Keys.{table_of};
 ghost use Rattle.cell_model.specs.Catalogs.{named, numbered_indexes, entered};
@@ -94,9 +94,21 @@ fn has_kinds(schema: &Schema, keys: &KeyNames) -> bool
     schema.kind_of(&keys.partition).is_some() && has_sort_kind(schema, &keys.sort)
 }
 
+/// Whether the attributes of the keys of all local indexes have types.
+fn are_locals_typed(schema: &Schema) -> bool
+    ensures { result ≡ list_all (λ index. has_kinds schema.now index.keys) schema.now.locals }
+{
+    for index in schema.locals.as_slice() {
+        if !has_kinds(schema, &index.keys) {
+            return false;
+        }
+    }
+    true
+}
+
 /// Whether the attributes of the keys of all global indexes have types.
-pub(crate) fn is_typed(schema: &Schema) -> bool
-    ensures { result ≡ is_typed schema.now }
+fn are_globals_typed(schema: &Schema) -> bool
+    ensures { result ≡ list_all (λ index. has_kinds schema.now index.keys) schema.now.globals }
 {
     for index in schema.globals.as_slice() {
         if !has_kinds(schema, &index.keys) {
@@ -104,6 +116,13 @@ pub(crate) fn is_typed(schema: &Schema) -> bool
         }
     }
     true
+}
+
+/// Whether the attributes of the keys of all indexes have types.
+pub(crate) fn is_typed(schema: &Schema) -> bool
+    ensures { result ≡ is_typed schema.now }
+{
+    are_locals_typed(schema) && are_globals_typed(schema)
 }
 
 /// The schema as the update states it. It is answered for an update that is not refused; of one that is there is no such

@@ -13,6 +13,7 @@ use Rattle.std.proofs.lemmas.Map.Lookups.{exact_bytes}
 use Rattle.std.proofs.lemmas.Slice.Eq.{bytes_eq-Decides}
 use Rattle.table_schema.specs.declared.definition.Definition.{Definition}
 use Rattle.table_schema.specs.declared.index.GlobalIndex.{GlobalIndex}
+use Rattle.table_schema.specs.declared.index.LocalIndex.{LocalIndex}
 use Rattle.table_schema.specs.declared.keys.KeyNames.{KeyNames}
 use Rattle.table_schema.specs.declared.schema.Schema.{Schema}
 use Rattle.table_schema.specs.declared.stated.StatedIndex.{StatedIndex}
@@ -81,6 +82,17 @@ behind : {X : Type 0} (f : X → Bool) (xs ys : List X) → list_all f (xs ++ ys
 behind f [] ys h = h
 behind f (x ∷ xs) ys h = behind f xs ys (and_parts (f x) (list_all f (xs ++ ys)) h).1
 
+front : {X : Type 0} (f : X → Bool) (xs ys : List X) → list_all f (xs ++ ys) ≡ true → list_all f xs ≡ true
+front f [] ys h = refl
+front f (x ∷ xs) ys h = let p = and_parts (f x) (list_all f (xs ++ ys)) h in and_from (f x) (list_all f xs) p.0 (front f xs ys p.1)
+
+locals_typed : (schema : Schema) (locals : List LocalIndex) → list_all (λ (i : StatedIndex). defines_key (stated_of schema) i.keys) (map of_local locals) ≡ true
+    → list_all (λ index. has_kinds schema index.keys) locals ≡ true
+locals_typed schema [] h = refl
+locals_typed schema (l ∷ ls) h =
+    let p = and_parts (defines_key (stated_of schema) (elements_of l.keys)) _ h in
+    and_from (has_kinds schema l.keys) _ (typed_key schema l.keys p.0) (locals_typed schema ls p.1)
+
 all_typed : (schema : Schema) (globals : List GlobalIndex) → list_all (λ (i : StatedIndex). defines_key (stated_of schema) i.keys) (map of_global globals) ≡ true
     → list_all (λ index. has_kinds schema index.keys) globals ≡ true
 all_typed schema [] h = refl
@@ -96,7 +108,9 @@ valid_typed schema valid =
     let free = (tells stated DefinitionMismatch).1 (valid DefinitionMismatch) in
     let all = (and_parts (list_all (λ d. is_in_key stated d.name) stated.definitions) (defines_keys stated) free).1 in
     let indexes = (and_parts (defines_key stated stated.keys) (list_all (λ (i : StatedIndex). defines_key stated i.keys) (map of_local schema.locals ++ map of_global schema.globals)) all).1 in
-    all_typed schema schema.globals (behind (λ (i : StatedIndex). defines_key stated i.keys) (map of_local schema.locals) (map of_global schema.globals) indexes)
+    and_from (list_all (λ index. has_kinds schema index.keys) schema.locals) (list_all (λ index. has_kinds schema index.keys) schema.globals)
+    (locals_typed schema schema.locals (front (λ (i : StatedIndex). defines_key stated i.keys) (map of_local schema.locals) (map of_global schema.globals) indexes))
+    (all_typed schema schema.globals (behind (λ (i : StatedIndex). defines_key stated i.keys) (map of_local schema.locals) (map of_global schema.globals) indexes))
 
 -- ---- one name more
 

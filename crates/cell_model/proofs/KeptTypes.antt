@@ -64,6 +64,14 @@ joined : {X : Type 0} (f : X → Bool) (xs ys : List X) → list_any f ys ≡ tr
 joined f [] ys h = h
 joined f (x ∷ xs) ys h = or_right (f x) (list_any f (xs ++ ys)) (joined f xs ys h)
 
+in_front : {X : Type 0} (f : X → Bool) (xs ys : List X) → list_any f xs ≡ true → list_any f (xs ++ ys) ≡ true
+in_front f [] ys h = absurd (cc)
+in_front f (x ∷ xs) ys h = go (f x) h (in_front f xs ys)
+  where
+    go : (b : Bool) → (b || list_any f xs) ≡ true → (list_any f xs ≡ true → list_any f (xs ++ ys) ≡ true) → (b || list_any f (xs ++ ys)) ≡ true
+    go true t rest = refl
+    go false t rest = rest t
+
 -- a name in the key of one of these indexes
 abbrev pub is_in_keys : List ℕ → List GlobalIndex → Bool
 is_in_keys name globals = list_any (λ index. is_key_name index.keys name) globals
@@ -76,30 +84,42 @@ module _ (schema : Schema) (update : TableUpdate) where
   abbrev all_keys : List KeyNames
   all_keys = map (λ index. index.keys) schema.locals ++ map (λ index. index.keys) (changed_indexes update.index schema.globals)
 
+  -- a name in the key of one of these
+  abbrev pub is_left : List ℕ → Bool
+  is_left name = list_any (λ keys. is_key_name keys name) all_keys
+
+  pub left_of_global : (name : List ℕ) → is_in_keys name (changed_indexes update.index schema.globals) ≡ true → is_left name ≡ true
+  left_of_global name used =
+      joined (λ keys. is_key_name keys name) (map (λ index. index.keys) schema.locals) _
+      (mapped (λ keys. is_key_name keys name) (λ index. index.keys) (changed_indexes update.index schema.globals) ∙ used)
+
+  pub left_of_local : (name : List ℕ) → list_any (λ index. is_key_name index.keys name) schema.locals ≡ true → is_left name ≡ true
+  left_of_local name used =
+      in_front (λ keys. is_key_name keys name) (map (λ index. index.keys) schema.locals) _
+      (mapped (λ keys. is_key_name keys name) (λ index. index.keys) schema.locals ∙ used)
+
   -- a name of a key that stays keeps its type
-  kept_kind : (name : List ℕ) → is_some (kind_of name schema.definitions) ≡ true → is_in_keys name (changed_indexes update.index schema.globals) ≡ true
+  kept_kind : (name : List ℕ) → is_some (kind_of name schema.definitions) ≡ true → is_left name ≡ true
       → kind_of name (updated_schema schema update).definitions ≡ kind_of name schema.definitions
   kept_kind name known used =
-      let here = joined (λ keys. is_key_name keys name) (map (λ index. index.keys) schema.locals) _
-      (mapped (λ keys. is_key_name keys name) (λ index. index.keys) (changed_indexes update.index schema.globals) ∙ used) in
       passing (λ n. is_key_name schema.keys n || list_any (λ keys. is_key_name keys n) all_keys)
-      name (with_definitions schema.definitions update.definitions) (or_right (is_key_name schema.keys name) _ here)
+      name (with_definitions schema.definitions update.definitions) (or_right (is_key_name schema.keys name) _ used)
       ∙ defined name schema.definitions update.definitions known
 
   kept_part : (limit : ℕ) (name : List ℕ) (item : Attributes) → is_some (kind_of name schema.definitions) ≡ true
-      → is_in_keys name (changed_indexes update.index schema.globals) ≡ true
+      → is_left name ≡ true
       → part_in (updated_schema schema update) limit name item ≡ part_in schema limit name item
   kept_part limit name item known used = ap (λ kind. part_of limit kind (value_at name item)) (kept_kind name known used)
 
   kept_sort : (sort : Option (List ℕ)) (item : Attributes) → has_sort_kind schema sort ≡ true
-      → ((name : List ℕ) → sort ≡ Some name → is_in_keys name (changed_indexes update.index schema.globals) ≡ true)
+      → ((name : List ℕ) → sort ≡ Some name → is_left name ≡ true)
       → sort_in (updated_schema schema update) sort item ≡ sort_in schema sort item
   kept_sort None item known used = refl
   kept_sort (Some name) item known used = ap (result_map_both Some (λ fault. fault)) (kept_part 1024 name item known (used name refl))
 
   -- an item has the key that it had, in an index that stays and whose key has types
   pub kept_key : (keys : KeyNames) (item : Attributes) → has_kinds schema keys ≡ true
-      → ((name : List ℕ) → is_key_name keys name ≡ true → is_in_keys name (changed_indexes update.index schema.globals) ≡ true)
+      → ((name : List ℕ) → is_key_name keys name ≡ true → is_left name ≡ true)
       → key_in (updated_schema schema update) keys item ≡ key_in schema keys item
   unfolding key_in
   kept_key keys item known used =

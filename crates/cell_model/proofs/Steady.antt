@@ -1,10 +1,11 @@
 -- An update leaves the indexes that stay, and gives an index that comes a new number.
 use Rattle.std.specs.Prelude.{bytes_eq, nat_eq, ◌⊎◌, if◌then◌else◌}
-use Rattle.std.specs.List.{zip}
+use Rattle.std.specs.List.{list_all, zip}
 use Rattle.std.proofs.Common.{◌≡◌, ℕ, ◌+◌, ◌<◌, ◌≤◌, Bool, true, false, not, List, [], Option, None, Some, option_map, refl, sym, ap, subst, ◌∙◌, inl, inr, arith}
-use Rattle.std.proofs.lemmas.Bool.{cond_both, cond-true, cond-false, eqb-true, false_from_ne_true}
+use Rattle.std.proofs.lemmas.Bool.{and_parts, cond_both, cond-true, cond-false, eqb-true, false_from_ne_true}
 use Rattle.attr_value.specs.Tree.{Attributes}
 use Rattle.table_schema.specs.declared.index.GlobalIndex.{GlobalIndex}
+use Rattle.table_schema.specs.declared.schema.Schema.{Schema}
 use Rattle.table_schema.specs.KeyName.{is_key_name}
 use Rattle.item_keys.specs.Row.{is_kept}
 use Rattle.row_keys.specs.Rows.{position_if}
@@ -18,7 +19,7 @@ use Rattle.cell_model.specs.Catalogs.{ascend_from, numbered_indexes, index_numbe
 use Rattle.cell_model.specs.Commands.{is_typed, has_kinds, numbers_after, updated_table}
 use Rattle.cell_model.specs.IndexRows.{row_at, row_under, row_in}
 use Rattle.cell_model.proofs.Numbers.{Numbered, numbers_of, is_among, fronts_ascend, found_in_front, among_more, among_filtered, found_filtered, zipped_again, zipped_more, zipped_filtered, all_found, any_found, among_front}
-use Rattle.cell_model.proofs.KeptTypes.{is_in_keys, kept_key}
+use Rattle.cell_model.proofs.KeptTypes.{is_in_keys, kept_key, left_of_global}
 
 -- ---- numbers that a change of indexes leaves
 
@@ -47,6 +48,9 @@ stays (Some (Remove name)) drawn g ns gs rises low there =
 
 -- ---- the rows of an index that stays
 
+globals_typed : (schema : Schema) → is_typed schema ≡ true → list_all (λ index. has_kinds schema index.keys) schema.globals ≡ true
+globals_typed schema typed = (and_parts (list_all (λ index. has_kinds schema index.keys) schema.locals) _ typed).1
+
 module _ (t : CatalogTable) (update : TableUpdate) where
   -- an item's row under an index that stays is as it was
   same_under : (key : ItemKey) (g : ℕ) (x : GlobalIndex) (item : Attributes) → has_kinds t.schema x.keys ≡ true
@@ -54,7 +58,7 @@ module _ (t : CatalogTable) (update : TableUpdate) where
       → row_under key g (updated_schema t.schema update) x item ≡ row_under key g t.schema x item
   unfolding is_kept
   same_under key g x item known used =
-      ap (λ found. option_map (row_at key g t.schema x item) (position_if key.key found)) (kept_key t.schema update x.keys item known used)
+      ap (λ found. option_map (row_at key g t.schema x item) (position_if key.key found)) (kept_key t.schema update x.keys item known (λ name has. left_of_global t.schema update name (used name has)))
 
   same_row : (drawn : ℕ) (key : ItemKey) (g : ℕ) (item : Attributes) → is_typed t.schema ≡ true → ascend_from 0 t.indexes ≡ true → g ≤ drawn
       → is_among g (numbers_of (zip (numbers_after update.index drawn (zip t.indexes t.schema.globals)) (changed_indexes update.index t.schema.globals))) ≡ true
@@ -73,7 +77,7 @@ module _ (t : CatalogTable) (update : TableUpdate) where
       go None e = ap (λ z. row_in key g (updated_schema t.schema update) z item) (found ∙ e)
       go (Some x) e =
           ap (λ z. row_in key g (updated_schema t.schema update) z item) (found ∙ e)
-          ∙ same_under key g x item (all_found (λ index. has_kinds t.schema index.keys) g t.indexes t.schema.globals x typed e)
+          ∙ same_under key g x item (all_found (λ index. has_kinds t.schema index.keys) g t.indexes t.schema.globals x (globals_typed t.schema typed) e)
           (λ name has. any_found (λ index. is_key_name index.keys name) g (numbers_after update.index drawn (zip t.indexes t.schema.globals)) (changed_indexes update.index t.schema.globals) x has (found ∙ e))
 
 -- ---- of a table

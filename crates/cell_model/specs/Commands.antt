@@ -55,9 +55,10 @@ has_sort_kind schema (Some name) = is_some (kind_of name schema.definitions)
 abbrev pub has_kinds : Schema → KeyNames → Bool
 has_kinds schema keys = is_some (kind_of keys.partition schema.definitions) && has_sort_kind schema keys.sort
 
--- the attributes of the keys of all global indexes have types, as in every table that was made
+-- the attributes of the keys of all indexes have types, as in every table that was made
 abbrev pub is_typed : Schema → Bool
-is_typed schema = list_all (λ index. has_kinds schema index.keys) schema.globals
+is_typed schema =
+    list_all (λ index. has_kinds schema index.keys) schema.locals && list_all (λ index. has_kinds schema index.keys) schema.globals
 
 -- the numbers of a table's global indexes after one is made, which has the next number, or dropped
 abbrev pub numbers_after : Option IndexChange → ℕ → List (ℕ × GlobalIndex) → List ℕ

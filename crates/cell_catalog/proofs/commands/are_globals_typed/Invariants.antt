@@ -1,7 +1,7 @@
 use Rattle.std.proofs.Common.{◌≡◌, drop}
 use Rattle.std.specs.List.{list_all}
 use Rattle.cell_model.specs.Commands.{has_kinds}
-use Rattle.cell_catalog.proofs.commands.is_typed.Given as goal
+use Rattle.cell_catalog.proofs.commands.are_globals_typed.Given as goal
 
 abbrev pub invariant-loop-index : goal.invariant-loop-index
 invariant-loop-index l =
