@@ -1,15 +1,17 @@
 -- The entries of items in local indexes name their items, and a command leaves those of tables that it doesn't concern.
 use Rattle.std.specs.Prelude.{◌≡◌, ℕ, ◌+◌, Bool, true, false, ◌||◌, ◌⊎◌, List, [], ◌∷◌, ◌++◌, Option, None, Some, refl}
-use Rattle.std.specs.List.{list_any}
+use Rattle.std.specs.List.{list_all, list_any}
 use Rattle.std.specs.BTreeMap.{is_at}
 use Rattle.std.specs.Ordering.{nat_cmp, ordering_then, is_eq}
 use Rattle.std.specs.declared.cmp.Ordering.{Ordering}
 use Rattle.std.specs.declared.cmp.Ordering.TheVariants as order
-use Rattle.std.proofs.Common.{ap, subst, inl, inr}
+use Rattle.std.proofs.Common.{ap, option_and_then, subst, inl, inr, ◌∙◌}
+use Rattle.std.proofs.lemmas.Bool.{and_parts, cond_both, or_left, or_right}
 use Rattle.std.proofs.lemmas.Map.Lookups.{exact_unsigned}
 use Rattle.attr_value.specs.Tree.{Attributes}
 use Rattle.table_schema.specs.declared.index.LocalIndex.{LocalIndex}
 use Rattle.table_schema.specs.declared.schema.Schema.{Schema}
+use Rattle.table_schema.specs.KeyName.{is_key_name}
 use Rattle.item_keys.specs.declared.key.Key.{Key}
 use Rattle.item_keys.specs.declared.fault.KeyFault.{KeyFault}
 use Rattle.item_keys.specs.ItemKey.{key_in}
@@ -17,17 +19,21 @@ use Rattle.row_keys.specs.Keys.{position_order}
 use Rattle.row_keys.specs.Rows.{position_if, position_in}
 use Rattle.table_rows.proofs.Exact.{position_exact}
 use Rattle.std.specs.Prelude.{Result, Ok, Err}
+use Rattle.table_request.specs.declared.tables.TableUpdate.{TableUpdate}
+use Rattle.table_model.specs.Catalog.{updated_schema}
 use Rattle.cell_model.specs.declared.key.ItemKey.{ItemKey}
 use Rattle.cell_model.specs.declared.key.CellKey.{CellKey}
 use Rattle.cell_model.specs.declared.key.CellKey.TheVariants.{Item, Row}
 use Rattle.cell_model.specs.declared.catalog.Catalog.{Catalog}
 use Rattle.cell_model.specs.declared.catalog.CatalogTable.{CatalogTable}
 use Rattle.cell_model.specs.declared.command.CatalogCommand.{CatalogCommand}
-use Rattle.cell_model.specs.Catalogs.{has_table, numbered}
-use Rattle.cell_model.specs.Commands.{catalog_after, is_number, subject}
+use Rattle.cell_model.specs.declared.command.CatalogCommand.TheVariants.{Change}
+use Rattle.cell_model.specs.Catalogs.{has_table, last_drawn, numbered}
+use Rattle.cell_model.specs.Commands.{catalog_after, has_kinds, is_number, is_typed, kept, subject, updated_table}
 use Rattle.cell_model.specs.Keys.{same_key, table_of}
 use Rattle.cell_model.proofs.Exact.{same_itself}
-use Rattle.cell_model.proofs.Lookups.{same_table}
+use Rattle.cell_model.proofs.KeptTypes.{is_left, kept_key, left_of_local}
+use Rattle.cell_model.proofs.Lookups.{kept_found, same_table}
 use Rattle.cell_entries.specs.declared.entry.LocalEntry.{LocalEntry}
 use Rattle.cell_entries.specs.LocalEntries.{entries_from, entries_in, entries_of, entry_at, entry_order, item_of_entry}
 
@@ -112,3 +118,41 @@ pub spared : (d : CatalogCommand) (moment : ℕ) (catalog : Catalog) (key : Cell
     → has_table catalog (table_of key) ≡ true → entries_of (catalog_after d moment catalog) key item ≡ entries_of catalog key item
 spared d moment catalog (Item key) item away there = ap (λ t. entries_in t key item) (same_table d moment catalog key.table away there)
 spared d moment catalog (Row key) item away there = refl
+
+-- ---- an update of a table leaves its items' entries
+
+module _ (schema : Schema) (update : TableUpdate) (key : ItemKey) (item : Attributes) where
+  same_from : (locals : List LocalIndex) (place : ℕ) → list_all (λ index. has_kinds schema index.keys) locals ≡ true
+      → ((name : List ℕ) → list_any (λ index. is_key_name index.keys name) locals ≡ true → is_left schema update name ≡ true)
+      → entries_from (updated_schema schema update) locals place key item ≡ entries_from schema locals place key item
+  same_from [] place known left = refl
+  same_from (index ∷ rest) place known left =
+      let typed = and_parts (has_kinds schema index.keys) (list_all (λ other. has_kinds schema other.keys) rest) known in
+      let here = kept_key schema update index.keys item typed.0 (λ name has. left name (or_left (is_key_name index.keys name) (list_any (λ other. is_key_name other.keys name) rest) has)) in
+      let more = same_from rest (place + 1) typed.1 (λ name has. left name (or_right (is_key_name index.keys name) (list_any (λ other. is_key_name other.keys name) rest) has)) in
+      λ i. entry_at key place (position_if key.key (here i)) ++ more i
+
+updated_entries : (update : TableUpdate) (drawn : ℕ) (table : CatalogTable) (key : ItemKey) (item : Attributes)
+    → entries_in (Some (updated_table update drawn table)) key item ≡ entries_in (Some table) key item
+updated_entries update drawn table key item =
+    cond_both (is_typed table.schema) _ table (λ t. entries_in (Some t) key item ≡ entries_in (Some table) key item)
+    (λ typed. same_from table.schema update key item table.schema.locals 0
+    (and_parts (list_all (λ index. has_kinds table.schema index.keys) table.schema.locals) _ typed).0 (left_of_local table.schema update))
+    (λ untyped. refl)
+
+pub updates_keep : (name : List ℕ) (update : TableUpdate) (moment : ℕ) (catalog : Catalog) (key : CellKey) (item : Attributes)
+    → entries_of (catalog_after (Change name update) moment catalog) key item ≡ entries_of catalog key item
+updates_keep name update moment catalog (Row key) item = refl
+updates_keep name update moment catalog (Item key) item =
+    ap (λ t. entries_in t key item) (kept_found (Change name update) on (last_drawn catalog) key.table catalog.tables)
+    ∙ by (numbered catalog.tables key.table)
+  where
+    on : Option ℕ
+    on = subject (Change name update) catalog
+
+    by : (o : Option CatalogTable) → entries_in (option_and_then (kept (Change name update) on (last_drawn catalog)) o) key item ≡ entries_in o key item
+    by None = refl
+    by (Some table) =
+        cond_both (is_number on table.number) (Some (updated_table update (last_drawn catalog) table)) (Some table)
+        (λ o. entries_in o key item ≡ entries_in (Some table) key item)
+        (λ concerned. updated_entries update (last_drawn catalog) table key item) (λ other. refl)

@@ -10,12 +10,14 @@ use Rattle.table_schema.specs.declared.schema.Schema.{Schema}
 use Rattle.row_keys.specs.declared.position.Position.{Position}
 use Rattle.row_keys.specs.Keys.{position_order}
 use Rattle.row_keys.specs.Rows.{position_in}
+use Rattle.table_request.specs.declared.tables.TableUpdate.{TableUpdate}
 use Rattle.cell_model.specs.declared.key.ItemKey.{ItemKey}
 use Rattle.cell_model.specs.declared.key.CellKey.{CellKey}
 use Rattle.cell_model.specs.declared.key.CellKey.TheVariants.{Item, Row}
 use Rattle.cell_model.specs.declared.catalog.Catalog.{Catalog}
 use Rattle.cell_model.specs.declared.catalog.CatalogTable.{CatalogTable}
 use Rattle.cell_model.specs.declared.command.CatalogCommand.{CatalogCommand}
+use Rattle.cell_model.specs.declared.command.CatalogCommand.TheVariants.{Change}
 use Rattle.cell_model.specs.Catalogs.{has_table, numbered}
 use Rattle.cell_model.specs.Commands.{catalog_after, is_number, subject}
 use Rattle.cell_model.specs.Keys.{same_key, table_of}
@@ -62,3 +64,9 @@ CommandsSpareEntries =
     (d : CatalogCommand) (moment : ℕ) (catalog : Catalog) (key : CellKey) (item : Attributes)
     → is_number (subject d catalog) (table_of key) ≡ false → has_table catalog (table_of key) ≡ true
     → entries_of (catalog_after d moment catalog) key item ≡ entries_of catalog key item
+
+-- an update of a table (UpdateTable) leaves the entries of every item
+abbrev pub UpdatesKeepEntries : Type 0
+UpdatesKeepEntries =
+    (name : List ℕ) (update : TableUpdate) (moment : ℕ) (catalog : Catalog) (key : CellKey) (item : Attributes)
+    → entries_of (catalog_after (Change name update) moment catalog) key item ≡ entries_of catalog key item

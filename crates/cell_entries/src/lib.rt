@@ -1,7 +1,7 @@
 //! The entries of items in the local indexes of real tables, as a cell keeps them.
 //!
 //! [`entries_of`] answers an item's entries under a catalog, one for each local index of its table whose key the item has: where
-//! the item stands there ([`LocalEntry`]). An entry names its item, and a command that is not on the item's table leaves the
+//! the item stands there ([`LocalEntry`]). An entry names its item, and a command that does not drop the item's table leaves the
 //! item's entries as they are ([`entries_are_lawful`]).
 #![tactic(auto)]
 
