@@ -6,12 +6,14 @@ ghost use Rattle.case_rules.specs.Rows.{is_of, page, page_table};
 ghost use Rattle.case_rules.specs.PageLaws.{own_rows};
 
 use crate::catalog::Catalog;
+use crate::entry::Entry;
 use crate::item::Item;
 use crate::key::Key;
 use crate::question::{Question, Told};
 use crate::rules::Shop;
 use base_types::Seq;
 use item_store::Slot;
+use local_index::Claim;
 use partition::PageRules;
 use std::alloc::{AllocError as NoMemory, Global};
 use std::collections::BTreeMap;
@@ -57,6 +59,7 @@ impl PageRules for Shop {
         alloc: Global,
         _catalog: &Catalog,
         items: &BTreeMap<Key, Slot<Item>>,
+        _entries: &BTreeMap<Entry, Claim>,
         page: &Question,
     ) -> Result<Told, NoMemory> {
         let mut shown = Seq::new(alloc);

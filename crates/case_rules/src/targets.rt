@@ -1,6 +1,6 @@
 //! What a cell needs to know of the shop's commands.
 
-ghost use Rattle.std.specs.Prelude.{◌≡◌, IfOk, OnOk, ◌++◌};
+ghost use Rattle.std.specs.Prelude.{◌≡◌, IfOk, OnOk, ◌++◌, refl};
 ghost use Rattle.std.specs.Option.{option_to_list};
 ghost use Rattle.case_rules.specs.Catalogs.{indexes_in};
 ghost use Rattle.case_rules.specs.Targets.{IsSound, altered, dropped, made, numbers, target};
@@ -97,4 +97,6 @@ impl CommandRules for Shop {
     }
 
     ghost commands = { commands_lawful };
+
+    ghost entries_stay = { λ partitions d moment c k v ok fits altered there. refl };
 }

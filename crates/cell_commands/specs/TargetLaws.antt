@@ -56,7 +56,7 @@ none_dropped : (o : Option ℕ) (n : ℕ) → drops (altered o) n ≡ true → �
 none_dropped None n e = absurd (cc)
 none_dropped (Some m) n e = absurd (cc)
 
-none_altered : (o : Option ℕ) (n : ℕ) → alters (dropped o) n ≡ true → ⊥
+pub none_altered : (o : Option ℕ) (n : ℕ) → alters (dropped o) n ≡ true → ⊥
 none_altered None n e = absurd (cc)
 none_altered (Some m) n e = absurd (cc)
 

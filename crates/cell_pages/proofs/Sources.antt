@@ -11,14 +11,8 @@ use Rattle.cell_model.specs.declared.catalog.CatalogTable.{CatalogTable}
 use Rattle.cell_model.specs.declared.question.PageSource.{PageSource}
 use Rattle.cell_model.specs.declared.question.PageSource.TheVariants as source
 use Rattle.cell_model.specs.Pages.{CellRows, entry_in, item_in, source_rows}
-use Rattle.cell_pages.specs.Walked.{row_under}
+use Rattle.cell_pages.specs.Walked.{IsWalked, row_under}
 use Rattle.cell_pages.proofs.Picked.{picked_as}
-
--- what is read is the table's own rows, or a global index
-abbrev pub IsWalked : PageSource → Type 0
-IsWalked source.Table = Unit {0}
-IsWalked (source.Global index) = Unit {0}
-IsWalked (source.Local place) = ⊥
 
 abbrev as_row : RowKey × Attributes → Position × Attributes
 as_row row = (position row.0 row.0, row.1)

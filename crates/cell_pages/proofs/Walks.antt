@@ -30,8 +30,8 @@ use Rattle.cell_model.specs.Keys.{key_order}
 use Rattle.cell_model.specs.KeyLaws.{key_total}
 use Rattle.cell_model.specs.Pages.{CellRows, is_over, part_of, room_behind, source_rows, taken}
 use Rattle.cell_pages.specs.Asked.{entry_of, is_asked, is_behind, part_in, part_of_rows}
-use Rattle.cell_pages.specs.Walked.{Surround, asked_if, included, is_from, is_reversed, is_up_to, key_at, met, picked, picked_of, position_under, row_under, shown_among}
-use Rattle.cell_pages.proofs.Sources.{IsWalked, source_under}
+use Rattle.cell_pages.specs.Walked.{IsWalked, Surround, asked_if, included, is_from, is_reversed, is_up_to, key_at, met, picked, picked_of, position_under, row_under, shown_among}
+use Rattle.cell_pages.proofs.Sources.{source_under}
 use Rattle.cell_pages.proofs.Takes.{backward_asked, forward_asked, inside, kept_reversed, over_takes}
 
 -- ---- orders
@@ -195,23 +195,24 @@ module _ (table : ℕ) (read : PageSource) (key : CellKey) (at : Position) (is :
       ∙ turned_lt (key_order key (key_at table read end)) (key_before table read end at key is up_to)
 
 -- where two ends are the wrong way round nothing is between them
-pub none_between : {W : Type 0} (low high : Option CellKey) → is_reversed low high ≡ true → (es : List (CellKey × W)) → entries_between key_order (included low) (included high) es ≡ []
-none_between (Some low) (Some high) wrong [] = refl
-none_between (Some low) (Some high) wrong (e ∷ es) =
-    cond-false (range_contains key_order (included (Some low)) (included (Some high)) e.0) _ _ (by (is_le (key_order low e.0)) (is_lt (key_order high e.0)) refl refl)
-    ∙ none_between (Some low) (Some high) wrong es
+pub none_between : {K W : Type 0} {R : K → K → Ordering} → IsTotalOrder R → (low high : Option K) → is_reversed R low high ≡ true → (es : List (K × W))
+    → entries_between R (included low) (included high) es ≡ []
+none_between total (Some low) (Some high) wrong [] = refl
+none_between {R = R} total (Some low) (Some high) wrong (e ∷ es) =
+    cond-false (range_contains R (included (Some low)) (included (Some high)) e.0) _ _ (by (is_le (R low e.0)) (is_lt (R high e.0)) refl refl)
+    ∙ none_between total (Some low) (Some high) wrong es
   where
     clash : (b : Bool) → b ≡ true → b ≡ false → ⊥
     clash b one other = absurd (cc)
 
-    by : (a b : Bool) → is_le (key_order low e.0) ≡ a → is_lt (key_order high e.0) ≡ b → (a && not b) ≡ false
+    by : (a b : Bool) → is_le (R low e.0) ≡ a → is_lt (R high e.0) ≡ b → (a && not b) ≡ false
     by true true from past = refl
     by false b from past = refl
     by true false from past =
-        absurd (clash (is_gt (key_order low high)) wrong
-        (between key_total low e.0 high from (ap is_le (key_total.antisymm e.0 high) ∙ not_lt (key_order high e.0) past)))
-none_between None high wrong es = absurd (cc)
-none_between (Some low) None wrong es = absurd (cc)
+        absurd (clash (is_gt (R low high)) wrong
+        (between total low e.0 high from (ap is_le (total.antisymm e.0 high) ∙ not_lt (R high e.0) past)))
+none_between total None high wrong es = absurd (cc)
+none_between total (Some low) None wrong es = absurd (cc)
 
 -- ---- rows of a page
 
@@ -264,7 +265,7 @@ module _ {W : Type 0} (shown : W → Option Attributes) (page : PageQuestion) (t
   shown_asked (e ∷ es) = one_asked e.0 (shown e.1) (shown_among shown es) _ (shown_asked es)
 
 -- the rows of a list that a page is asked for, as it meets them
-asked_rows_are : (page : PageQuestion) (forward : Bool) (es : Entries)
+pub asked_rows_are : (page : PageQuestion) (forward : Bool) (es : Entries)
     → rows_after position_order forward page.after (filter (inside page) es) ≡ in_direction forward (filter (λ e. is_inside page.span e.0.read && is_behind forward page.after e.0) es)
 asked_rows_are page true es = sym (forward_asked page page.after es)
 asked_rows_are page false es = sym (backward_asked page page.after es) ∙ kept_reversed (λ e. is_inside page.span e.0.read && is_behind false page.after e.0) es

@@ -2,6 +2,7 @@
 use Rattle.std.specs.Prelude.{◌≡◌, ℕ, Bool, true, false, ◌&&◌, nat_eq, List, Option, None, Some, option_map, if◌then◌else◌}
 use Rattle.std.specs.List.{filter_map}
 use Rattle.std.specs.Ordering.{is_gt, is_le}
+use Rattle.std.specs.declared.cmp.Ordering.{Ordering}
 use Rattle.std.specs.declared.ops.Bound.{Bound}
 use Rattle.std.specs.declared.ops.Bound.TheVariants.{Included, Unbounded}
 use Rattle.attr_value.specs.Tree.{Attributes}
@@ -15,11 +16,16 @@ use Rattle.cell_model.specs.declared.question.PageSource.{PageSource}
 use Rattle.cell_model.specs.declared.question.PageSource.TheVariants as source
 use Rattle.cell_model.specs.declared.question.PageQuestion.{PageQuestion}
 use Rattle.cell_model.specs.declared.answer.CatalogAnswer.{CatalogAnswer}
-use Rattle.cell_model.specs.Keys.{key_order}
 use Rattle.cell_model.specs.Pages.{CellRows, part_of, taken}
 use Rattle.cell_pages.specs.Asked.{is_asked}
 
 -- ---- rows
+
+-- what is read is the table's own rows, or a global index
+abbrev pub IsWalked : PageSource → Type 0
+IsWalked source.Table = Unit {0}
+IsWalked (source.Global index) = Unit {0}
+IsWalked (source.Local place) = ⊥
 
 -- where a row of the source stands that is kept under a key: an item of the table, or a row of the global index
 abbrev pub position_under : ℕ → PageSource → CellKey → Option Position
@@ -79,11 +85,11 @@ key_at table (source.Global index) at = Row (record { table = table; index = ind
 key_at table _ at = Item (record { table = table; key = at.read })
 
 -- from a key on, or up to it, the key included; or open
-abbrev pub included : Option CellKey → Bound CellKey
+abbrev pub included : {K : Type 0} → Option K → Bound K
 included None = Unbounded
 included (Some key) = Included key
 
 -- the low end is above the high one
-abbrev pub is_reversed : Option CellKey → Option CellKey → Bool
-is_reversed (Some low) (Some high) = is_gt (key_order low high)
-is_reversed _ _ = false
+abbrev pub is_reversed : {K : Type 0} → (K → K → Ordering) → Option K → Option K → Bool
+is_reversed cmp (Some low) (Some high) = is_gt (cmp low high)
+is_reversed cmp _ _ = false

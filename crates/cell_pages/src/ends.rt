@@ -15,7 +15,7 @@ use std::ops::Bound;
 
 /// Two ends, both included. One that is absent is open.
 #[derive(Drop)]
-pub(crate) struct Ends<T> {
+pub struct Ends<T> {
     pub low: Option<T>,
     pub high: Option<T>,
 }
@@ -73,8 +73,9 @@ fn earlier(end: Option<Position>, other: Option<Position>) -> Option<Position>
     }
 }
 
-/// The ends of a page: those of its span, and where it goes on.
-pub(crate) fn ends_of(alloc: Global, page: &PageQuestion) -> Result<Ends<Position>, NoMemory>
+/// The ends of a page: those of its span, and where it goes on. All that the page is asked for stands between them.
+/// `NoMemory` is for want of memory.
+pub fn ends_of(alloc: Global, page: &PageQuestion) -> Result<Ends<Position>, NoMemory>
     ensures { IfOk result (λ ends. Surround page.now ends.low ends.high) }
 {
     let PositionSpan { low, high } = positions_of(alloc, &page.span)?;
@@ -138,7 +139,7 @@ pub(crate) fn keys_at(table: u64, source: PageSource, ends: Ends<Position>) -> E
 }
 
 /// An end with its key, or open.
-pub(crate) fn end_at(key: &Option<CellKey>) -> Bound<&CellKey>
+pub fn end_at<K>(key: &Option<K>) -> Bound<&K>
     ensures { bound_map (λ end. end.now) result ≡ included key.now }
 {
     match key {
@@ -147,13 +148,13 @@ pub(crate) fn end_at(key: &Option<CellKey>) -> Bound<&CellKey>
     }
 }
 
-impl Ends<CellKey> {
+impl<K: Ord> Ends<K> {
     /// Whether nothing can be between the ends: the low one is above the high one.
-    pub(crate) fn is_reversed(&self) -> bool
-        ensures { result ≡ is_reversed self.now.low self.now.high }
+    pub fn is_reversed(&self) -> bool
+        ensures { result ≡ is_reversed K.cmp self.now.low self.now.high }
     {
         match (&self.low, &self.high) {
-            (Some(low), Some(high)) => low > high,
+            (Some(low), Some(high)) => low.cmp(high).is_gt(),
             _ => false,
         }
     }

@@ -3,11 +3,9 @@
 ghost use Rattle.std.specs.Prelude.{◌≡◌, map, drop, length, IfOk, OnOk};
 ghost use Rattle.row_keys.specs.Rows.{position_in, entered, index_of, local_entries};
 ghost use Rattle.cell_model.specs.Pages.{page_row, item_in, items_of};
-ghost use Rattle.cell_pages.specs.Entered.{entered_if, entered_shown};
-ghost use Rattle.cell_pages.specs.Walked.{shown_among};
+ghost use Rattle.cell_pages.specs.Entered.{entered_if};
 
 use crate::rows::Kept;
-use crate::walk::Keeps;
 use base_types::Seq;
 use cell_model::{CellKey, PageRow};
 use row_keys::{Position, RowKey, position_of};
@@ -78,44 +76,6 @@ fn places_of(
     Ok(places)
 }
 
-/// Enters what a map keeps under a key, where it shows an item of the table that has the index's key.
-fn enter_shown<W: Keeps>(
-    alloc: Global,
-    schema: &Schema,
-    keys: &KeyNames,
-    table: u64,
-    key: &CellKey,
-    kept: &W,
-    places: &mut Places,
-) -> Result<(), NoMemory>
-    ensures { OnOk result (places.new.entries
-        ≡ entered_shown schema.now keys.now table key.now (W.shown kept.now) places.old.entries) }
-{
-    match kept.shown_item() {
-        Some(item) => enter_kept(alloc, schema, keys, table, key, item, places),
-        None => Ok(()),
-    }
-}
-
-/// The positions in the index of the table's items that a map shows. A row costs the logarithm of the rows.
-fn places_among<W: Keeps>(
-    alloc: Global,
-    schema: &Schema,
-    keys: &KeyNames,
-    table: u64,
-    cell: &BTreeMap<CellKey, W>,
-) -> Result<Places, NoMemory>
-    ensures { IfOk result (λ places. places.entries
-        ≡ index_of schema.now keys.now (items_of table (shown_among W.shown cell.now.entries))) }
-{
-    let mut places = BTreeMap::new(alloc);
-    let mut left = cell.iter();
-    while let Some((key, kept)) = left.next_back() {
-        enter_shown(alloc, schema, keys, table, key, kept, &mut places)?;
-    }
-    Ok(places)
-}
-
 /// The rows in the order of their positions.
 fn listed(alloc: Global, places: Places) -> Result<Seq<PageRow>, NoMemory>
     ensures { IfOk result (λ list. list ≡ map page_row places.entries) }
@@ -138,21 +98,4 @@ pub(crate) fn local_rows(
     ensures { IfOk result (λ list. list ≡ map page_row (local_entries schema.now index.now (items_of table kept.now))) }
 {
     listed(alloc, places_of(alloc, schema, &index.keys, table, kept)?)
-}
-
-/// The rows of a local index of a table, in the order of the index, from what a map shows.
-pub(crate) fn local_rows_among<W: Keeps>(
-    alloc: Global,
-    schema: &Schema,
-    index: &LocalIndex,
-    table: u64,
-    cell: &BTreeMap<CellKey, W>,
-) -> Result<Seq<PageRow>, NoMemory>
-    ensures { IfOk result (λ list. list
-        ≡ map page_row (local_entries schema.now index.now (items_of table (shown_among W.shown cell.now.entries)))) }
-{
-    listed(
-        alloc,
-        places_among(alloc, schema, &index.keys, table, cell)?,
-    )
 }

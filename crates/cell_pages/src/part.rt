@@ -66,14 +66,14 @@ fn rows_in(
 }
 
 /// Whether the page has as many rows or bytes as it may.
-pub(crate) fn is_over(room: PageRoom) -> bool
+pub fn is_over(room: PageRoom) -> bool
     ensures { result ≡ is_over room }
 {
     room.rows == Some(0) || room.bytes == 0
 }
 
 /// What a page may still take after one more row.
-pub(crate) fn room_behind(room: PageRoom, item: &SharedItem) -> PageRoom
+pub fn room_behind(room: PageRoom, item: &SharedItem) -> PageRoom
     ensures { result ≡ room_behind room item.now }
 {
     PageRoom {
@@ -124,7 +124,7 @@ fn is_behind(forward: bool, after: Option<&Position>, at: &Position) -> bool
 }
 
 /// Whether a page is asked for the row at the position.
-pub(crate) fn is_asked(page: &PageQuestion, at: &Position) -> bool
+pub fn is_asked(page: &PageQuestion, at: &Position) -> bool
     ensures { result ≡ is_asked page.now at.now }
 {
     is_inside(&page.span, &at.read) && is_behind(page.forward, page.after.as_ref(), at)
@@ -180,7 +180,7 @@ fn part(
 }
 
 /// A page that has no row.
-pub(crate) fn no_row(alloc: Global, page: &PageQuestion) -> CatalogAnswer
+pub fn no_row(alloc: Global, page: &PageQuestion) -> CatalogAnswer
     ensures { result ≡ part_of page.now.room [] }
 {
     CatalogAnswer::Part {

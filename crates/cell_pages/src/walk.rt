@@ -78,11 +78,11 @@ fn picked<W: Keeps>(
 }
 
 /// What comes next in this direction, unless the page is over.
-fn next_kept<'a, W>(
-    range: &mut Range<'a, CellKey, W>,
+pub fn next_kept<'a, K, W>(
+    range: &mut Range<'a, K, W>,
     forward: bool,
     room: PageRoom,
-) -> Option<(&'a CellKey, &'a W)>
+) -> Option<(&'a K, &'a W)>
     ensures none { IfNone result ((is_over room ≡ true) ⊎ (range.old ≡ [])) }
     ensures going { IfSome result (λ next. is_over room ≡ false) }
     ensures next { IfSome result (λ next. in_direction forward range.old ≡ deref_pair next ∷ in_direction forward range.new) }
@@ -105,7 +105,7 @@ fn part_along<W: Keeps>(
     ends: &Ends<CellKey>,
     page: &PageQuestion,
 ) -> Result<CatalogAnswer, NoMemory>
-    requires { is_reversed ends.now.low ends.now.high ≡ false }
+    requires { is_reversed key_order ends.now.low ends.now.high ≡ false }
     ensures { IfOk result (λ answer. answer ≡ page_along W.shown table page.now
         (entries_between key_order (included ends.now.low) (included ends.now.high) map.now.entries)) }
 {

@@ -1,3 +1,4 @@
 pub mod Equalities
 pub mod Schemas
 pub mod Acting
+pub mod Beside

@@ -4,17 +4,18 @@ ghost use Rattle.std.specs.Prelude.{refl};
 ghost use Rattle.cell_model.specs.IndexRows.{numbers_at};
 ghost use Rattle.cell_commands.specs.Targets.{IsSound, target};
 ghost use Rattle.cell_commands.specs.TargetLaws.{commands_lawful};
-ghost use Rattle.cell_rules.specs.Entries.{entries_lawful, table_entries};
+ghost use Rattle.cell_rules.specs.Entries.{entries_lawful, entries_stay, table_entries};
 ghost use Rattle.cell_rules.specs.PageLaws.{own_rows, read_table};
 
 use crate::questions::page_table;
 use crate::rules::TableRules;
-use crate::told::told_of_cell;
+use crate::told::{told_of_items, told_of_rows};
 use cell_catalog::{numbers_at, table_of};
 use cell_commands::{on_table, subject_of};
 use cell_entries::{LocalEntry, entries_of};
 use cell_model::{Catalog, CatalogAnswer, CatalogCommand, CatalogQuestion, CellKey, KeyedAction};
 use item_store::Slot;
+use local_index::Claim;
 use partition::{CellRules, CommandRules, PageRules, TableChange};
 use shared_item::SharedItem;
 use std::alloc::{AllocError as NoMemory, Global};
@@ -69,6 +70,8 @@ impl CommandRules for TableRules {
     }
 
     ghost commands = { commands_lawful };
+
+    ghost entries_stay = { entries_stay };
 }
 
 impl PageRules for TableRules {
@@ -82,9 +85,10 @@ impl PageRules for TableRules {
         alloc: Global,
         catalog: &Catalog,
         items: &BTreeMap<CellKey, Slot<SharedItem>>,
+        entries: &BTreeMap<LocalEntry, Claim>,
         page: &CatalogQuestion,
     ) -> Result<CatalogAnswer, NoMemory> {
-        told_of_cell(alloc, catalog, items, page)
+        told_of_items(alloc, catalog, items, entries, page)
     }
 
     fn page_of_rows(
@@ -93,7 +97,7 @@ impl PageRules for TableRules {
         rows: &BTreeMap<CellKey, SharedItem>,
         page: &CatalogQuestion,
     ) -> Result<CatalogAnswer, NoMemory> {
-        told_of_cell(alloc, catalog, rows, page)
+        told_of_rows(alloc, catalog, rows, page)
     }
 
     ghost own_rows = { own_rows };

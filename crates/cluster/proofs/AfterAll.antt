@@ -9,6 +9,7 @@ use Rattle.txn_core.specs.Service.{Service, History}
 use Rattle.txn_core.specs.Cells.{of_cell}
 use Rattle.txn_core.proofs.Exports.{of_cell_reversed}
 use Rattle.partition.specs.declared.cell.Partition.{Partition}
+use Rattle.planned_changes.specs.Entries.{LocalEntries}
 use Rattle.partition.specs.Says.{Stands}
 use Rattle.control_cell.specs.declared.cell.ControlCell.{ControlCell}
 use Rattle.control_cell.specs.Holding.{Holds}
@@ -42,10 +43,12 @@ module _ {P L : Type 0} where
   last_is_control control (ClusterCell.Partition p) q at is = let below : control < control = at in omega arith
   last_is_control control (ClusterCell.Control c) q at is = cc
 
-module _ {R K V A F C D Q B : Type 0} (S : Service K V A F C D Q B) {O : ord.Ghosts K} {E : eq.Ghosts K} {P : partial.Ghosts K} {N : Type 0} {X : ord.Ghosts N} {Y : eq.Ghosts N} {Z : partial.Ghosts N} where
+module _
+    {R K V A F C D Q B N : Type 0} (S : Service K V A F C D Q B) (L : LocalEntries K V C N)
+    {O : ord.Ghosts K} {E : eq.Ghosts K} {P : partial.Ghosts K} {X : ord.Ghosts N} {Y : eq.Ghosts N} {Z : partial.Ghosts N} where
   -- a cell that stands is in its place
   pub in_place :
-      (i : ℕ) (v : ClusterCell (Partition K V C N O E P X Y Z) (ControlCell R K V A F C D Q B)) (es : History S) → StandsFor S i v es
+      (i : ℕ) (v : ClusterCell (Partition K V C N O E P X Y Z) (ControlCell R K V A F C D Q B)) (es : History S) → StandsFor S L i v es
       → IsInPlace S.control i v
   in_place i (ClusterCell.Partition p) es stands = stands.0
   in_place i (ClusterCell.Control c) es stands = stands.0
@@ -53,20 +56,20 @@ module _ {R K V A F C D Q B : Type 0} (S : Service K V A F C D Q B) {O : ord.Gho
   -- a cell that stands in the control cell's place is it
   pub is_control :
       (i : ℕ) (v : ClusterCell (Partition K V C N O E P X Y Z) (ControlCell R K V A F C D Q B)) (es : History S) → i ≡ S.control
-      → StandsFor S i v es → IsControl v
+      → StandsFor S L i v es → IsControl v
   is_control i (ClusterCell.Partition p) es at stands = let below = stands.0 in absurd (omega arith)
   is_control i (ClusterCell.Control c) es at stands = tt
 
   -- a partition that stands for its entries of a history
   pub partition_stands :
       (i : ℕ) (log : History S) (v : ClusterCell (Partition K V C N O E P X Y Z) (ControlCell R K V A F C D Q B)) (x : Partition K V C N O E P X Y Z)
-      → v ≡ ClusterCell.Partition x → StandsFor S i v (reverse (at_cell cell_of i log)) → Stands S i x (of_cell i (reverse log))
+      → v ≡ ClusterCell.Partition x → StandsFor S L i v (reverse (at_cell cell_of i log)) → Stands S i x (of_cell i (reverse log))
   partition_stands i log v x is stands =
-      (subst (λ z. StandsFor S i z (of_cell i (reverse log))) is (subst (λ es. StandsFor S i v es) (sym (of_cell_reversed i log)) stands)).1
+      (subst (λ z. StandsFor S L i z (of_cell i (reverse log))) is (subst (λ es. StandsFor S L i v es) (sym (of_cell_reversed i log)) stands)).1
 
   pub control_holds :
       (i : ℕ) (log : History S) (v : ClusterCell (Partition K V C N O E P X Y Z) (ControlCell R K V A F C D Q B)) (c : ControlCell R K V A F C D Q B)
-      → v ≡ ClusterCell.Control c → StandsFor S i v (reverse (at_cell cell_of i log)) → Holds S (of_cell S.control (reverse log)) c
+      → v ≡ ClusterCell.Control c → StandsFor S L i v (reverse (at_cell cell_of i log)) → Holds S (of_cell S.control (reverse log)) c
   control_holds i log v c is stands =
-      let here = subst (λ z. StandsFor S i z (of_cell i (reverse log))) is (subst (λ es. StandsFor S i v es) (sym (of_cell_reversed i log)) stands) in
+      let here = subst (λ z. StandsFor S L i z (of_cell i (reverse log))) is (subst (λ es. StandsFor S L i v es) (sym (of_cell_reversed i log)) stands) in
       subst (λ k. Holds S (of_cell k (reverse log)) c) here.0 here.1

@@ -18,6 +18,7 @@ use Rattle.txn_core.specs.Cells.{of_cell, IsRuledByCells}
 use Rattle.txn_core.specs.State.{State, step}
 use Rattle.txn_core.proofs.Exports.{cells_answer}
 use Rattle.partition.specs.declared.cell.Partition.{Partition}
+use Rattle.planned_changes.specs.Entries.{LocalEntries}
 use Rattle.partition.specs.Holds.{Holds as Keeps}
 use Rattle.control_cell.specs.declared.cell.ControlCell.{ControlCell}
 use Rattle.control_cell.specs.declared.commands.CatalogPlan.{CatalogPlan}
@@ -81,7 +82,9 @@ module _ {K V A F C D Q B : Type 0} (S : Service K V A F C D Q B) where
     carried_planned told next is clear =
         let h = there (CatalogPlan.Carried told next) is in ruling_answers law es legal moment d (Ruling.Carries told) h.0 clear h.1.0
 
-  module _ {O : ord.Ghosts K} {E : eq.Ghosts K} {P : partial.Ghosts K} {N : Type 0} {X : ord.Ghosts N} {Y : eq.Ghosts N} {Z : partial.Ghosts N} where
+  module _
+      {N : Type 0} (L : LocalEntries K V C N) {O : ord.Ghosts K} {E : eq.Ghosts K} {P : partial.Ghosts K}
+      {X : ord.Ghosts N} {Y : eq.Ghosts N} {Z : partial.Ghosts N} where
     -- a command that changes nothing leaves what a partition holds
     leaves_partition :
         (i : ℕ) (p : Partition K V C N O E P X Y Z) (w : State K V A C) (f : Feed K V C) (e : Event S) (moment : ℕ) (d : D) (a : Reply S)
@@ -101,21 +104,21 @@ module _ {K V A F C D Q B : Type 0} (S : Service K V A F C D Q B) where
     pub command_leaves :
         {R : Type 0} → OthersLeaveIt R S → (i : ℕ) (v : ClusterCell (Partition K V C N O E P X Y Z) (ControlCell R K V A F C D Q B)) (es : History S)
         (e : Event S) (moment : ℕ) (d : D) (a : Reply S) → is_changed a ≡ false → IsEntry S moment (Message.Command d) a e → IsLegal S (e ∷ es)
-        → StandsFor S i v (of_cell i es) → StandsFor S i v (of_cell i (e ∷ es))
+        → StandsFor S L i v (of_cell i es) → StandsFor S L i v (of_cell i (e ∷ es))
     command_leaves {R} leave i (ClusterCell.Partition p) es e moment d a same is legal stands =
         let over : e.cell ≡ None = legal.1.cell ∙ ap (λ m. sent_to S m) is.message_is in
         let mine = of_cell i es in
-        subst (λ xs. StandsFor {R = R} S i (ClusterCell.Partition p) xs) (sym (of_each S i es e over))
-        (stands.0, leaves_partition i p (state S mine) (feed_after S mine) e moment d a same is stands.1)
+        subst (λ xs. StandsFor {R = R} S L i (ClusterCell.Partition p) xs) (sym (of_each S i es e over))
+        (stands.0, leaves_partition i p (state S mine) (feed_after S mine) e moment d a same is stands.1, stands.2)
     command_leaves {R} leave i (ClusterCell.Control c) es e moment d a same is legal stands =
         let over : e.cell ≡ None = legal.1.cell ∙ ap (λ m. sent_to S m) is.message_is in
         let other = ap (λ x. is_of_control S x e.answer) is.message_is ∙ (ap is_changed is.answer_is ∙ same) in
-        subst (λ xs. StandsFor {R = R} S {O = O} {E = E} {P = P} {N = N} {X = X} {Y = Y} {Z = Z} i (ClusterCell.Control c) xs) (sym (of_each S i es e over))
+        subst (λ xs. StandsFor {R = R} S L {O = O} {E = E} {P = P} {X = X} {Y = Y} {Z = Z} i (ClusterCell.Control c) xs) (sym (of_each S i es e over))
         (stands.0, leave (of_cell i es) e c stands.1 other)
 
     module _ {G : Type 0} where
       -- with a command that changes nothing all cells stand as they are
       pub all_left :
           {R : Type 0} → OthersLeaveIt R S → (cells : List (Box (ClusterCell (Partition K V C N O E P X Y Z) (ControlCell R K V A F C D Q B)) G))
-          (es : History S) (moment : ℕ) (d : D) (a : Reply S) → is_changed a ≡ false → AllStand S cells es → AllStandWith S cells es d moment a
+          (es : History S) (moment : ℕ) (d : D) (a : Reply S) → is_changed a ≡ false → AllStand S L cells es → AllStandWith S L cells es d moment a
       all_left leave cells es moment d a same stand e is legal k b at = command_leaves leave k b.value es e moment d a same is legal (stand k b at)

@@ -4,16 +4,20 @@ use Rattle.std.specs.declared.cmp.Ord as ord
 use Rattle.std.specs.declared.cmp.PartialEq as eq
 use Rattle.std.specs.declared.cmp.PartialOrd as partial
 use Rattle.txn_core.specs.Service.{Service, Event, History}
-use Rattle.txn_core.specs.Legal.{IsLegal, sent_to}
+use Rattle.txn_core.specs.Feeding.{feed_after}
+use Rattle.txn_core.specs.Legal.{IsLegal, sent_to, state}
 use Rattle.txn_core.specs.Cells.{of_cell, reaches}
 use Rattle.partition.specs.declared.cell.Partition.{Partition}
+use Rattle.planned_changes.specs.Entries.{LocalEntries}
 use Rattle.planned_changes.specs.declared.command_rules.TableChange.{TableChange}
-use Rattle.partition.specs.Carrying.{CarriesOwnOut, IsCarriedOut}
+use Rattle.partition.specs.InStep.{StaysInStep}
+use Rattle.partition.specs.Says.{Keeps}
+use Rattle.partition.specs.Carrying.{CarriesOwnEntries, CarriesOwnOut, IsCarriedOut}
 use Rattle.control_cell.specs.declared.cell.ControlCell.{ControlCell}
 use Rattle.control_cell.specs.Holding.{Holds}
 use Rattle.control_cell.specs.Plans.{TakesPlan}
 use Rattle.cluster.specs.declared.cell.ClusterCell.{ClusterCell}
-use Rattle.cluster.specs.Commanding.{CarriesPlanned, TakesCatalog}
+use Rattle.cluster.specs.Commanding.{CarriesPlanned, KeepsAll, TakesCatalog}
 
 module _ {K V A F C D Q B : Type 0} (S : Service K V A F C D Q B) where
   -- an entry over all cells is one of each
@@ -24,28 +28,39 @@ module _ {K V A F C D Q B : Type 0} (S : Service K V A F C D Q B) where
   pub over_all : (moment : ℕ) (d : D) (es : History S) (e : Event S) → IsCarriedOut S moment d e → IsLegal S (e ∷ es) → e.cell ≡ None
   over_all moment d es e is legal = legal.1.cell ∙ ap (λ m. sent_to S m) is.message
 
-module _ {R K V A F C D Q B : Type 0} (S : Service K V A F C D Q B) {O : ord.Ghosts K} {E : eq.Ghosts K} {P : partial.Ghosts K} {N : Type 0} {X : ord.Ghosts N} {Y : eq.Ghosts N} {Z : partial.Ghosts N} where
+module _
+    {R K V A F C D Q B N : Type 0} (S : Service K V A F C D Q B) (L : LocalEntries K V C N)
+    {O : ord.Ghosts K} {E : eq.Ghosts K} {P : partial.Ghosts K} {X : ord.Ghosts N} {Y : eq.Ghosts N} {Z : partial.Ghosts N} where
+  -- a partition that holds what it held, in step where it was, stands for all that it stood for
+  pub keeps_all :
+      (v : ClusterCell (Partition K V C N O E P X Y Z) (ControlCell R K V A F C D Q B)) (p q : Partition K V C N O E P X Y Z)
+      → v ≡ ClusterCell.Partition p → ((i : ℕ) → Keeps S i p q) → StaysInStep S L p q → KeepsAll S L v (ClusterCell.Partition q)
+  keeps_all v p q is keeps steps =
+      subst (λ x. KeepsAll S L x (ClusterCell.Partition q)) (sym is)
+      (λ i es stands. (stands.0, keeps i (state S es) (feed_after S es) stands.1, steps stands.2))
+
   module _ (target : D → C → TableChange) (numbers : C → ℕ → List ℕ) where
     pub carries_planned :
         (v : ClusterCell (Partition K V C N O E P X Y Z) (ControlCell R K V A F C D Q B)) (p q : Partition K V C N O E P X Y Z)
-        → v ≡ ClusterCell.Partition p → (moment : ℕ) → ((i : ℕ) → CarriesOwnOut S target numbers i p q moment)
-        → CarriesPlanned S target numbers v (ClusterCell.Partition q) moment
-    carries_planned v p q is moment carries =
-        subst (λ x. CarriesPlanned S target numbers x (ClusterCell.Partition q) moment) (sym is)
-        (λ i es e d below planned out legal stands. (stands.0, carries i d es e planned out legal stands.1))
+        → v ≡ ClusterCell.Partition p → (moment : ℕ) → ((i : ℕ) → CarriesOwnOut S L target numbers i p q moment)
+        → ((i : ℕ) → CarriesOwnEntries S L target numbers i p q moment)
+        → CarriesPlanned S L target numbers v (ClusterCell.Partition q) moment
+    carries_planned v p q is moment carries steps =
+        subst (λ x. CarriesPlanned S L target numbers x (ClusterCell.Partition q) moment) (sym is)
+        (λ i es e d below planned out legal stands. (stands.0, carries i d es e planned out legal stands.1, steps i d es e planned out legal stands.1 stands.2))
 
     -- the control cell is none of them
     pub control_carries :
         (v : ClusterCell (Partition K V C N O E P X Y Z) (ControlCell R K V A F C D Q B)) (moment : ℕ)
-        → ((p : Partition K V C N O E P X Y Z) → v ≡ ClusterCell.Partition p → ⊥) → CarriesPlanned S target numbers v v moment
+        → ((p : Partition K V C N O E P X Y Z) → v ≡ ClusterCell.Partition p → ⊥) → CarriesPlanned S L target numbers v v moment
     control_carries (ClusterCell.Partition p) moment other = absurd (other p refl)
     control_carries (ClusterCell.Control c) moment other = λ i es e d below planned out legal stands. absurd (let at = stands.0 in omega arith)
 
   pub takes_catalog :
       (v : ClusterCell (Partition K V C N O E P X Y Z) (ControlCell R K V A F C D Q B)) (c d : ControlCell R K V A F C D Q B)
-      → v ≡ ClusterCell.Control c → (moment : ℕ) (next : C) → TakesPlan S c d moment next → TakesCatalog S v (ClusterCell.Control d) moment next
+      → v ≡ ClusterCell.Control c → (moment : ℕ) (next : C) → TakesPlan S c d moment next → TakesCatalog S L v (ClusterCell.Control d) moment next
   takes_catalog v c d is moment next takes =
-      subst (λ x. TakesCatalog S x (ClusterCell.Control d) moment next) (sym is)
+      subst (λ x. TakesCatalog S L x (ClusterCell.Control d) moment next) (sym is)
       (λ i es e command at made out legal stands. (
         stands.0,
         subst (λ own. Holds S own d) (sym (of_each S i es e (over_all S moment command es e out legal)))

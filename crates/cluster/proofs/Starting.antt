@@ -7,6 +7,8 @@ use Rattle.std.specs.declared.cmp.PartialOrd as partial
 use Rattle.turnstile.proofs.Basics.{get_push}
 use Rattle.txn_core.specs.Service.{Service, History}
 use Rattle.partition.specs.declared.cell.Partition.{Partition}
+use Rattle.planned_changes.specs.Entries.{LocalEntries}
+use Rattle.partition.specs.InStep.{IsInStep}
 use Rattle.partition.specs.Says.{Stands}
 use Rattle.control_cell.specs.declared.cell.ControlCell.{ControlCell}
 use Rattle.control_cell.specs.Holding.{Holds}
@@ -21,13 +23,15 @@ one_more {X} T xs y all is each last i x at =
     ⊎_elim (λ old. each i x old) (λ new. subst (λ (z : ℕ × X). T z.0 z.1) (λ j. (sym new.0 j, new.1 j)) last)
     (get_push xs y x i (subst (λ l. slice_get l i ≡ Some x) is at))
 
-module _ {R K V A F C D Q B : Type 0} (S : Service K V A F C D Q B) {O : ord.Ghosts K} {E : eq.Ghosts K} {P : partial.Ghosts K} {N : Type 0} {X : ord.Ghosts N} {Y : eq.Ghosts N} {Z : partial.Ghosts N} where
+module _
+    {R K V A F C D Q B N : Type 0} (S : Service K V A F C D Q B) (L : LocalEntries K V C N)
+    {O : ord.Ghosts K} {E : eq.Ghosts K} {P : partial.Ghosts K} {X : ord.Ghosts N} {Y : eq.Ghosts N} {Z : partial.Ghosts N} where
   pub partition_stands :
       (i : ℕ) (v : ClusterCell (Partition K V C N O E P X Y Z) (ControlCell R K V A F C D Q B)) (p : Partition K V C N O E P X Y Z) (es : History S)
-      → v ≡ ClusterCell.Partition p → i < S.control → Stands S i p es → StandsFor S i v es
-  partition_stands i v p es is below stands = subst (λ x. StandsFor S i x es) (sym is) (below, stands)
+      → v ≡ ClusterCell.Partition p → i < S.control → Stands S i p es → IsInStep S L p → StandsFor S L i v es
+  partition_stands i v p es is below stands step = subst (λ x. StandsFor S L i x es) (sym is) (below, stands, step)
 
   pub control_stands :
       (i : ℕ) (v : ClusterCell (Partition K V C N O E P X Y Z) (ControlCell R K V A F C D Q B)) (c : ControlCell R K V A F C D Q B) (es : History S)
-      → v ≡ ClusterCell.Control c → i ≡ S.control → Holds S es c → StandsFor S i v es
-  control_stands i v c es is at holds = subst (λ x. StandsFor S i x es) (sym is) (at, holds)
+      → v ≡ ClusterCell.Control c → i ≡ S.control → Holds S es c → StandsFor S L i v es
+  control_stands i v c es is at holds = subst (λ x. StandsFor S L i x es) (sym is) (at, holds)

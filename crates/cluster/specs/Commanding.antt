@@ -9,6 +9,7 @@ use Rattle.txn_core.specs.State.{State}
 use Rattle.txn_core.specs.Legal.{state, IsLegal}
 use Rattle.txn_core.specs.Cells.{of_cell, IsClearThere, IsFirstHolder}
 use Rattle.partition.specs.declared.cell.Partition.{Partition}
+use Rattle.planned_changes.specs.Entries.{LocalEntries}
 use Rattle.planned_changes.specs.declared.command_rules.TableChange.{TableChange}
 use Rattle.partition.specs.Carrying.{IsCarriedOut}
 use Rattle.partition.specs.Plans.{IsPlanned}
@@ -38,22 +39,24 @@ module _ {K V A F C D Q B : Type 0} (S : Service K V A F C D Q B) where
   TellsFirst at d None = (j : ℕ) → IsClearThere S (at j) d j
   TellsFirst at d (Some n) = (i : ℕ) × IsFirstHolder S (at i) d i n × ((j : ℕ) → j < i → IsClearThere S (at j) d j)
 
-module _ {R K V A F C D Q B : Type 0} (S : Service K V A F C D Q B) {O : ord.Ghosts K} {E : eq.Ghosts K} {P : partial.Ghosts K} {N : Type 0} {X : ord.Ghosts N} {Y : eq.Ghosts N} {Z : partial.Ghosts N} where
+module _
+    {R K V A F C D Q B N : Type 0} (S : Service K V A F C D Q B) (L : LocalEntries K V C N)
+    {O : ord.Ghosts K} {E : eq.Ghosts K} {P : partial.Ghosts K} {X : ord.Ghosts N} {Y : eq.Ghosts N} {Z : partial.Ghosts N} where
   -- of all entries for which the cell stands, the plan is what their catalog says of the command
   abbrev pub TellsPlan : ClusterCell (Partition K V C N O E P X Y Z) (ControlCell R K V A F C D Q B) → D → ℕ → CatalogPlan B C → Type 0
-  TellsPlan c d moment plan = (i : ℕ) (es : History S) → StandsFor S i c es → IsPlan S (state S es).catalog d moment plan
+  TellsPlan c d moment plan = (i : ℕ) (es : History S) → StandsFor S L i c es → IsPlan S (state S es).catalog d moment plan
 
   -- of a partition: and this is the least number of those that hold an item of the command's table in the cell
   abbrev pub TellsHolding : ClusterCell (Partition K V C N O E P X Y Z) (ControlCell R K V A F C D Q B) → D → Option ℕ → Type 0
   TellsHolding c d holder =
-      (i : ℕ) (es : History S) → i < S.control → StandsFor S i c es
+      (i : ℕ) (es : History S) → i < S.control → StandsFor S L i c es
       → MatchOption holder (IsClearThere S (state S es) d i) (λ n. IsFirstHolder S (state S es) d i n)
 
   -- the value stands for all that it stood for
   abbrev pub KeepsAll :
       ClusterCell (Partition K V C N O E P X Y Z) (ControlCell R K V A F C D Q B) → ClusterCell (Partition K V C N O E P X Y Z) (ControlCell R K V A F C D Q B)
       → Type 0
-  KeepsAll c d = (i : ℕ) (es : History S) → StandsFor S i c es → StandsFor S i d es
+  KeepsAll c d = (i : ℕ) (es : History S) → StandsFor S L i c es → StandsFor S L i d es
 
   -- with this catalog the control cell stands with the entry of the command that makes it
   abbrev pub TakesCatalog :
@@ -61,12 +64,12 @@ module _ {R K V A F C D Q B : Type 0} (S : Service K V A F C D Q B) {O : ord.Gho
       → ℕ → C → Type 0
   TakesCatalog old new moment next =
       (i : ℕ) (es : History S) (e : Event S) (d : D) → i ≡ S.control → next ≡ S.core.change d moment (own S es i).catalog → IsCarriedOut S moment d e
-      → IsLegal S (e ∷ es) → StandsFor S i old (of_cell i es) → StandsFor S i new (of_cell i (e ∷ es))
+      → IsLegal S (e ∷ es) → StandsFor S L i old (of_cell i es) → StandsFor S L i new (of_cell i (e ∷ es))
 
   module _ (target : D → C → TableChange) (numbers : C → ℕ → List ℕ) where
     -- the cell i, where it is a partition, has planned the command
     abbrev pub HasPlanned : ℕ → ClusterCell (Partition K V C N O E P X Y Z) (ControlCell R K V A F C D Q B) → D → ℕ → Type 0
-    HasPlanned i (ClusterCell.Partition p) d moment = IsPlanned S target numbers i p d moment
+    HasPlanned i (ClusterCell.Partition p) d moment = IsPlanned S L target numbers i p d moment
     HasPlanned i (ClusterCell.Control c) d moment = Unit {0}
 
     -- a partition that had planned a command stands with the command's entry
@@ -75,12 +78,12 @@ module _ {R K V A F C D Q B : Type 0} (S : Service K V A F C D Q B) {O : ord.Gho
         → ℕ → Type 0
     CarriesPlanned old new moment =
         (i : ℕ) (es : History S) (e : Event S) (d : D) → i < S.control → HasPlanned i old d moment → IsCarriedOut S moment d e
-        → IsLegal S (e ∷ es) → StandsFor S i old (of_cell i es) → StandsFor S i new (of_cell i (e ∷ es))
+        → IsLegal S (e ∷ es) → StandsFor S L i old (of_cell i es) → StandsFor S L i new (of_cell i (e ∷ es))
 
   module _ {G : Type 0} where
     -- each cell stands for its entries of the history
     abbrev pub AllStand : List (Box (ClusterCell (Partition K V C N O E P X Y Z) (ControlCell R K V A F C D Q B)) G) → History S → Type 0
-    AllStand cells es = EachSo cells (λ i b. StandsFor S i b.value (of_cell i es))
+    AllStand cells es = EachSo cells (λ i b. StandsFor S L i b.value (of_cell i es))
 
     -- each does so with each entry that carries the command out
     abbrev pub AllStandAfter : List (Box (ClusterCell (Partition K V C N O E P X Y Z) (ControlCell R K V A F C D Q B)) G) → History S → D → ℕ → Type 0
@@ -103,5 +106,5 @@ module _ {R K V A F C D Q B : Type 0} (S : Service K V A F C D Q B) {O : ord.Gho
       CarriedBefore k cells es d moment =
           EachSo cells
           (λ i b.
-          (i < k → (e : Event S) → IsCarriedOut S moment d e → IsLegal S (e ∷ es) → StandsFor S i b.value (of_cell i (e ∷ es)))
-          × (k ≤ i → StandsFor S i b.value (of_cell i es) × HasPlanned target numbers i b.value d moment))
+          (i < k → (e : Event S) → IsCarriedOut S moment d e → IsLegal S (e ∷ es) → StandsFor S L i b.value (of_cell i (e ∷ es)))
+          × (k ≤ i → StandsFor S L i b.value (of_cell i es) × HasPlanned target numbers i b.value d moment))

@@ -5,6 +5,8 @@ use Rattle.std.specs.declared.cmp.PartialEq as eq
 use Rattle.std.specs.declared.cmp.PartialOrd as partial
 use Rattle.txn_core.specs.Service.{Service, History}
 use Rattle.partition.specs.declared.cell.Partition.{Partition}
+use Rattle.planned_changes.specs.Entries.{LocalEntries}
+use Rattle.partition.specs.InStep.{IsInStep}
 use Rattle.partition.specs.Says.{Stands}
 use Rattle.control_cell.specs.declared.cell.ControlCell.{ControlCell}
 use Rattle.control_cell.specs.Holding.{Holds}
@@ -20,8 +22,11 @@ module _ {P L : Type 0} where
   IsInPlace control i (ClusterCell.Partition p) = i < control
   IsInPlace control i (ClusterCell.Control c) = i ≡ control
 
-module _ {R K V A F C D Q B : Type 0} (S : Service K V A F C D Q B) {O : ord.Ghosts K} {E : eq.Ghosts K} {P : partial.Ghosts K} {N : Type 0} {X : ord.Ghosts N} {Y : eq.Ghosts N} {Z : partial.Ghosts N} where
-  -- the value is, as the cell i, what these entries make of it, the newest first: the control cell comes after the partitions
+module _
+    {R K V A F C D Q B N : Type 0} (S : Service K V A F C D Q B) (L : LocalEntries K V C N)
+    {O : ord.Ghosts K} {E : eq.Ghosts K} {P : partial.Ghosts K} {X : ord.Ghosts N} {Y : eq.Ghosts N} {Z : partial.Ghosts N} where
+  -- the value is, as the cell i, what these entries make of it, the newest first, and a partition's local entries are in step with
+  -- its items: the control cell comes after the partitions
   abbrev pub StandsFor : ℕ → ClusterCell (Partition K V C N O E P X Y Z) (ControlCell R K V A F C D Q B) → History S → Type 0
-  StandsFor i (ClusterCell.Partition p) es = (i < S.control) × Stands S i p es
+  StandsFor i (ClusterCell.Partition p) es = (i < S.control) × Stands S i p es × IsInStep S L p
   StandsFor i (ClusterCell.Control c) es = (i ≡ S.control) × Holds S es c

@@ -28,10 +28,10 @@ pub(crate) fn in_the_way<R: CommandRules + PageRules>(
 ) -> Option<u64>
     requires cells { (2 ≤ turnstile.now.id.slots) × (turnstile.now.id.slots ≤ 65) }
     requires count { length turns.old.values.items ≡ turnstile.now.id.slots }
-    requires stand { AllStand (R.protocol (partitions_of turnstile.now)) turns.old.values.items (reverse pass.now.front) }
+    requires stand { AllStand (R.protocol (partitions_of turnstile.now)) R.locals turns.old.values.items (reverse pass.now.front) }
     ensures turns { turns.new ≡ record turns.old { values = turns.new.values } }
     ensures count { length turns.new.values.items ≡ length turns.old.values.items }
-    ensures stand { AllStand (R.protocol (partitions_of turnstile.now)) turns.new.values.items (reverse pass.now.front) }
+    ensures stand { AllStand (R.protocol (partitions_of turnstile.now)) R.locals turns.new.values.items (reverse pass.now.front) }
     ensures tells { TellsFirst (R.protocol (partitions_of turnstile.now))
         (own (R.protocol (partitions_of turnstile.now)) (reverse pass.now.front)) command.now result }
 {
@@ -55,11 +55,11 @@ fn plan_each<R: CommandRules + PageRules>(
 ) -> Result<(), NoMemory>
     requires cells { (2 ≤ turnstile.now.id.slots) × (turnstile.now.id.slots ≤ 65) }
     requires count { length turns.old.values.items ≡ turnstile.now.id.slots }
-    requires stand { AllStand (R.protocol (partitions_of turnstile.now)) turns.old.values.items (reverse pass.now.front) }
+    requires stand { AllStand (R.protocol (partitions_of turnstile.now)) R.locals turns.old.values.items (reverse pass.now.front) }
     ensures turns { turns.new ≡ record turns.old { values = turns.new.values } }
     ensures count { length turns.new.values.items ≡ length turns.old.values.items }
-    ensures stand { AllStand (R.protocol (partitions_of turnstile.now)) turns.new.values.items (reverse pass.now.front) }
-    ensures planned { OnOk result (PlannedBefore (R.protocol (partitions_of turnstile.now)) R.target R.numbers (partitions_of turnstile.now)
+    ensures stand { AllStand (R.protocol (partitions_of turnstile.now)) R.locals turns.new.values.items (reverse pass.now.front) }
+    ensures planned { OnOk result (PlannedBefore (R.protocol (partitions_of turnstile.now)) R.locals R.target R.numbers (partitions_of turnstile.now)
         turns.new.values.items command.now pass.now.moment) }
 {
     let moment = pass.moment();
@@ -77,10 +77,10 @@ fn abandon_all<R: CommandRules + PageRules>(
 )
     requires cells { (2 ≤ turnstile.now.id.slots) × (turnstile.now.id.slots ≤ 65) }
     requires count { length turns.old.values.items ≡ turnstile.now.id.slots }
-    requires stand { AllStand (R.protocol (partitions_of turnstile.now)) turns.old.values.items (reverse pass.now.front) }
+    requires stand { AllStand (R.protocol (partitions_of turnstile.now)) R.locals turns.old.values.items (reverse pass.now.front) }
     ensures turns { turns.new ≡ record turns.old { values = turns.new.values } }
     ensures count { length turns.new.values.items ≡ length turns.old.values.items }
-    ensures stand { AllStand (R.protocol (partitions_of turnstile.now)) turns.new.values.items (reverse pass.now.front) }
+    ensures stand { AllStand (R.protocol (partitions_of turnstile.now)) R.locals turns.new.values.items (reverse pass.now.front) }
 {
     let _ = pass;
     for i in 0..partitions(turnstile) {
@@ -97,11 +97,11 @@ fn carry_out_each<R: CommandRules + PageRules>(
 )
     requires cells { (2 ≤ turnstile.now.id.slots) × (turnstile.now.id.slots ≤ 65) }
     requires count { length turns.old.values.items ≡ turnstile.now.id.slots }
-    requires ready { CarriedBefore (R.protocol (partitions_of turnstile.now)) R.target R.numbers 0 turns.old.values.items
+    requires ready { CarriedBefore (R.protocol (partitions_of turnstile.now)) R.locals R.target R.numbers 0 turns.old.values.items
         (reverse pass.now.front) command.now pass.now.moment }
     ensures turns { turns.new ≡ record turns.old { values = turns.new.values } }
     ensures count { length turns.new.values.items ≡ length turns.old.values.items }
-    ensures carried { CarriedBefore (R.protocol (partitions_of turnstile.now)) R.target R.numbers (partitions_of turnstile.now)
+    ensures carried { CarriedBefore (R.protocol (partitions_of turnstile.now)) R.locals R.target R.numbers (partitions_of turnstile.now)
         turns.new.values.items (reverse pass.now.front) command.now pass.now.moment }
 {
     let _ = pass;
@@ -122,14 +122,14 @@ pub(crate) fn carry_out<R: CommandRules + PageRules>(
 ) -> Result<(), NoMemory>
     requires cells { (2 ≤ turnstile.now.id.slots) × (turnstile.now.id.slots ≤ 65) }
     requires count { length turns.old.values.items ≡ turnstile.now.id.slots }
-    requires stand { AllStand (R.protocol (partitions_of turnstile.now)) turns.old.values.items (reverse pass.now.front) }
+    requires stand { AllStand (R.protocol (partitions_of turnstile.now)) R.locals turns.old.values.items (reverse pass.now.front) }
     requires catalog { catalog ≡ (R.protocol (partitions_of turnstile.now)).core.change command.now pass.now.moment
         (own (R.protocol (partitions_of turnstile.now)) (reverse pass.now.front) (partitions_of turnstile.now)).catalog }
     ensures turns { turns.new ≡ record turns.old { values = turns.new.values } }
     ensures count { length turns.new.values.items ≡ length turns.old.values.items }
-    ensures carried { OnOk result (AllStandAfter (R.protocol (partitions_of turnstile.now)) turns.new.values.items (reverse pass.now.front)
+    ensures carried { OnOk result (AllStandAfter (R.protocol (partitions_of turnstile.now)) R.locals turns.new.values.items (reverse pass.now.front)
         command.now pass.now.moment) }
-    ensures kept { OnErr result (AllStand (R.protocol (partitions_of turnstile.now)) turns.new.values.items (reverse pass.now.front)) }
+    ensures kept { OnErr result (AllStand (R.protocol (partitions_of turnstile.now)) R.locals turns.new.values.items (reverse pass.now.front)) }
 {
     if let Err(refused) = plan_each::<R>(turnstile, alloc, pass, turns, command) {
         abandon_all::<R>(turnstile, pass, turns);

@@ -27,10 +27,10 @@ fn plan_there<R: CommandRules + PageRules>(
 ) -> Result<CatalogPlan<R::Told, R::Catalog>, NoMemory>
     requires cells { (2 ≤ turnstile.now.id.slots) × (turnstile.now.id.slots ≤ 65) }
     requires count { length turns.old.values.items ≡ turnstile.now.id.slots }
-    requires stand { AllStand (R.protocol (partitions_of turnstile.now)) turns.old.values.items (reverse pass.now.front) }
+    requires stand { AllStand (R.protocol (partitions_of turnstile.now)) R.locals turns.old.values.items (reverse pass.now.front) }
     ensures turns { turns.new ≡ record turns.old { values = turns.new.values } }
     ensures count { length turns.new.values.items ≡ length turns.old.values.items }
-    ensures stand { AllStand (R.protocol (partitions_of turnstile.now)) turns.new.values.items (reverse pass.now.front) }
+    ensures stand { AllStand (R.protocol (partitions_of turnstile.now)) R.locals turns.new.values.items (reverse pass.now.front) }
     ensures plan { IfOk result (λ plan. IsPlan (R.protocol (partitions_of turnstile.now))
         (own (R.protocol (partitions_of turnstile.now)) (reverse pass.now.front) (partitions_of turnstile.now)).catalog
         command.now pass.now.moment plan) }
@@ -51,15 +51,15 @@ pub(crate) fn answer_all<R: CommandRules + PageRules>(
 ) -> Result<Reply<R>, NoMemory>
     requires cells { (2 ≤ turnstile.now.id.slots) × (turnstile.now.id.slots ≤ 65) }
     requires count { length turns.old.values.items ≡ turnstile.now.id.slots }
-    requires stand { AllStand (R.protocol (partitions_of turnstile.now)) turns.old.values.items (reverse pass.now.front) }
+    requires stand { AllStand (R.protocol (partitions_of turnstile.now)) R.locals turns.old.values.items (reverse pass.now.front) }
     requires legal { IsLegalLog (R.protocol (partitions_of turnstile.now)) pass.now.front }
     ensures turns { turns.new ≡ record turns.old { values = turns.new.values } }
     ensures count { length turns.new.values.items ≡ length turns.old.values.items }
     ensures answers { IfOk result (λ a. IsAnswer (R.protocol (partitions_of turnstile.now)) (reverse pass.now.front) pass.now.moment
         (Message.Command command.now) a) }
-    ensures stand { IfOk result (λ a. AllStandWith (R.protocol (partitions_of turnstile.now)) turns.new.values.items (reverse pass.now.front)
+    ensures stand { IfOk result (λ a. AllStandWith (R.protocol (partitions_of turnstile.now)) R.locals turns.new.values.items (reverse pass.now.front)
         command.now pass.now.moment a) }
-    ensures kept { OnErr result (AllStand (R.protocol (partitions_of turnstile.now)) turns.new.values.items (reverse pass.now.front)) }
+    ensures kept { OnErr result (AllStand (R.protocol (partitions_of turnstile.now)) R.locals turns.new.values.items (reverse pass.now.front)) }
 {
     others_leave_it::<R>();
     match plan_there::<R>(turnstile, alloc, pass, turns, command)? {

@@ -33,12 +33,12 @@ fn count_all<E: EntryOf<TableWorld<R>, Event<R>>, R: CommandRules + PageRules>(
     requires entry { E.entry ≡ event_of pass.old None (Message.Command command.now) answer.now }
     requires fits { Fits (R.protocol (partitions_of turnstile.now)) turnstile.now.id.slots pass.old.front
         (event_of pass.old None (Message.Command command.now) answer.now) }
-    requires stand { AllStand (R.protocol (partitions_of turnstile.now)) turns.old.values.items
+    requires stand { AllStand (R.protocol (partitions_of turnstile.now)) R.locals turns.old.values.items
         (event_of pass.old None (Message.Command command.now) answer.now ∷ reverse pass.old.front) }
     ensures pass { pass.new ≡ record pass.old { front = pass.new.front } }
     ensures turns { turns.new ≡ record turns.old { counted = true } }
     ensures ends { Ends pass_of pass.old.number pass.old.front (event_of pass.old None (Message.Command command.now) answer.now) pass.new.front }
-    ensures stand { AllStand (R.protocol (partitions_of turnstile.now)) turns.new.values.items (reverse pass.new.front) }
+    ensures stand { AllStand (R.protocol (partitions_of turnstile.now)) R.locals turns.new.values.items (reverse pass.new.front) }
 {
     turnstile.commit_all::<E>(pass, turns);
 }
@@ -55,7 +55,7 @@ fn take_turns<R: CommandRules + PageRules, T: Wait>(
     ensures turns { IfOk result (λ t. (length t.values.items ≡ turnstile.now.id.slots) × (t.counted ≡ false)) }
     ensures pass { IfOk result (λ t. pass.new ≡ record pass.old { used = pass.old.used + 1; front = pass.new.front; turns = pass.new.turns }) }
     ensures holds { IfOk result (λ t. HoldsAll pass.new t.numbers.items) }
-    ensures stand { IfOk result (λ t. AllStand (R.protocol (partitions_of turnstile.now)) t.values.items (reverse pass.new.front)) }
+    ensures stand { IfOk result (λ t. AllStand (R.protocol (partitions_of turnstile.now)) R.locals t.values.items (reverse pass.new.front)) }
     ensures trail { IfOk result (λ t. Trail pass_of pass.old.number pass.old.front [] pass.new.front) }
     ensures no_memory { result ≡ Err StepError.NoMemory → AddsNone (R.protocol (partitions_of turnstile.now)) pass.old pass.new }
     ensures spent { result ≡ Err StepError.Spent ↔ (pass.old.used ≡ most_units) }

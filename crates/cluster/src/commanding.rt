@@ -18,7 +18,7 @@ pub(crate) fn plan_of<R: CommandRules>(
     moment: u64,
 ) -> Result<CatalogPlan<R::Told, R::Catalog>, NoMemory>
     requires { IsControl cell.now }
-    ensures { IfOk result (λ plan. (n : ℕ) → TellsPlan (R.protocol n) cell.now command.now moment plan) }
+    ensures { IfOk result (λ plan. (n : ℕ) → TellsPlan (R.protocol n) R.locals cell.now command.now moment plan) }
 {
     let ClusterCell::Control(control) = cell else {
         unreachable!()
@@ -28,7 +28,7 @@ pub(crate) fn plan_of<R: CommandRules>(
 
 /// The least number of the transactions that hold an item of a command's table in a partition; none, where no item of it is held.
 pub(crate) fn holder_in<R: CommandRules>(cell: &CellOf<R>, command: &R::Command) -> Option<u64>
-    ensures { (n : ℕ) → TellsHolding (R.protocol n) cell.now command.now result }
+    ensures { (n : ℕ) → TellsHolding (R.protocol n) R.locals cell.now command.now result }
 {
     match cell {
         ClusterCell::Partition(partition) => partition::first_holder::<R>(partition, command),
@@ -44,9 +44,9 @@ pub(crate) fn plan_in<R: CommandRules>(
     command: &R::Command,
     moment: u64,
 ) -> Result<(), NoMemory>
-    ensures planned { OnOk result ((n : ℕ) (es : History (R.protocol n)) → StandsFor (R.protocol n) here cell.old es
-        → HasPlanned (R.protocol n) R.target R.numbers here cell.new command.now moment) }
-    ensures kept { (n : ℕ) → KeepsAll (R.protocol n) cell.old cell.new }
+    ensures planned { OnOk result ((n : ℕ) (es : History (R.protocol n)) → StandsFor (R.protocol n) R.locals here cell.old es
+        → HasPlanned (R.protocol n) R.locals R.target R.numbers here cell.new command.now moment) }
+    ensures kept { (n : ℕ) → KeepsAll (R.protocol n) R.locals cell.old cell.new }
 {
     match cell {
         ClusterCell::Partition(partition) => {
@@ -58,7 +58,7 @@ pub(crate) fn plan_in<R: CommandRules>(
 
 /// Gives up what is planned in a partition.
 pub(crate) fn abandon_in<R: CommandRules>(cell: &mut CellOf<R>)
-    ensures { (n : ℕ) → KeepsAll (R.protocol n) cell.old cell.new }
+    ensures { (n : ℕ) → KeepsAll (R.protocol n) R.locals cell.old cell.new }
 {
     if let ClusterCell::Partition(partition) = cell {
         partition::abandon_catalog::<R>(partition);
@@ -67,7 +67,7 @@ pub(crate) fn abandon_in<R: CommandRules>(cell: &mut CellOf<R>)
 
 /// Carries out what is planned in a partition.
 pub(crate) fn carry_out_in<R: CommandRules>(cell: &mut CellOf<R>)
-    ensures { (n moment : ℕ) → CarriesPlanned (R.protocol n) R.target R.numbers cell.old cell.new moment }
+    ensures { (n moment : ℕ) → CarriesPlanned (R.protocol n) R.locals R.target R.numbers cell.old cell.new moment }
 {
     if let ClusterCell::Partition(partition) = cell {
         partition::commit_catalog::<R>(partition);
@@ -76,7 +76,7 @@ pub(crate) fn carry_out_in<R: CommandRules>(cell: &mut CellOf<R>)
 
 /// Has the control cell take the catalog that a command makes.
 pub(crate) fn take_catalog<R: CommandRules>(cell: &mut CellOf<R>, catalog: R::Catalog)
-    ensures { (n moment : ℕ) → TakesCatalog (R.protocol n) cell.old cell.new moment catalog }
+    ensures { (n moment : ℕ) → TakesCatalog (R.protocol n) R.locals cell.old cell.new moment catalog }
 {
     if let ClusterCell::Control(control) = cell {
         control.commit_catalog(catalog);

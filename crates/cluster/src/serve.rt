@@ -20,9 +20,9 @@ pub(crate) fn serve<R: PageRules>(
 where
     R::Fault: Copy,
     requires { (n : ℕ) → Serves (R.protocol n) cell.old message }
-    ensures answers { IfOk result (λ a. (n : ℕ) → ServeAnswers (R.protocol n) cell.old message moment a) }
-    ensures stands { IfOk result (λ a. (n : ℕ) → ServeStands (R.protocol n) cell.old cell.new message moment a) }
-    ensures err { OnErr result ((n : ℕ) → ServeKeeps (R.protocol n) cell.old cell.new message) }
+    ensures answers { IfOk result (λ a. (n : ℕ) → ServeAnswers (R.protocol n) R.locals cell.old message moment a) }
+    ensures stands { IfOk result (λ a. (n : ℕ) → ServeStands (R.protocol n) R.locals cell.old cell.new message moment a) }
+    ensures err { OnErr result ((n : ℕ) → ServeKeeps (R.protocol n) R.locals cell.old cell.new message) }
     ensures sure { takes_no_memory message ≡ true → OnErr result ⊥ }
 {
     own_entries_tell_it::<R>();

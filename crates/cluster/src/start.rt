@@ -16,7 +16,7 @@ fn first_partitions<R: PageRules>(
 ) -> Result<Seq<Box<CellOf<R>>>, NoMemory>
     requires { 1 ≤ partitions }
     ensures count { IfOk result (λ cells. length cells ≡ partitions) }
-    ensures stand { IfOk result (λ cells. (i : ℕ) (x : _) → slice_get cells i ≡ Some x → StandsFor (R.protocol partitions) i x.value []) }
+    ensures stand { IfOk result (λ cells. (i : ℕ) (x : _) → slice_get cells i ≡ Some x → StandsFor (R.protocol partitions) R.locals i x.value []) }
 {
     let mut cells = Vec::with_capacity(alloc, partitions as usize)?;
     for _place in 0..partitions {
@@ -34,7 +34,7 @@ pub(crate) fn first_cells<R: PageRules>(
 ) -> Result<Seq<Box<CellOf<R>>>, NoMemory>
     requires { 1 ≤ partitions }
     ensures count { IfOk result (λ cells. length cells ≡ partitions + 1) }
-    ensures stand { IfOk result (λ cells. (i : ℕ) (x : _) → slice_get cells i ≡ Some x → StandsFor (R.protocol partitions) i x.value []) }
+    ensures stand { IfOk result (λ cells. (i : ℕ) (x : _) → slice_get cells i ≡ Some x → StandsFor (R.protocol partitions) R.locals i x.value []) }
 {
     let mut cells = first_partitions::<R>(alloc, partitions)?;
     let control = ControlCell::new(alloc)?;

@@ -56,12 +56,12 @@ fn count<E: EntryOf<TableWorld<R>, Event<R>>, R: PageRules>(
     requires entry { E.entry ≡ event_of pass.old (Some turn.old.cell) asked.now.value answer.now }
     requires fits { Fits (R.protocol (partitions_of turnstile.now)) turnstile.now.id.slots pass.old.front
         (event_of pass.old (Some turn.old.cell) asked.now.value answer.now) }
-    requires stands { StandsFor (R.protocol (partitions_of turnstile.now)) turn.old.cell turn.old.value.value
+    requires stands { StandsFor (R.protocol (partitions_of turnstile.now)) R.locals turn.old.cell turn.old.value.value
         (event_of pass.old (Some turn.old.cell) asked.now.value answer.now ∷ of_cell turn.old.cell (reverse pass.old.front)) }
     ensures pass { pass.new ≡ record pass.old { front = pass.new.front } }
     ensures turn { turn.new ≡ record turn.old { counted = true } }
     ensures ends { Ends pass_of pass.old.number pass.old.front (event_of pass.old (Some turn.old.cell) asked.now.value answer.now) pass.new.front }
-    ensures stands { StandsFor (R.protocol (partitions_of turnstile.now)) turn.new.cell turn.new.value.value
+    ensures stands { StandsFor (R.protocol (partitions_of turnstile.now)) R.locals turn.new.cell turn.new.value.value
         (reverse (at_cell cell_of turn.new.cell pass.new.front)) }
 {
     turnstile.commit_entry::<E>(pass, turn);

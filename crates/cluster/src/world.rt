@@ -28,7 +28,7 @@ impl<R: PageRules> World for TableWorld<R> {
 
     ghost cell = { cell_of };
 
-    ghost stands = { λ n i cell es. StandsFor (R.protocol (n - 1)) i cell.value (reverse es) };
+    ghost stands = { λ n i cell es. StandsFor (R.protocol (n - 1)) R.locals i cell.value (reverse es) };
 
     ghost legal = { λ n log. IsLegalLog (R.protocol (n - 1)) log };
 

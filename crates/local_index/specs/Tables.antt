@@ -44,3 +44,10 @@ module _ {E : Type 0} (cmp : E → E → Ordering) where
   pub record Closes (s t : BTreeMap ℕ (BTreeMap E Claim)) (u : ℕ) : Type 0 where
     pub claims : (v : ℕ) (q : E) → claim_under t v q ≡ (if is_at (nat_cmp u) v then None else claim_under s v q)
     pub tables : (v : ℕ) → has_table t v ≡ (not (is_at (nat_cmp u) v) && has_table s v)
+
+  -- these are a table's entries, where it is there, and all else is as it was
+  pub record Fills (s t : BTreeMap ℕ (BTreeMap E Claim)) (u : ℕ) (entries : BTreeMap E Claim) : Type 0 where
+    pub claims :
+        (v : ℕ) (q : E)
+        → claim_under t v q ≡ (if is_at (nat_cmp u) v && has_table s u then get cmp entries q else claim_under s v q)
+    pub tables : (v : ℕ) → has_table t v ≡ has_table s v

@@ -1,13 +1,13 @@
 //! The local entries of a cell.
 
 ghost use Rattle.std.specs.Prelude.{◌≡◌, ℕ, IsTrue, IfSome, OnOk, OnErr, false};
-ghost use Rattle.std.specs.Option.{option_map};
+ghost use Rattle.std.specs.Option.{option_copied, option_map};
 ghost use Rattle.std.specs.Ordering.{nat_cmp};
 ghost use Rattle.std.specs.Map.{lookup};
 ghost use Rattle.std.specs.BTreeMap.{get, is_at};
 ghost use Rattle.paging.specs.MapRange.{rows_between};
 ghost use Rattle.local_index.specs.Entries.{claim_between, end_of, held_too, let_go, settled};
-ghost use Rattle.local_index.specs.Tables.{claim_under, has_table, Closes, GivesUnder, Opens, Same};
+ghost use Rattle.local_index.specs.Tables.{claim_under, has_table, Closes, Fills, GivesUnder, Opens, Same};
 
 use crate::claim::Claim;
 use crate::lists::{hold_in, let_go_in, settle_in};
@@ -63,11 +63,29 @@ impl<E: Ord> LocalIndexes<E> {
         drop(self.tables.remove(&table));
     }
 
+    /// Puts these entries in place of those of a table, where it is there. It takes no memory.
+    pub fn fill_table(&mut self, table: u64, entries: BTreeMap<E, Claim>)
+    where
+        E: Drop,
+        ensures { Fills E.cmp self.old.tables self.new.tables table entries }
+    {
+        if let Some(place) = self.tables.get_mut(&table) {
+            *place = entries;
+        }
+    }
+
     /// Whether the table is there.
     pub fn has_table(&self, table: u64) -> bool
         ensures { result ≡ has_table self.now.tables table }
     {
         self.tables.contains_key(&table)
+    }
+
+    /// The entries of a table, each with what it stands for: `None` where the table is not there.
+    pub fn table(&self, table: u64) -> Option<&BTreeMap<E, Claim>>
+        ensures { option_copied result ≡ get nat_cmp self.now.tables table }
+    {
+        self.tables.get(&table)
     }
 
     /// What an entry of a table stands for: none where it is not there.

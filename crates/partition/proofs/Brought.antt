@@ -1,5 +1,5 @@
 -- What a command of the catalog leaves of an item.
-use Rattle.std.proofs.Common.{◌≡◌, ℕ, ◌+◌, nat_eq, not, ◌&&◌, Bool, true, false, if◌then◌else◌, List, Option, None, Some, is_some, refl, sym, ap, ◌∙◌}
+use Rattle.std.proofs.Common.{◌≡◌, ℕ, ◌+◌, nat_eq, not, ◌&&◌, Bool, true, false, if◌then◌else◌, List, Option, None, Some, refl, sym, ap, ◌∙◌}
 use Rattle.std.proofs.lemmas.Bool.{eq-eqb}
 use Rattle.txn_core.specs.declared.stamp.Stamp.{Stamp}
 use Rattle.txn_core.specs.Service.{Service, IsServiceLawful}
@@ -21,6 +21,13 @@ slot_without r p s v a b = λ j. slot_of (committed_at (a j) s v) (pending_for (
 
 held_not : {V : Type 0} (p : Held V) → Some p ≡ None → ⊥
 held_not p e = absurd (cc)
+
+-- a command's table that it doesn't drop it alters
+pub altered : (t : TableChange) (u : ℕ) → drops t u ≡ false → is_number (subject t) u ≡ true → alters t u ≡ true
+altered (Makes n) u a e = absurd (cc)
+altered (Drops n) u a e = absurd (no_both _ e a)
+altered (Alters n) u a e = e
+altered Nothing u a e = absurd (cc)
 
 module _
     {K V A F C D Q B : Type 0} (S : Service K V A F C D Q B) (law : IsServiceLawful S) {sound : C → Type 0} {target : D → C → TableChange}
@@ -57,14 +64,8 @@ module _
       pub still_there : drops t (S.core.table q) ≡ false → S.core.there w.catalog q ≡ true → S.core.there after q ≡ true
       still_there away b = by_subject (is_number (subject t) (S.core.table q)) refl
         where
-          altered : (u : TableChange) → drops u (S.core.table q) ≡ false → is_number (subject u) (S.core.table q) ≡ true → alters u (S.core.table q) ≡ true
-          altered (Makes n) a e = absurd (cc)
-          altered (Drops n) a e = absurd (no_both _ e a)
-          altered (Alters n) a e = e
-          altered Nothing a e = absurd (cc)
-
           by_subject : (x : Bool) → is_number (subject t) (S.core.table q) ≡ x → S.core.there after q ≡ true
-          by_subject true e = laws.stays d moment w.catalog q ok kept (ap (λ y. alters y (S.core.table q)) is ∙ altered t away e) b
+          by_subject true e = laws.stays d moment w.catalog q ok kept (ap (λ y. alters y (S.core.table q)) is ∙ altered t (S.core.table q) away e) b
           by_subject false e = stays_there S law laws d moment w.catalog ok kept q b (others S law laws d moment w.catalog ok kept t is q e)
 
       pub left_alone : drops t (S.core.table q) ≡ false → makes t (S.core.table q) ≡ false → slot_for (w.spot q) ≡ slot_for (spot q)

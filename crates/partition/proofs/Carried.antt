@@ -113,7 +113,7 @@ module _
       all_found = flat_map (found_by (indexed S.core S.index) w.catalog next) rows
 
       queues :
-          (t : TableChange) → target d w.catalog ≡ t → (made : Option (MadeTable K V O E P)) → IsMade t bring made
+          (t : TableChange) → target d w.catalog ≡ t → (made : Option (MadeTable K V N O E P X Y Z)) → IsMade t bring made
           → IsOrderedFor t c.items.tables → queued_for S numbers t w.catalog next c.items.tables made ≡ all_found
       queues Nothing is made m o = sym (none_found (indexed S.core S.index) w.catalog next _ rows listed.each (λ r h. elsewhere Nothing is r h.1 refl refl))
       queues (Drops n) is made m o =
@@ -198,7 +198,7 @@ module _
 
     -- what is kept of an item afterwards
     kept_slot :
-        (t : TableChange) → target d w.catalog ≡ t → (made : Option (MadeTable K V O E P)) → IsMade t bring made → (u : ℕ) (q : K)
+        (t : TableChange) → target d w.catalog ≡ t → (made : Option (MadeTable K V N O E P X Y Z)) → IsMade t bring made → (u : ℕ) (q : K)
         → (if is_number (dropped_by t) u then None else filled made u q (slot_at c.items u q)) ≡ (if lives S i u q then slot_for (spot S law laws d moment w ok kept q) else None)
     kept_slot Nothing is None m u q =
         here.items u q
@@ -258,7 +258,7 @@ module _
             (ap (λ z. nat_eq z (S.core.table q)) (sym m.number) ∙ ap (λ z. nat_eq made.number z) (eqb-true (S.core.table q) u (parts l).0) ∙ e))
 
     module _
-        (e : Partition K V C N O E P X Y Z) (p : CatalogPlan K V C O E P) (plan : IsPlan S target numbers i c.catalog c.items d moment p) (left : LeftByPlan c e p)
+        (e : Partition K V C N O E P X Y Z) (p : CatalogPlan K V C N O E P X Y Z) (plan : IsPlan S target numbers i c.catalog c.items d moment p) (left : LeftByPlan c e p)
         (listed : IsListOf (indexed S.core S.index) i now (at_keys (indexed S.core S.index) now (gather (indexed S.core S.index) i (S.index.brings d w.catalog) (f.keys i))))
         (unserved : (g : ℕ) (q : K) → S.core.cell_of q ≡ i → served (indexed S.core S.index) w.catalog g (S.index.item_of q) ≡ false → f.shown g q ≡ None) where
       next_is : p.catalog ≡ next

@@ -1,5 +1,5 @@
 -- What a legal history knows of a command that is carried out.
-use Rattle.std.proofs.Common.{◌≡◌, ℕ, Bool, true, false, List, [], ◌∷◌, Option, None, Some, inl, inr, refl, sym, ap, ◌∙◌, subst}
+use Rattle.std.proofs.Common.{◌≡◌, ℕ, Bool, true, false, is_some, List, [], ◌∷◌, Option, None, Some, inl, inr, refl, sym, ap, ◌∙◌, subst}
 use Rattle.std.specs.Cmp.{IsTotalOrder}
 use Rattle.std.specs.declared.cmp.Ord as ord
 use Rattle.std.specs.declared.cmp.PartialEq as eq
@@ -26,12 +26,14 @@ use Rattle.planned_changes.specs.declared.command_rules.TableChange.TheVariants.
 use Rattle.planned_changes.specs.declared.plan.CatalogPlan.{CatalogPlan}
 use Rattle.planned_changes.specs.declared.plan.MadeTable.{MadeTable}
 use Rattle.item_store.specs.declared.slot.Slot.{Slot}
-use Rattle.item_store.specs.declared.table.TableItems.{TableItems}
-use Rattle.item_store.specs.Tables.{has_table}
-use Rattle.std.specs.BTreeMap.{BTreeMap}
+use Rattle.std.specs.Ordering.{nat_cmp}
+use Rattle.std.specs.BTreeMap.{BTreeMap, get}
 use Rattle.partition.specs.Carrying.{IsCarriedOut}
-use Rattle.planned_changes.specs.Commands.{AreCommandsLawful}
+use Rattle.planned_changes.specs.Commands.{AreCommandsLawful, KeepsEntries}
+use Rattle.planned_changes.specs.Entering.{AreEntered}
+use Rattle.planned_changes.specs.Entries.{AreEntriesLawful, LocalEntries}
 use Rattle.partition.specs.Holds.{Holds}
+use Rattle.partition.specs.InStep.{StaysInStep}
 use Rattle.planned_changes.specs.Plans.{IsMade, IsPlan}
 use Rattle.partition.specs.Plans.{HasPlace, HasRoom, IsPlaced, LeftByPlan}
 use Rattle.partition.specs.Says.{Stands}
@@ -39,11 +41,15 @@ use Rattle.planned_changes.proofs.Basics.{no_both}
 use Rattle.partition.proofs.Brought.{IsClean, after}
 use Rattle.partition.proofs.Carried.{carried, now}
 use Rattle.partition.proofs.Changing.{moved_to}
+use Rattle.partition.proofs.Entered.{stays_in_step}
 
-module _ {K V : Type 0} {O : ord.Ghosts K} {E : eq.Ghosts K} {P : partial.Ghosts K} (tables : BTreeMap ℕ (TableItems K V O E P)) where
+module _
+    {K V N T : Type 0} {O : ord.Ghosts K} {E : eq.Ghosts K} {P : partial.Ghosts K}
+    {X : ord.Ghosts N} {Y : eq.Ghosts N} {Z : partial.Ghosts N} (tables : BTreeMap ℕ T) where
   placed :
-      (t : TableChange) (slot : K → Option (Slot V)) (made : Option (MadeTable K V O E P)) → IsMade t slot made → IsPlaced t tables → HasPlace tables made
-  placed (Makes n) slot (Some made) m here = subst (λ u. has_table tables u ≡ true) (sym m.number) here
+      (t : TableChange) (slot : K → Option (Slot V)) (made : Option (MadeTable K V N O E P X Y Z)) → IsMade t slot made → IsPlaced t tables
+      → HasPlace tables made
+  placed (Makes n) slot (Some made) m here = subst (λ u. is_some (get nat_cmp tables u) ≡ true) (sym m.number) here
   placed (Makes n) slot None m here = absurd m
   placed (Drops n) slot None m here = tt
   placed (Drops n) slot (Some made) m here = absurd m
@@ -150,12 +156,21 @@ module _ {K V A F C D Q B : Type 0} (S : Service K V A F C D Q B) where
 
       module _
           {O : ord.Ghosts K} {E : eq.Ghosts K} {P : partial.Ghosts K} {N : Type 0} {X : ord.Ghosts N} {Y : eq.Ghosts N} {Z : partial.Ghosts N} (total : IsTotalOrder O.cmp) (ordered : (x y : K) → S.index.cmp x y ≡ O.cmp x y) (i : ℕ)
-          (c c2 : Partition K V C N O E P X Y Z) (p : CatalogPlan K V C O E P) (plan : IsPlan S target numbers i c.catalog c.items d moment p) (left : LeftByPlan c c2 p) where
+          (c c2 : Partition K V C N O E P X Y Z) (p : CatalogPlan K V C N O E P X Y Z) (plan : IsPlan S target numbers i c.catalog c.items d moment p) (left : LeftByPlan c c2 p) where
         pub stands : Stands S i c es → Stands S i c2 (e ∷ es)
         stands here =
             subst (λ (y : ℕ × Asked S × Reply S). Holds S i c2 (step S.core (state S es) (effect_of y.0 y.1 y.2)) (feed_step (indexed S.core S.index) (feed_after S es) (event_of S (state S es) y.0 y.1 y.2)))
             (λ j. (sym is.moment_is j, sym is.message j, sym is.answer j))
             (carried S law laws d moment (state S es) ok rule.0 clean i total ordered c (feed_after S es) here c2 p plan left (listed i) (λ g q home none. unserved g q none))
+
+      module _
+          {O : ord.Ghosts K} {E : eq.Ghosts K} {P : partial.Ghosts K} {N : Type 0} {X : ord.Ghosts N} {Y : eq.Ghosts N} {Z : partial.Ghosts N} (i : ℕ)
+          (c c2 : Partition K V C N O E P X Y Z) (p : CatalogPlan K V C N O E P X Y Z) (plan : IsPlan S target numbers i c.catalog c.items d moment p) (left : LeftByPlan c c2 p) where
+        pub steps :
+            (L : LocalEntries K V C N) → AreEntriesLawful S L X.cmp → KeepsEntries S L sound target → AreEntered L p.catalog p.made
+            → Stands S i c es → StaysInStep S L c c2
+        steps L fair stay comes here step =
+            stays_in_step S law laws L fair stay d moment (state S es) ok rule.0 clean i c (feed_after S es) here c2 p plan left comes step
 
   -- a cell stands for the entries of a legal history where it stands for its own
   module _
@@ -175,7 +190,11 @@ module _ {K V A F C D Q B : Type 0} (S : Service K V A F C D Q B) where
   pub has_room :
       (target : D → C → TableChange) (numbers : C → ℕ → List ℕ) {O : ord.Ghosts K} {E : eq.Ghosts K} {P : partial.Ghosts K}
       {N : Type 0} {X : ord.Ghosts N} {Y : eq.Ghosts N} {Z : partial.Ghosts N} (i : ℕ) (c : Partition K V C N O E P X Y Z)
-      (d : D) (moment : ℕ) (p : CatalogPlan K V C O E P) → IsPlan S target numbers i c.catalog c.items d moment p
-      → IsPlaced (target d c.catalog) c.items.tables → HasRoom c p
-  has_room target numbers i c d moment p plan here =
-      record { number = plan.number; place = placed c.items.tables (target d c.catalog) _ p.made plan.made here }
+      (d : D) (moment : ℕ) (p : CatalogPlan K V C N O E P X Y Z) → IsPlan S target numbers i c.catalog c.items d moment p
+      → IsPlaced (target d c.catalog) c.items.tables → IsPlaced (target d c.catalog) c.locals.tables → HasRoom c p
+  has_room target numbers i c d moment p plan here beside =
+      record {
+        number = plan.number;
+        place = placed c.items.tables (target d c.catalog) _ p.made plan.made here;
+        entries = placed c.locals.tables (target d c.catalog) _ p.made plan.made beside;
+      }

@@ -12,7 +12,9 @@ use Rattle.txn_core.specs.History.{effect_of}
 use Rattle.txn_core.specs.Feeding.{event_of, feed_after}
 use Rattle.txn_core.specs.Legal.{IsAnswer, sent_to, state}
 use Rattle.partition.specs.declared.cell.Partition.{Partition}
+use Rattle.planned_changes.specs.Entries.{LocalEntries}
 use Rattle.partition.specs.Holds.{Holds}
+use Rattle.partition.specs.InStep.{IsInStep}
 use Rattle.partition.specs.Says.{Keeps, Leaves, Stands}
 use Rattle.partition.specs.Steps.{StepAnswers, StepKeeps, StepStands}
 
@@ -29,8 +31,10 @@ module _
   there : (i : ℕ) (es : History S) → sent_to S m ≡ Some i → Stands S i c es → Stands S j c es
   there i es sent st = subst (λ z. Stands S z c es) (sym (its_cell i sent)) st
 
-  pub answered : (moment : ℕ) (a : Reply S) → ((es : History S) → Stands S j c es → IsAnswer S es moment known a) → StepAnswers S c m moment a
-  answered moment a says i es sent st = subst (λ y. IsAnswer S es moment y a) (sym is) (says es (there i es sent st))
+  pub answered :
+      (L : LocalEntries K V C N) (moment : ℕ) (a : Reply S)
+      → ((es : History S) → Stands S j c es → IsInStep S L c → IsAnswer S es moment known a) → StepAnswers S L c m moment a
+  answered L moment a says i es sent st step = subst (λ y. IsAnswer S es moment y a) (sym is) (says es (there i es sent st) step)
 
   pub stands : (moment : ℕ) (a : Reply S) → Leaves S j c d moment known a → StepStands S c d m moment a
   stands moment a leaves i es e message answer at sent st =

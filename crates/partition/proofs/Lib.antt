@@ -18,6 +18,7 @@ pub mod Spared
 pub mod Brought
 pub mod Queued
 pub mod Carried
+pub mod Entered
 pub mod Commanded
 pub mod Planned
 pub mod Shares

@@ -48,7 +48,7 @@ module _
     {K V C : Type 0} {O : ord.Ghosts K} {E : eq.Ghosts K} {P : partial.Ghosts K}
     {N : Type 0} {X : ord.Ghosts N} {Y : eq.Ghosts N} {Z : partial.Ghosts N}
     (partitions : ℕ) (catalog : C) (items : ItemStore K V O E P) (locals : LocalIndexes N) (outbox : Outbox K V) (prepared : PreparedChanges K V N)
-    (marks : Marks) (rows : IndexRows K V) (planned : Option (CatalogPlan K V C O E P)) (s1 s2 : 1 ≤ partitions) (p1 p2 : length marks.last.items ≡ partitions)
+    (marks : Marks) (rows : IndexRows K V) (planned : Option (CatalogPlan K V C N O E P X Y Z)) (s1 s2 : 1 ≤ partitions) (p1 p2 : length marks.last.items ≡ partitions)
     (q1 q2 : outbox.set_aside ≡ places_in prepared.lists + places_of planned) where
   abbrev one : Partition K V C N O E P X Y Z
   one =

@@ -25,12 +25,28 @@ use Rattle.item_store.specs.Slots.{row_of}
 use Rattle.item_store.specs.Tables.{slot_in}
 use Rattle.global_index.specs.Rows.{row_in}
 use Rattle.partition.specs.declared.cell.Partition.{Partition}
+use Rattle.local_index.specs.Entries.{is_among}
+use Rattle.planned_changes.specs.Entries.{LocalEntries, entries_at}
 use Rattle.partition.specs.Holds.{Holds, slot_for}
+use Rattle.partition.specs.InStep.{IsInStep}
 use Rattle.partition.specs.Listed.{ListsAll}
-use Rattle.partition.specs.Pages.{AreItemsOrdered, AreRowsOrdered, IsShownInOrder, SaysPage, items_of, listed_for, page_says, paged, rows_of, shown_to}
+use Rattle.partition.specs.Pages.{AreEntriesIn, AreItemsOrdered, AreRowsOrdered, IsShownInOrder, SaysPage, items_of, listed_for, page_says, paged, rows_of, shown_to}
 use Rattle.partition.proofs.Keeping.{row_back}
 use Rattle.partition.proofs.Listed.{lists_after}
 use Rattle.partition.proofs.Shown.{find_is, listed_found, listed_sorted, picked_is, told, told_found, told_sorted}
+
+module _
+    {K V A F C D Q B N : Type 0} (S : Service K V A F C D Q B) (L : LocalEntries K V C N)
+    {O : ord.Ghosts K} {E : eq.Ghosts K} {P : partial.Ghosts K} {X : ord.Ghosts N} {Y : eq.Ghosts N} {Z : partial.Ghosts N} where
+  -- in a cell in step a table's entries are those of its items, whether or not either has a place
+  pub beside_are :
+      (c : Partition K V C N O E P X Y Z) (u : ℕ) (o : Option (TableItems K V O E P)) → get nat_cmp c.items.tables u ≡ o
+      → (slots : BTreeMap K (Slot V)) → ((k : K) → get O.cmp slots k ≡ slot_in o k) → IsInStep S L c
+      → AreEntriesIn L O.cmp X.cmp c.catalog slots (get nat_cmp c.locals.tables u)
+  beside_are c u o is slots found step q =
+      step.entries.committed u q
+      ∙ (λ j. is_among X.cmp (entries_at L c.catalog (L.item q) (row_of (slot_in (is j) (L.item q)))) q)
+      ∙ sym (λ j. is_among X.cmp (entries_at L c.catalog (L.item q) (row_of (found (L.item q) j))) q)
 
 -- of pairs that all stand there nothing is left out
 pub told_all : {K V : Type 0} (es : List (K × V)) → told (λ e. e.0) (λ e. Some e.1) es ≡ es
@@ -128,8 +144,10 @@ rows_same S es i (Some g) = refl
 
 module _ {K V A F C D Q B : Type 0} (S : Service K V A F C D Q B) (law : IsServiceLawful S) {O : ord.Ghosts K} {E : eq.Ghosts K} {P : partial.Ghosts K} {N : Type 0} {X : ord.Ghosts N} {Y : eq.Ghosts N} {Z : partial.Ghosts N} where
   -- so it answers as legal histories have it
-  pub page_answered : (c : Partition K V C N O E P X Y Z) (page : Q) (a : Reply S) (es : History S) → SaysPage S (S.page_cell page) c page a
-      → Holds S (S.page_cell page) c (state S es) (feed_after S es) → a ≡ page_after S es page
-  page_answered c page a es says here =
-      says (state S es) (feed_after S es) here (lists_after S law (S.page_cell page) es)
+  pub page_answered :
+      (L : LocalEntries K V C N) (c : Partition K V C N O E P X Y Z) (page : Q) (a : Reply S) (es : History S)
+      → SaysPage S L (S.page_cell page) c page a
+      → Holds S (S.page_cell page) c (state S es) (feed_after S es) → IsInStep S L c → a ≡ page_after S es page
+  page_answered L c page a es says here step =
+      says (state S es) (feed_after S es) here (lists_after S law (S.page_cell page) es) step
       ∙ ap (λ rows. page_answer (S.serves (state S es).catalog page) (S.page (state S es).catalog rows page)) (rows_same S es (S.page_cell page) (S.page_index page))

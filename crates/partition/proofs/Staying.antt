@@ -60,6 +60,13 @@ module _
   under_same : AreInStep S L X.cmp c.catalog d.items d.prepared.lists d.locals.tables → AreInStep S L X.cmp d.catalog d.items d.prepared.lists d.locals.tables
   under_same step = subst (λ cat. AreInStep S L X.cmp cat d.items d.prepared.lists d.locals.tables) (sym catalog) step
 
+  abbrev Same : Type 0
+  Same = (v : ℕ) (q : K) → slot_at d.items v q ≡ slot_at c.items v q
+
+  pub same_stays : Same → SameEntries c d → StaysInStep S L c d
+  same_stays slots same step =
+      under_same (same_in_step S law L X.cmp ordered fair total c.catalog c.items d.items c.prepared.lists d.prepared.lists c.locals.tables d.locals.tables slots same.0 same.1 step)
+
   module _ (u : ℕ) (k : K) (table : u ≡ S.core.table k) where
     abbrev old : Option (Slot V)
     old = slot_at c.items u k
@@ -74,13 +81,6 @@ module _
 
       none_moved : HasNoMoves c k
       none_moved = unmoved S law L X.cmp ordered fair total c.catalog c.items u k c.prepared.lists c.locals.tables table step free
-
-    abbrev Same : Type 0
-    Same = (v : ℕ) (q : K) → slot_at d.items v q ≡ slot_at c.items v q
-
-    pub same_stays : Same → SameEntries c d → StaysInStep S L c d
-    same_stays slots same step =
-        under_same (same_in_step S law L X.cmp ordered fair total c.catalog c.items d.items c.prepared.lists d.prepared.lists c.locals.tables d.locals.tables slots same.0 same.1 step)
 
     -- after a write
     pub written_stays :

@@ -16,9 +16,29 @@ use Rattle.txn_core.specs.State.{State}
 use Rattle.item_store.specs.declared.slot.Slot.{Slot}
 use Rattle.item_store.specs.declared.table.TableItems.{TableItems}
 use Rattle.item_store.specs.Slots.{row_of}
+use Rattle.local_index.specs.declared.claim.Claim.{Claim}
+use Rattle.local_index.specs.Claims.{is_committed}
+use Rattle.local_index.specs.Entries.{is_among}
+use Rattle.local_index.specs.Tables.{claim_in}
 use Rattle.partition.specs.declared.cell.Partition.{Partition}
+use Rattle.planned_changes.specs.Entries.{LocalEntries, entries_at}
 use Rattle.partition.specs.Holds.{Holds}
+use Rattle.partition.specs.InStep.{IsInStep}
 use Rattle.partition.specs.Listed.{ListsAll}
+
+module _ {K V C N : Type 0} (L : LocalEntries K V C N) (by : K → K → Ordering) (cmp : N → N → Ordering) where
+  -- the committed ones of these entries are exactly those of the committed items of a table: the claim of an entry, of the item
+  -- that it names
+  abbrev pub AreEntriesOf : C → BTreeMap K (Slot V) → BTreeMap N Claim → Type 0
+  AreEntriesOf cat slots entries =
+      (q : N)
+      → is_committed (get cmp entries q) ≡ is_among cmp (entries_at L cat (L.item q) (row_of (get by slots (L.item q)))) q
+
+  -- and so of the entries of a table that may have had none yet
+  abbrev pub AreEntriesIn : C → BTreeMap K (Slot V) → Option (BTreeMap N Claim) → Type 0
+  AreEntriesIn cat slots entries =
+      (q : N)
+      → is_committed (claim_in cmp entries q) ≡ is_among cmp (entries_at L cat (L.item q) (row_of (get by slots (L.item q)))) q
 
 module _ {K V : Type 0} where
   -- the committed items among those that a table keeps, in the order of their keys
@@ -71,7 +91,8 @@ module _ {K V A F C D Q B : Type 0} (S : Service K V A F C D Q B) where
     abbrev pub paged : Partition K V C N O E P X Y Z → ℕ → Q → Reply S
     paged c table page = page_answer (S.serves c.catalog page) (S.page c.catalog (shown_to c table (S.page_index page)) page)
 
-    -- of every state and feed that the cell i holds, where the feed lists all that is there, the answer is this
-    abbrev pub SaysPage : ℕ → Partition K V C N O E P X Y Z → Q → Reply S → Type 0
-    SaysPage i c page a =
-        (w : State K V A C) (f : Feed K V C) → Holds S i c w f → ListsAll (indexed S.core S.index) i f → a ≡ page_says w f i page
+    -- of every state and feed that the cell i holds, in step, where the feed lists all that is there, the answer is this
+    abbrev pub SaysPage : LocalEntries K V C N → ℕ → Partition K V C N O E P X Y Z → Q → Reply S → Type 0
+    SaysPage L i c page a =
+        (w : State K V A C) (f : Feed K V C) → Holds S i c w f → ListsAll (indexed S.core S.index) i f → IsInStep S L c
+        → a ≡ page_says w f i page

@@ -7,6 +7,8 @@ use Rattle.txn_core.specs.declared.message.Message.{Message}
 use Rattle.txn_core.specs.Service.{Service, Asked, Reply, Event, History}
 use Rattle.txn_core.specs.Legal.{IsAnswer, sent_to}
 use Rattle.partition.specs.declared.cell.Partition.{Partition}
+use Rattle.planned_changes.specs.Entries.{LocalEntries}
+use Rattle.partition.specs.InStep.{IsInStep}
 use Rattle.partition.specs.Says.{Stands}
 
 -- the message goes to one partition, and a cell that it names is one of so many partitions
@@ -28,9 +30,10 @@ is_served partitions _ = false
 module _
     {K V A F C D Q B : Type 0} (S : Service K V A F C D Q B) {O : ord.Ghosts K} {E : eq.Ghosts K} {P : partial.Ghosts K}
     {N : Type 0} {X : ord.Ghosts N} {Y : eq.Ghosts N} {Z : partial.Ghosts N} where
-  -- of all entries for which the cell stands to which the message goes, the answer is theirs
-  abbrev pub StepAnswers : Partition K V C N O E P X Y Z → Asked S → ℕ → Reply S → Type 0
-  StepAnswers c m moment a = (i : ℕ) (es : History S) → sent_to S m ≡ Some i → Stands S i c es → IsAnswer S es moment m a
+  -- of all entries for which the cell stands to which the message goes, in step, the answer is theirs
+  abbrev pub StepAnswers : LocalEntries K V C N → Partition K V C N O E P X Y Z → Asked S → ℕ → Reply S → Type 0
+  StepAnswers L c m moment a =
+      (i : ℕ) (es : History S) → sent_to S m ≡ Some i → Stands S i c es → IsInStep S L c → IsAnswer S es moment m a
 
   -- and the cell stands for them with the entry of the message
   abbrev pub StepStands : Partition K V C N O E P X Y Z → Partition K V C N O E P X Y Z → Asked S → ℕ → Reply S → Type 0

@@ -6,7 +6,7 @@ ghost use Rattle.item_store.specs.Counts.{tally};
 ghost use Rattle.item_store.specs.Changes.{slot_at};
 ghost use Rattle.local_index.specs.Tables.{claim_under};
 ghost use Rattle.planned_changes.specs.Commands.{is_in, is_number};
-ghost use Rattle.partition.specs.Plans.{HasPlace, filled, HasRoom, LeftByPlan, SameButPlan};
+ghost use Rattle.partition.specs.Plans.{HasPlace, entered, filled, HasRoom, LeftByPlan, SameButPlan};
 
 use crate::cell::Partition;
 use global_index::IndexRows;
@@ -46,18 +46,29 @@ fn drop_entries<N: Ord + Drop>(locals: &mut LocalIndexes<N>, dropped: Option<u64
     }
 }
 
-/// Puts the items of a table that comes in its place, which was made before.
-fn fill_table<K: Ord + Drop, V: Drop>(items: &mut ItemStore<K, V>, made: Option<MadeTable<K, V>>)
+/// Puts the items of a table that comes in its place, and their local entries in theirs, which were made before.
+fn fill_table<K: Ord + Drop, V: Drop, N: Ord + Drop>(
+    items: &mut ItemStore<K, V>,
+    locals: &mut LocalIndexes<N>,
+    made: Option<MadeTable<K, V, N>>,
+)
     ensures slots { HasPlace items.old.tables made → (u : ℕ) (q : K) → slot_at items.new u q ≡ filled made u q (slot_at items.old u q) }
     ensures counts { tally items.new.counts ≡ tally items.old.counts }
+    ensures entries { HasPlace locals.old.tables made → (u : ℕ) (q : N) → claim_under N.cmp locals.new.tables u q
+        ≡ entered made u q (claim_under N.cmp locals.old.tables u q) }
 {
     let Some(table) = made else {
         return;
     };
-    if items.table(table.number).is_none() {
+    let MadeTable {
+        number,
+        items: new,
+        entries,
+    } = table;
+    locals.fill_table(number, entries);
+    if items.table(number).is_none() {
         return;
     }
-    let MadeTable { number, items: new } = table;
     items.fill_table(number, new);
 }
 
@@ -83,7 +94,7 @@ impl<K: Ord, V, C, N: Ord> Partition<K, V, C, N> {
         } = plan;
         // The plan saw that a number is left.
         let _ = self.items.count_change();
-        fill_table(&mut self.items, made);
+        fill_table(&mut self.items, &mut self.locals, made);
         drop_table(&mut self.items, dropped);
         drop_entries(&mut self.locals, dropped);
         close_all(&mut self.rows, closed.as_slice());
@@ -97,6 +108,7 @@ impl<K: Ord, V, C, N: Ord> Partition<K, V, C, N> {
         K: Drop,
         V: Drop,
         C: Drop,
+        N: Drop,
         ensures gone { self.new.planned ≡ None }
         ensures kept { SameButPlan self.old self.new }
     {
@@ -106,11 +118,12 @@ impl<K: Ord, V, C, N: Ord> Partition<K, V, C, N> {
     }
 
     /// Keeps a plan, in place of one before, and sets its places aside.
-    pub(crate) fn put_plan(&mut self, plan: CatalogPlan<K, V, C>) -> Result<(), NoMemory>
+    pub(crate) fn put_plan(&mut self, plan: CatalogPlan<K, V, C, N>) -> Result<(), NoMemory>
     where
         K: Drop,
         V: Drop,
         C: Drop,
+        N: Drop,
         ensures put { OnOk result (self.new.planned ≡ Some plan) }
         ensures kept { SameButPlan self.old self.new }
     {

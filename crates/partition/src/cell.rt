@@ -24,7 +24,7 @@ pub struct Partition<K: Ord, V, C, N: Ord> {
     pub(crate) prepared: PreparedChanges<K, V, N>,
     pub(crate) marks: Marks,
     pub(crate) rows: IndexRows<K, V>,
-    pub(crate) planned: Option<CatalogPlan<K, V, C>>,
+    pub(crate) planned: Option<CatalogPlan<K, V, C, N>>,
     ghost some: { 1 ≤ partitions },
     ghost sources: { length marks.last.items ≡ partitions },
     ghost places: { outbox.set_aside ≡ places_in prepared.lists + places_of planned },

@@ -35,8 +35,8 @@ pub fn is_served<R: CellRules>(cell: &PartitionOf<R>, message: &Asked<R>) -> boo
     }
 }
 
-/// Answers a message that goes to this partition alone. Of every list of entries for which the cell stands, the answer is the
-/// one that legal histories have, and the cell stands for the list with the message's entry.
+/// Answers a message that goes to this partition alone. Of every list of entries for which the cell stands, with its local
+/// entries in step, the answer is the one that legal histories have; and the cell stands for the list with the message's entry.
 pub fn step<R: PageRules>(
     alloc: Global,
     cell: &mut PartitionOf<R>,
@@ -44,7 +44,7 @@ pub fn step<R: PageRules>(
     moment: u64,
 ) -> Result<Reply<R>, NoMemory>
     requires { is_served cell.old.partitions message ≡ true }
-    ensures answers { IfOk result (λ a. (n : ℕ) → StepAnswers (R.protocol n) cell.old message moment a) }
+    ensures answers { IfOk result (λ a. (n : ℕ) → StepAnswers (R.protocol n) R.locals cell.old message moment a) }
     ensures stands { IfOk result (λ a. (n : ℕ) → StepStands (R.protocol n) cell.old cell.new message moment a) }
     ensures err { OnErr result ((n : ℕ) → StepKeeps (R.protocol n) cell.old cell.new message) }
     ensures in_step { (n : ℕ) → StaysInStep (R.protocol n) R.locals cell.old cell.new }

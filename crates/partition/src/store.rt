@@ -72,7 +72,7 @@ pub(crate) fn hold<K: Ord + Drop, V: Drop>(
 }
 
 /// Adds a table without local entries, where it is not there yet.
-fn open_entries<N: Ord + Drop>(
+pub(crate) fn open_entries<N: Ord + Drop>(
     alloc: Global,
     locals: &mut LocalIndexes<N>,
     table: u64,

@@ -3,3 +3,4 @@ pub mod Keys
 pub mod Adding
 pub mod Foundings
 pub mod BroughtOver
+pub mod EntriesOver

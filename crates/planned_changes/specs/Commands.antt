@@ -6,6 +6,7 @@ use Rattle.txn_core.specs.Indexing.{indexed}
 use Rattle.txn_core.specs.Service.{Service}
 use Rattle.planned_changes.specs.declared.command_rules.TableChange.{TableChange}
 use Rattle.planned_changes.specs.declared.command_rules.TableChange.TheVariants.{Makes, Drops, Alters}
+use Rattle.planned_changes.specs.Entries.{LocalEntries}
 
 -- the command makes, drops or alters the table of this number
 abbrev pub makes : TableChange → ℕ → Bool
@@ -75,3 +76,10 @@ module _ {K V A F C D Q B : Type 0} (S : Service K V A F C D Q B) where
     pub none :
         (d : D) (moment : ℕ) (c : C) (u : ℕ) → sound c → S.refuses d c ≡ None → drops (target d c) u ≡ true
         → numbers (S.core.change d moment c) u ≡ []
+
+  -- the items of a table that a command alters have the local entries that they had
+  abbrev pub KeepsEntries : {N : Type 0} → LocalEntries K V C N → (C → Type 0) → (D → C → TableChange) → Type 0
+  KeepsEntries L sound target =
+      (d : D) (moment : ℕ) (c : C) (k : K) (v : V) → sound c → S.refuses d c ≡ None
+      → alters (target d c) (S.core.table k) ≡ true → S.core.there c k ≡ true
+      → L.entries (S.core.change d moment c) k v ≡ L.entries c k v

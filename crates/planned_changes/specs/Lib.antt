@@ -1,6 +1,7 @@
 pub mod Entries
 pub mod Index
 pub mod Commands
+pub mod Entering
 pub mod Places
 pub mod Plans
 pub mod Founding

@@ -28,31 +28,34 @@ module _ {K V : Type 0} {O : ord.Ghosts K} {E : eq.Ghosts K} {P : partial.Ghosts
   slots_of None = []
   slots_of (Some items) = items.slots.entries
 
-  abbrev pub slots_made : Option (MadeTable K V O E P) → List (K × Slot V)
-  slots_made None = []
-  slots_made (Some made) = made.items.slots.entries
-
   abbrev pub IsRising : Option (TableItems K V O E P) → Type 0
   IsRising None = Unit {0}
   IsRising (Some items) = IsOrdered O.cmp items.slots
-
-  -- the items that come with a table are these, in the order of their keys
-  pub record IsMadeOf (n : ℕ) (slot : K → Option (Slot V)) (made : MadeTable K V O E P) : Type 0 where
-    pub number : made.number ≡ n
-    pub slots : (q : K) → get O.cmp made.items.slots q ≡ slot q
-    pub order : IsOrdered O.cmp made.items.slots
-
-  -- the table that is made, where one is
-  abbrev pub IsMade : TableChange → (K → Option (Slot V)) → Option (MadeTable K V O E P) → Type 0
-  IsMade (Makes n) slot (Some made) = IsMadeOf n slot made
-  IsMade (Makes n) slot None = ⊥
-  IsMade _ slot (Some made) = ⊥
-  IsMade _ slot None = Unit {0}
 
   -- where a table is altered, its items are in the order of their keys
   abbrev pub IsOrderedFor : TableChange → BTreeMap ℕ (TableItems K V O E P) → Type 0
   IsOrderedFor (Alters u) tables = IsRising (get nat_cmp tables u)
   IsOrderedFor _ tables = Unit {0}
+
+module _
+    {K V N : Type 0} {O : ord.Ghosts K} {E : eq.Ghosts K} {P : partial.Ghosts K}
+    {X : ord.Ghosts N} {Y : eq.Ghosts N} {Z : partial.Ghosts N} where
+  abbrev pub slots_made : Option (MadeTable K V N O E P X Y Z) → List (K × Slot V)
+  slots_made None = []
+  slots_made (Some made) = made.items.slots.entries
+
+  -- the items that come with a table are these, in the order of their keys
+  pub record IsMadeOf (n : ℕ) (slot : K → Option (Slot V)) (made : MadeTable K V N O E P X Y Z) : Type 0 where
+    pub number : made.number ≡ n
+    pub slots : (q : K) → get O.cmp made.items.slots q ≡ slot q
+    pub order : IsOrdered O.cmp made.items.slots
+
+  -- the table that is made, where one is
+  abbrev pub IsMade : TableChange → (K → Option (Slot V)) → Option (MadeTable K V N O E P X Y Z) → Type 0
+  IsMade (Makes n) slot (Some made) = IsMadeOf n slot made
+  IsMade (Makes n) slot None = ⊥
+  IsMade _ slot (Some made) = ⊥
+  IsMade _ slot None = Unit {0}
 
 module _ {C : Type 0} (numbers : C → ℕ → List ℕ) where
   -- the numbers of the indexes that go
@@ -78,17 +81,28 @@ module _ {K V A F C D Q B : Type 0} (S : Service K V A F C D Q B) where
       if nat_eq (S.core.cell_of q) i && (not (S.core.there c q) && S.core.there next q)
       then slot_of (committed_at (S.core.adds d c q) stamp version) None else None
 
-  module _ (numbers : C → ℕ → List ℕ) {O : ord.Ghosts K} {E : eq.Ghosts K} {P : partial.Ghosts K} where
+  -- what the items of a table that is altered queue: nothing, where no index is new
+  abbrev pub queued_in :
+      (numbers : C → ℕ → List ℕ) {O : ord.Ghosts K} {E : eq.Ghosts K} {P : partial.Ghosts K} → ℕ → C → C
+      → BTreeMap ℕ (TableItems K V O E P) → List (Change K V)
+  queued_in numbers u c next tables = if has_new numbers u c next then founding_in c next (slots_of (get nat_cmp tables u)) else []
+
+  module _
+      (numbers : C → ℕ → List ℕ) {N : Type 0} {O : ord.Ghosts K} {E : eq.Ghosts K} {P : partial.Ghosts K}
+      {X : ord.Ghosts N} {Y : eq.Ghosts N} {Z : partial.Ghosts N} where
     -- what is queued, by what the command does to its table
     abbrev pub queued_for :
-        TableChange → C → C → BTreeMap ℕ (TableItems K V O E P) → Option (MadeTable K V O E P) → List (Change K V)
+        TableChange → C → C → BTreeMap ℕ (TableItems K V O E P) → Option (MadeTable K V N O E P X Y Z) → List (Change K V)
     queued_for (Makes u) c next tables made = founding_in c next (slots_made made)
-    queued_for (Alters u) c next tables made = if has_new numbers u c next then founding_in c next (slots_of (get nat_cmp tables u)) else []
+    queued_for (Alters u) c next tables made = queued_in numbers u c next tables
     queued_for _ c next tables made = []
 
-  module _ (target : D → C → TableChange) (numbers : C → ℕ → List ℕ) {O : ord.Ghosts K} {E : eq.Ghosts K} {P : partial.Ghosts K} where
+  module _
+      (target : D → C → TableChange) (numbers : C → ℕ → List ℕ) {N : Type 0} {O : ord.Ghosts K} {E : eq.Ghosts K} {P : partial.Ghosts K}
+      {X : ord.Ghosts N} {Y : eq.Ghosts N} {Z : partial.Ghosts N} where
     -- the plan is what the command does at a moment to the cell i that has this catalog and these items
-    pub record IsPlan (i : ℕ) (c : C) (items : ItemStore K V O E P) (d : D) (moment : ℕ) (p : CatalogPlan K V C O E P) : Type 0 where
+    pub record IsPlan
+        (i : ℕ) (c : C) (items : ItemStore K V O E P) (d : D) (moment : ℕ) (p : CatalogPlan K V C N O E P X Y Z) : Type 0 where
       pub catalog : p.catalog ≡ S.core.change d moment c
       pub dropped : p.dropped ≡ dropped_by (target d c)
       pub closed : p.closed.items ≡ closed_by numbers (subject (target d c)) c p.catalog

@@ -54,7 +54,7 @@ impl TableChange {
 /// one after the other, of the first.
 pub trait CommandRules: CellRules {
     ghost use Rattle.planned_changes.specs.declared.command_rules.TableChange.{TableChange};
-    ghost use Rattle.planned_changes.specs.Commands.{AreCommandsLawful, subject};
+    ghost use Rattle.planned_changes.specs.Commands.{AreCommandsLawful, KeepsEntries, subject};
 
     /// What holds of every catalog that commands make.
     ghost sound: { Self.Catalog → Type 0 };
@@ -83,4 +83,7 @@ pub trait CommandRules: CellRules {
 
     /// What commands do to tables is what the protocol says, for every number of partitions.
     ghost commands: { (partitions : ℕ) → AreCommandsLawful (Self.protocol partitions) sound target numbers };
+
+    /// A table that a command alters leaves its items the local entries that they had.
+    ghost entries_stay: { (partitions : ℕ) → KeepsEntries (Self.protocol partitions) Self.locals sound target };
 }

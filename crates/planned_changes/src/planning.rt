@@ -5,11 +5,13 @@ ghost use Rattle.std.specs.List.{list_any};
 ghost use Rattle.std.specs.Option.{option_copied};
 ghost use Rattle.planned_changes.specs.Commands.{is_in, without};
 ghost use Rattle.planned_changes.specs.declared.command_rules.TableChange.{TableChange};
-ghost use Rattle.planned_changes.specs.Plans.{IsMade, IsOrderedFor, IsPlan, brought, closed_by, founding_in, has_new, queued_for};
+ghost use Rattle.planned_changes.specs.Entering.{AreEntered};
+ghost use Rattle.planned_changes.specs.Plans.{IsMade, IsOrderedFor, IsPlan, brought, closed_by, founding_in, has_new, queued_for, queued_in};
 
 use crate::bringing::brought_items;
 use crate::changes::ChangesOf;
 use crate::command_rules::{CommandRules, TableChange};
+use crate::entering::entries_of_items;
 use crate::founding::add_foundings;
 use crate::plan::{CatalogPlan, MadeTable};
 use crate::rules::CellRules;
@@ -83,7 +85,7 @@ fn altered<R: CommandRules>(
     table: u64,
 ) -> Result<ChangesOf<R>, NoMemory>
     ensures changes { IfOk result (λ changes. (n : ℕ) → changes.items
-        ≡ queued_for (R.protocol n) R.numbers (TableChange.Alters table) before.now after.now items.now.tables None) }
+        ≡ queued_in (R.protocol n) R.numbers table before.now after.now items.now.tables) }
     ensures order { OnOk result (IsOrderedFor (TableChange.Alters table) items.now.tables) }
 {
     let mut changes = Vec::new(alloc);
@@ -102,7 +104,7 @@ fn founded<R: CommandRules>(
     alloc: Global,
     before: &R::Catalog,
     after: &R::Catalog,
-    made: &MadeTable<R::Key, R::Value>,
+    made: &MadeTable<R::Key, R::Value, R::Entry>,
 ) -> Result<ChangesOf<R>, NoMemory>
     ensures { IfOk result (λ changes. (n : ℕ) → changes.items
         ≡ founding_in (R.protocol n) before.now after.now made.now.items.slots.entries) }
@@ -119,7 +121,7 @@ fn queued_by<R: CommandRules>(
     items: &ItemStore<R::Key, R::Value>,
     after: &R::Catalog,
     change: TableChange,
-    made: Option<&MadeTable<R::Key, R::Value>>,
+    made: Option<&MadeTable<R::Key, R::Value, R::Entry>>,
 ) -> Result<ChangesOf<R>, NoMemory>
     ensures changes { IfOk result (λ changes. (n : ℕ) → changes.items
         ≡ queued_for (R.protocol n) R.numbers change before.now after.now items.now.tables (option_copied made.entry)) }
@@ -132,7 +134,7 @@ fn queued_by<R: CommandRules>(
     }
 }
 
-/// The table that a command makes, with the items that come with it to this cell.
+/// The table that a command makes, with the items that come with it to this cell and their local entries.
 fn made_by<R: CommandRules>(
     alloc: Global,
     partitions: u32,
@@ -143,10 +145,11 @@ fn made_by<R: CommandRules>(
     change: TableChange,
     stamp: Stamp,
     version: u64,
-) -> Result<Option<MadeTable<R::Key, R::Value>>, NoMemory>
+) -> Result<Option<MadeTable<R::Key, R::Value, R::Entry>>, NoMemory>
     requires { 1 ≤ partitions }
-    ensures { IfOk result (λ made. IsMade change
+    ensures items { IfOk result (λ made. IsMade change
         (brought (R.protocol partitions) here command.now before.now after.now stamp version) made) }
+    ensures entries { IfOk result (λ made. AreEntered R.locals after.now made) }
 {
     let TableChange::Makes { number } = change else {
         return Ok(None);
@@ -154,7 +157,12 @@ fn made_by<R: CommandRules>(
     let items = brought_items::<R>(
         alloc, partitions, here, command, before, after, stamp, version,
     )?;
-    Ok(Some(MadeTable { number, items }))
+    let entries = entries_of_items::<R>(alloc, after, &items)?;
+    Ok(Some(MadeTable {
+        number,
+        items,
+        entries,
+    }))
 }
 
 /// What a command will do to the cell of this number, one of so many, that has this catalog and these items, at a moment.
@@ -167,10 +175,11 @@ pub fn plan_of<R: CommandRules>(
     items: &ItemStore<R::Key, R::Value>,
     command: &R::Command,
     moment: u64,
-) -> Result<CatalogPlan<R::Key, R::Value, R::Catalog>, NoMemory>
+) -> Result<CatalogPlan<R::Key, R::Value, R::Catalog, R::Entry>, NoMemory>
     requires { 1 ≤ partitions }
-    ensures { IfOk result (λ plan.
+    ensures plan { IfOk result (λ plan.
         IsPlan (R.protocol partitions) R.target R.numbers here before.now items.now command.now moment plan) }
+    ensures entries { IfOk result (λ plan. AreEntered R.locals plan.catalog plan.made) }
 {
     let version = items.next_number()?;
     let change = R::on_table(command, before)?;

@@ -1,7 +1,8 @@
 use Rattle.std.proofs.Common.{map, sym, ap, ◌∙◌, subst}
 use Rattle.std.proofs.lemmas.Result.{IfOk-weaker}
 use Rattle.cell_model.specs.Pages.{page_row}
-use Rattle.cell_pages.proofs.Sources.{IsWalked, source_under}
+use Rattle.cell_pages.specs.Walked.{IsWalked}
+use Rattle.cell_pages.proofs.Sources.{source_under}
 use Rattle.cell_pages.proofs.part.source_rows.Goals as goal
 
 pub returns-in-Table : goal.returns-in-Table

@@ -21,6 +21,6 @@ loop-i-preserved g c =
       turns = λ j. record { numbers = (inv.turns j).numbers; values = with_item cells i (with_value b c.abandon_in.new.cell); counted = (inv.turns j).counted };
       count = length-set cells.items i (with_value b c.abandon_in.new.cell) ∙ inv.count;
       stand =
-          stand_kept S cells.items (reverse c.args.pass.now.front) i b (with_value b c.abandon_in.new.cell) c.deref_mut.result.now below
+          stand_kept S g.R.CellRules.locals cells.items (reverse c.args.pass.now.front) i b (with_value b c.abandon_in.new.cell) c.deref_mut.result.now below
           c.cell.ensures.value c.deref_mut.ensures.value inv.stand (c.abandon_in.ensures (n - 1));
     }

@@ -13,8 +13,8 @@ carry_out_each-requires-clause-ready g c =
     let cells = c.plan_each.new.turns.values.items in
     let d = c.args.command.now in
     let moment = c.args.pass.now.moment in
-    all_ready S target numbers cells (reverse c.args.pass.now.front) d moment c.plan_each.ensures.stand
-    (subst (λ k. PlannedBefore S target numbers k cells d moment) (sym (g.met.R.Rules.numbered (n - 1))) c.in_default.ensures.planned)
+    all_ready S g.R.CellRules.locals target numbers cells (reverse c.args.pass.now.front) d moment c.plan_each.ensures.stand
+    (subst (λ k. PlannedBefore S g.R.CellRules.locals target numbers k cells d moment) (sym (g.met.R.Rules.numbered (n - 1))) c.in_default.ensures.planned)
 
 pub returns-clause-carried : goal.returns-clause-carried
 returns-clause-carried g c =
@@ -31,7 +31,7 @@ returns-clause-carried g c =
     let some = c.requires.cells in
     let whole = c.carry_out_each.ensures.count ∙ (c.plan_each.ensures.count ∙ c.requires.count) in
     let many : length cells ≡ c.partitions.result + 1 = omega arith in
-    all_carried S target numbers cells es d moment c.partitions.result b (with_value b c.take_catalog.new.cell) c.deref_mut.result.now c.args.catalog
+    all_carried S g.R.CellRules.locals target numbers cells es d moment c.partitions.result b (with_value b c.take_catalog.new.cell) c.deref_mut.result.now c.args.catalog
     many (at ∙ sym (g.met.R.Rules.numbered (n - 1))) c.cell.ensures.value c.deref_mut.ensures.value
-    (subst (λ k. CarriedBefore S target numbers k cells es d moment) (sym at) c.carry_out_each.ensures.carried)
+    (subst (λ k. CarriedBefore S g.R.CellRules.locals target numbers k cells es d moment) (sym at) c.carry_out_each.ensures.carried)
     (c.requires.catalog ∙ ap (λ k. S.core.change d moment (own S es k).catalog) (sym at)) (c.take_catalog.ensures (n - 1) moment)

@@ -23,7 +23,7 @@ loop-i-preserved g c =
       turns = λ j. record { numbers = (inv.turns j).numbers; values = with_item cells i (with_value b c.carry_out_in.new.cell); counted = (inv.turns j).counted };
       count = length-set cells.items i (with_value b c.carry_out_in.new.cell) ∙ inv.count;
       carried =
-          carried_more S g.R.CommandRules.target g.R.CommandRules.numbers cells.items (reverse c.args.pass.now.front) c.args.command.now
+          carried_more S g.R.CellRules.locals g.R.CommandRules.target g.R.CommandRules.numbers cells.items (reverse c.args.pass.now.front) c.args.command.now
           c.args.pass.now.moment i b (with_value b c.carry_out_in.new.cell) c.deref_mut.result.now below partition c.cell.ensures.value
           c.deref_mut.ensures.value inv.carried (c.carry_out_in.ensures (n - 1) c.args.pass.now.moment);
     }

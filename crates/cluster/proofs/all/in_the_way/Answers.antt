@@ -22,12 +22,12 @@ loop-i-preserved g c =
     let numbered = g.met.R.Rules.numbered (n - 1) in
     let partition : i < S.control = omega arith in
     let b = c.cell.result.now in
-    let stands = lent_stands S cells.items es i b c.deref.result.now below c.cell.ensures.value c.deref.ensures inv.stand in
+    let stands = lent_stands S g.R.CellRules.locals cells.items es i b c.deref.result.now below c.cell.ensures.value c.deref.ensures inv.stand in
     record {
       turns = λ j. record { numbers = (inv.turns j).numbers; values = with_item cells i b; counted = (inv.turns j).counted };
       count = length-set cells.items i b ∙ inv.count;
       stand =
-          stand_left S cells.items es i b below c.cell.ensures.value inv.stand;
+          stand_left S g.R.CellRules.locals cells.items es i b below c.cell.ensures.value inv.stand;
       clear =
           clear_more S (own S es) c.args.command.now i c.holder_in-holder.result (sym c.is_some.ensures ∙ c.if-is_some.false)
           (c.holder_in-holder.ensures (n - 1) i (of_cell i es) partition stands) inv.clear;
@@ -47,6 +47,6 @@ returns-then-is_some-clause-tells g c =
     let below : i < length cells.items = omega arith in
     let numbered = g.met.R.Rules.numbered (n - 1) in
     let partition : i < S.control = omega arith in
-    let stands = lent_stands S cells.items es i c.cell.result.now c.deref.result.now below c.cell.ensures.value c.deref.ensures inv.stand in
+    let stands = lent_stands S g.R.CellRules.locals cells.items es i c.cell.result.now c.deref.result.now below c.cell.ensures.value c.deref.ensures inv.stand in
     first_found S (own S es) c.args.command.now i c.holder_in-holder.result (sym c.is_some.ensures ∙ c.if-is_some.true)
     (c.holder_in-holder.ensures (n - 1) i (of_cell i es) partition stands) inv.clear

@@ -7,6 +7,6 @@ abbrev pub invariant-loop-i : goal.invariant-loop-i
 invariant-loop-i g l = let S = g.R.Rules.protocol (l.turnstile.id.slots - 1) in let es = reverse l.pass.front in record {
   turns : l.turns ≡ record l.initial.turns { values = l.turns.values };
   count : length l.turns.values.items ≡ length l.initial.turns.values.items;
-  stand : AllStand S l.turns.values.items es;
+  stand : AllStand S g.R.CellRules.locals l.turns.values.items es;
   clear : (j : ℕ) → j < l.i → IsClearThere S (own S es j) l.command j;
 }

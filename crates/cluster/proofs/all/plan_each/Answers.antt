@@ -20,15 +20,15 @@ loop-i-preserved g c =
     let below : i < length cells.items = omega arith in
     let b = c.cell.result.now in
     let y = with_value b c.plan_in.new.cell in
-    let stands = lent_stands S cells.items es i b c.deref_mut.result.now below c.cell.ensures.value c.deref_mut.ensures.value inv.stand in
+    let stands = lent_stands S g.R.CellRules.locals cells.items es i b c.deref_mut.result.now below c.cell.ensures.value c.deref_mut.ensures.value inv.stand in
     record {
       turns = λ j. record { numbers = (inv.turns j).numbers; values = with_item cells i y; counted = (inv.turns j).counted };
       count = length-set cells.items i y ∙ inv.count;
       stand =
-          stand_kept S cells.items es i b y c.deref_mut.result.now below c.cell.ensures.value c.deref_mut.ensures.value inv.stand
+          stand_kept S g.R.CellRules.locals cells.items es i b y c.deref_mut.result.now below c.cell.ensures.value c.deref_mut.ensures.value inv.stand
           (c.plan_in.ensures.kept (n - 1));
       planned =
-          planned_more S g.R.CommandRules.target g.R.CommandRules.numbers cells.items c.args.command.now c.moment-moment.result c.args.pass.now.moment i y
+          planned_more S g.R.CellRules.locals g.R.CommandRules.target g.R.CommandRules.numbers cells.items c.args.command.now c.moment-moment.result c.args.pass.now.moment i y
           inv.planned
           (c.in_ok-plan_in.ensures.planned (n - 1) (of_cell i es) stands) c.moment-moment.ensures;
     }
@@ -45,5 +45,5 @@ returns-in_err-plan_in-clause-stand g c =
     let test = c.loop-i-test.true in
     let below : i < length cells.items = omega arith in
     let b = c.cell.result.now in
-    stand_kept S cells.items (reverse c.args.pass.now.front) i b (with_value b c.plan_in.new.cell) c.deref_mut.result.now below
+    stand_kept S g.R.CellRules.locals cells.items (reverse c.args.pass.now.front) i b (with_value b c.plan_in.new.cell) c.deref_mut.result.now below
     c.cell.ensures.value c.deref_mut.ensures.value inv.stand (c.plan_in.ensures.kept (n - 1))

@@ -13,7 +13,7 @@ returns-in-Refused-clause-answers g c =
 pub returns-in-Refused-clause-stand : goal.returns-in-Refused-clause-stand
 returns-in-Refused-clause-stand g c =
     let n = c.args.turnstile.now.id.slots in
-    all_left (g.R.Rules.protocol (n - 1)) (c.others_leave_it.ensures (n - 1)) c.plan_there.new.turns.values.items (reverse c.args.pass.now.front)
+    all_left (g.R.Rules.protocol (n - 1)) g.R.CellRules.locals (c.others_leave_it.ensures (n - 1)) c.plan_there.new.turns.values.items (reverse c.args.pass.now.front)
     c.args.pass.now.moment c.args.command.now (Answer.Refused c.in-Refused.told) refl c.plan_there.ensures.stand
 
 pub returns-in-Some-clause-answers : goal.returns-in-Some-clause-answers
@@ -26,7 +26,7 @@ returns-in-Some-clause-answers g c =
 pub returns-in-Some-clause-stand : goal.returns-in-Some-clause-stand
 returns-in-Some-clause-stand g c =
     let n = c.args.turnstile.now.id.slots in
-    all_left (g.R.Rules.protocol (n - 1)) (c.others_leave_it.ensures (n - 1)) c.in_the_way.new.turns.values.items (reverse c.args.pass.now.front)
+    all_left (g.R.Rules.protocol (n - 1)) g.R.CellRules.locals (c.others_leave_it.ensures (n - 1)) c.in_the_way.new.turns.values.items (reverse c.args.pass.now.front)
     c.args.pass.now.moment c.args.command.now (Answer.Held c.in-Some.number) refl c.in_the_way.ensures.stand
 
 pub returns-in-None-clause-answers : goal.returns-in-None-clause-answers
@@ -39,7 +39,7 @@ returns-in-None-clause-answers g c =
 pub returns-in-None-clause-stand : goal.returns-in-None-clause-stand
 returns-in-None-clause-stand g c =
     let n = c.args.turnstile.now.id.slots in
-    all_left (g.R.Rules.protocol (n - 1)) (c.others_leave_it.ensures (n - 1)) c.in_the_way.new.turns.values.items (reverse c.args.pass.now.front)
+    all_left (g.R.Rules.protocol (n - 1)) g.R.CellRules.locals (c.others_leave_it.ensures (n - 1)) c.in_the_way.new.turns.values.items (reverse c.args.pass.now.front)
     c.args.pass.now.moment c.args.command.now (Answer.Refused c.in-Denied.told) refl c.in_the_way.ensures.stand
 
 pub returns-in-Some-in_the_way-clause-answers : goal.returns-in-Some-in_the_way-clause-answers
@@ -52,7 +52,7 @@ returns-in-Some-in_the_way-clause-answers g c =
 pub returns-in-Some-in_the_way-clause-stand : goal.returns-in-Some-in_the_way-clause-stand
 returns-in-Some-in_the_way-clause-stand g c =
     let n = c.args.turnstile.now.id.slots in
-    all_left (g.R.Rules.protocol (n - 1)) (c.others_leave_it.ensures (n - 1)) c.in_the_way-in-Carried.new.turns.values.items
+    all_left (g.R.Rules.protocol (n - 1)) g.R.CellRules.locals (c.others_leave_it.ensures (n - 1)) c.in_the_way-in-Carried.new.turns.values.items
     (reverse c.args.pass.now.front) c.args.pass.now.moment c.args.command.now (Answer.Held c.in-Some-in_the_way.number) refl
     c.in_the_way-in-Carried.ensures.stand
 

@@ -18,8 +18,8 @@ plan_of-requires g c =
     let some = c.requires.cells in
     let many = c.requires.count in
     let below : i < length cells = omega arith in
-    is_control S i c.deref.result.now (of_cell i es) (at ∙ sym (g.met.R.Rules.numbered (n - 1)))
-    (lent_stands S cells es i c.cell.result.now c.deref.result.now below c.cell.ensures.value c.deref.ensures c.requires.stand)
+    is_control S g.R.CellRules.locals i c.deref.result.now (of_cell i es) (at ∙ sym (g.met.R.Rules.numbered (n - 1)))
+    (lent_stands S g.R.CellRules.locals cells es i c.cell.result.now c.deref.result.now below c.cell.ensures.value c.deref.ensures c.requires.stand)
 
 pub returns-clause-plan : goal.returns-clause-plan
 returns-clause-plan g c =
@@ -32,7 +32,7 @@ returns-clause-plan g c =
     let some = c.requires.cells in
     let many = c.requires.count in
     let below : i < length cells = omega arith in
-    let stands = lent_stands S cells es i c.cell.result.now c.deref.result.now below c.cell.ensures.value c.deref.ensures c.requires.stand in
+    let stands = lent_stands S g.R.CellRules.locals cells es i c.cell.result.now c.deref.result.now below c.cell.ensures.value c.deref.ensures c.requires.stand in
     if_ok_with c.plan_of.result c.plan_of.ensures
     (λ plan tells.
     subst (λ (z : ℕ × ℕ). IsPlan S (own S es z.0).catalog c.args.command.now z.1 plan) (λ j. (at j, c.moment-moment.ensures j))

@@ -8,7 +8,7 @@ use Rattle.cluster.proofs.command_step.ask_all.Goals as goal
 pub count_all-requires-clause-fits : goal.count_all-requires-clause-fits
 count_all-requires-clause-fits g c =
     let n = c.args.turnstile.now.id.slots in
-    (all_turned (g.R.Rules.protocol (n - 1)) (g.met.R.Rules.lawful (n - 1)) n (c.args.pass.now.used + 1) c.args.pass.now c.take_turns.new.pass
+    (all_turned (g.R.Rules.protocol (n - 1)) g.R.CellRules.locals (g.met.R.Rules.lawful (n - 1)) n (c.args.pass.now.used + 1) c.args.pass.now c.take_turns.new.pass
     c.take_turns.new.pass.turns c.args.command.now c.in-Ok.answer c.answer_all.new.turns.values.items c.requires.cells.0
     (g.met.R.Rules.numbered (n - 1)) c.in_ok-turns.ensures.pass c.facts.ensures.legal c.in_ok-turns.ensures.trail c.facts.ensures.timely
     c.in-Ok.ensures.answers c.in-Ok.ensures.stand).0
@@ -16,19 +16,19 @@ count_all-requires-clause-fits g c =
 pub count_all-requires-clause-stand : goal.count_all-requires-clause-stand
 count_all-requires-clause-stand g c =
     let n = c.args.turnstile.now.id.slots in
-    (all_turned (g.R.Rules.protocol (n - 1)) (g.met.R.Rules.lawful (n - 1)) n (c.args.pass.now.used + 1) c.args.pass.now c.take_turns.new.pass
+    (all_turned (g.R.Rules.protocol (n - 1)) g.R.CellRules.locals (g.met.R.Rules.lawful (n - 1)) n (c.args.pass.now.used + 1) c.args.pass.now c.take_turns.new.pass
     c.take_turns.new.pass.turns c.args.command.now c.in-Ok.answer c.answer_all.new.turns.values.items c.requires.cells.0
     (g.met.R.Rules.numbered (n - 1)) c.in_ok-turns.ensures.pass c.facts.ensures.legal c.in_ok-turns.ensures.trail c.facts.ensures.timely
     c.in-Ok.ensures.answers c.in-Ok.ensures.stand).1
 
 pub leave_all-requires-clause-stands : goal.leave_all-requires-clause-stands
 leave_all-requires-clause-stands g c =
-    each_oldest (g.R.Rules.protocol (c.args.turnstile.now.id.slots - 1)) c.count_all.new.turns.values.items c.count_all.new.pass.front
+    each_oldest (g.R.Rules.protocol (c.args.turnstile.now.id.slots - 1)) g.R.CellRules.locals c.count_all.new.turns.values.items c.count_all.new.pass.front
     c.count_all.ensures.stand
 
 pub leave_all-requires-in-Err-clause-stands : goal.leave_all-requires-in-Err-clause-stands
 leave_all-requires-in-Err-clause-stands g c =
-    each_oldest (g.R.Rules.protocol (c.args.turnstile.now.id.slots - 1)) c.answer_all.new.turns.values.items c.take_turns.new.pass.front
+    each_oldest (g.R.Rules.protocol (c.args.turnstile.now.id.slots - 1)) g.R.CellRules.locals c.answer_all.new.turns.values.items c.take_turns.new.pass.front
     c.in-Err.ensures.kept
 
 pub returns-in-Ok-clause-ok : goal.returns-in-Ok-clause-ok

@@ -13,10 +13,10 @@ commit_all-requires-clause-stands g c =
     let p = c.args.pass.now in
     let e = event_of p None (Message.Command c.args.command.now) c.args.answer.now in
     λ i b at.
-    subst (λ es. StandsFor S i b.value es) (of_each S i (reverse p.front) e refl ∙ sym (own_newest S p.front i _ e c.requires.entry))
+    subst (λ es. StandsFor S g.R.CellRules.locals i b.value es) (of_each S i (reverse p.front) e refl ∙ sym (own_newest S p.front i _ e c.requires.entry))
     (c.requires.stand i b at)
 
 pub returns-clause-stand : goal.returns-clause-stand
 returns-clause-stand g c =
-    each_newest (g.R.Rules.protocol (c.args.turnstile.now.id.slots - 1)) c.commit_all.new.turns.values.items c.commit_all.new.pass.front
+    each_newest (g.R.Rules.protocol (c.args.turnstile.now.id.slots - 1)) g.R.CellRules.locals c.commit_all.new.turns.values.items c.commit_all.new.pass.front
     c.commit_all.ensures.stands

@@ -14,7 +14,7 @@ pub returns-in-Partition-clause-answers : goal.returns-in-Partition-clause-answe
 returns-in-Partition-clause-answers g c =
     IfOk-weaker c.step.result _ _
     (λ a h n.
-    partition_answers (g.R.Rules.protocol n) c.args.cell.now c.in-Partition.partition c.in-Partition.is (g.met.R.Rules.lawful n) c.args.message
+    partition_answers (g.R.Rules.protocol n) g.R.CellRules.locals c.args.cell.now c.in-Partition.partition c.in-Partition.is (g.met.R.Rules.lawful n) c.args.message
     c.args.moment a (h n))
     c.step.ensures.answers
 
@@ -22,22 +22,23 @@ pub returns-in-Partition-clause-stands : goal.returns-in-Partition-clause-stands
 returns-in-Partition-clause-stands g c =
     IfOk-weaker c.step.result _ _
     (λ a h n.
-    partition_stands (g.R.Rules.protocol n) c.args.cell.now c.in-Partition.partition c.in-Partition.is c.step.new.cell c.args.message c.args.moment a
-    (h n))
+    partition_stands (g.R.Rules.protocol n) g.R.CellRules.locals c.args.cell.now c.in-Partition.partition c.in-Partition.is c.step.new.cell c.args.message c.args.moment a
+    (h n) (c.step.ensures.in_step n))
     c.step.ensures.stands
 
 pub returns-in-Partition-clause-err : goal.returns-in-Partition-clause-err
 returns-in-Partition-clause-err g c =
     on_err_weaker c.step.result
     (λ h n.
-    partition_keeps (g.R.Rules.protocol n) c.args.cell.now c.in-Partition.partition c.in-Partition.is c.step.new.cell c.args.message (h n))
+    partition_keeps (g.R.Rules.protocol n) g.R.CellRules.locals c.args.cell.now c.in-Partition.partition c.in-Partition.is c.step.new.cell c.args.message (h n)
+    (c.step.ensures.in_step n))
     c.step.ensures.err
 
 pub returns-in-Control-clause-answers : goal.returns-in-Control-clause-answers
 returns-in-Control-clause-answers g c =
     IfOk-weaker c.step-in-Control.result _ _
     (λ a h n.
-    control_answers (g.R.Rules.protocol n) c.args.cell.now c.in-Control.control c.in-Control.is (c.own_entries_tell_it.ensures n) c.args.message
+    control_answers (g.R.Rules.protocol n) g.R.CellRules.locals c.args.cell.now c.in-Control.control c.in-Control.is (c.own_entries_tell_it.ensures n) c.args.message
     c.args.moment a (h n))
     c.step-in-Control.ensures.answers
 
@@ -45,7 +46,7 @@ pub returns-in-Control-clause-stands : goal.returns-in-Control-clause-stands
 returns-in-Control-clause-stands g c =
     IfOk-weaker c.step-in-Control.result _ _
     (λ a h n.
-    control_stands (g.R.Rules.protocol n) c.args.cell.now c.in-Control.control c.in-Control.is (c.own_entries_tell_it.ensures n)
+    control_stands (g.R.Rules.protocol n) g.R.CellRules.locals c.args.cell.now c.in-Control.control c.in-Control.is (c.own_entries_tell_it.ensures n)
     c.step-in-Control.new.self c.args.message c.args.moment a (h n))
     c.step-in-Control.ensures.takes
 
@@ -53,6 +54,6 @@ pub returns-in-Control-clause-err : goal.returns-in-Control-clause-err
 returns-in-Control-clause-err g c =
     on_err_weaker c.step-in-Control.result
     (λ h n.
-    control_keeps (g.R.Rules.protocol n) c.args.cell.now c.in-Control.control c.in-Control.is (c.unchanged_holds.ensures n) c.step-in-Control.new.self
+    control_keeps (g.R.Rules.protocol n) g.R.CellRules.locals c.args.cell.now c.in-Control.control c.in-Control.is (c.unchanged_holds.ensures n) c.step-in-Control.new.self
     c.args.message h)
     c.step-in-Control.ensures.err

@@ -7,6 +7,6 @@ pub returns-clause-stand : goal.returns-clause-stand
 returns-clause-stand g c =
     let n = c.args.partitions in
     let S = g.R.Rules.protocol n in
-    one_more (λ k b. StandsFor S k b.value []) c.in_ok-cells.cells c.in_ok-boxed.boxed c.push.new.self c.in_ok-push.ensures.ok c.in_ok-cells.ensures.stand
-    (control_stands S (length c.in_ok-cells.cells) c.in_ok-boxed.boxed.value c.in_ok-control.control [] c.in_ok-boxed.ensures.ok
+    one_more (λ k b. StandsFor S g.R.CellRules.locals k b.value []) c.in_ok-cells.cells c.in_ok-boxed.boxed c.push.new.self c.in_ok-push.ensures.ok c.in_ok-cells.ensures.stand
+    (control_stands S g.R.CellRules.locals (length c.in_ok-cells.cells) c.in_ok-boxed.boxed.value c.in_ok-control.control [] c.in_ok-boxed.ensures.ok
     (c.in_ok-cells.ensures.count ∙ sym (g.met.R.Rules.numbered n)) (c.in_ok-control.ensures n))

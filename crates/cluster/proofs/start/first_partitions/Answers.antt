@@ -17,7 +17,7 @@ loop-place-preserved g c =
     record {
       count = ap length items ∙ (length_push c.loop-place.cells.items c.in_ok-boxed.boxed ∙ ap (λ k. k + 1) count);
       stand =
-          one_more (λ k b. StandsFor S k b.value []) c.loop-place.cells.items c.in_ok-boxed.boxed c.push.new.self.items items i.stand
-          (partition_stands S (length c.loop-place.cells.items) c.in_ok-boxed.boxed.value c.in_ok-partition.partition [] c.in_ok-boxed.ensures.ok below
-          (c.in_ok-partition.ensures.stands n (length c.loop-place.cells.items) refl));
+          one_more (λ k b. StandsFor S g.R.CellRules.locals k b.value []) c.loop-place.cells.items c.in_ok-boxed.boxed c.push.new.self.items items i.stand
+          (partition_stands S g.R.CellRules.locals (length c.loop-place.cells.items) c.in_ok-boxed.boxed.value c.in_ok-partition.partition [] c.in_ok-boxed.ensures.ok below
+          (c.in_ok-partition.ensures.stands n (length c.loop-place.cells.items) refl) (c.in_ok-partition.ensures.in_step n));
     }

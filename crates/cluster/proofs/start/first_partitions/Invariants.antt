@@ -6,5 +6,5 @@ use Rattle.cluster.proofs.start.first_partitions.Given as goal
 abbrev pub invariant-loop-place : goal.invariant-loop-place
 invariant-loop-place g l = record {
   count : length l.cells.items ≡ l._place;
-  stand : (i : ℕ) (x : _) → slice_get l.cells.items i ≡ Some x → StandsFor (g.R.Rules.protocol l.partitions) i x.value [];
+  stand : (i : ℕ) (x : _) → slice_get l.cells.items i ≡ Some x → StandsFor (g.R.Rules.protocol l.partitions) g.R.CellRules.locals i x.value [];
 }

@@ -8,19 +8,19 @@ use Rattle.cluster.proofs.step.ask.Goals as goal
 pub serve-requires : goal.serve-requires
 serve-requires g c = λ n.
     let S = g.R.Rules.protocol (c.args.turnstile.now.id.slots - 1) in
-    serves S c.args.cell c.args.message c.deref_mut.result.now _ c.requires.served
-    (stands_newest S c.args.cell c.enter.new.pass.front c.in-Ok.turn.value.value c.deref_mut.result.now
+    serves S g.R.CellRules.locals c.args.cell c.args.message c.deref_mut.result.now _ c.requires.served
+    (stands_newest S g.R.CellRules.locals c.args.cell c.enter.new.pass.front c.in-Ok.turn.value.value c.deref_mut.result.now
     (c.deref_mut.ensures.value ∙ ap (λ b. b.value) c.cell.ensures.value) c.in-Ok.ensures.stands)
 
 pub count-requires-clause-fits : goal.count-requires-clause-fits
 count-requires-clause-fits g c =
     let n = c.args.turnstile.now.id.slots in
     let S = g.R.Rules.protocol (n - 1) in
-    (turned S (g.met.R.Rules.lawful (n - 1)) n c.args.cell (c.args.pass.now.used + 1) c.moment-moment.result c.args.pass.now c.enter.new.pass
+    (turned S g.R.CellRules.locals (g.met.R.Rules.lawful (n - 1)) n c.args.cell (c.args.pass.now.used + 1) c.moment-moment.result c.args.pass.now c.enter.new.pass
     (ticket c.args.cell c.in-Ok.turn.number ∷ []) c.args.message c.in-Ok-serve.answer c.deref_mut.result.now c.serve.new.cell c.requires.cells
     (g.met.R.Rules.numbered (n - 1)) c.requires.served.within c.requires.sent c.in-Ok.ensures.pass c.facts.ensures.legal c.in-Ok.ensures.trail
     c.requires.may c.facts.ensures.timely
-    (stands_newest S c.args.cell c.enter.new.pass.front c.in-Ok.turn.value.value c.deref_mut.result.now
+    (stands_newest S g.R.CellRules.locals c.args.cell c.enter.new.pass.front c.in-Ok.turn.value.value c.deref_mut.result.now
     (c.deref_mut.ensures.value ∙ ap (λ b. b.value) c.cell.ensures.value) c.in-Ok.ensures.stands)
     c.moment-moment.ensures (c.in-Ok-serve.ensures.answers (n - 1)) (c.in-Ok-serve.ensures.stands (n - 1)) c.in-Ok.turn.cell
     c.of-asked.result.value c.in-Ok.ensures.turn.0 c.of-asked.ensures).0
@@ -29,11 +29,11 @@ pub count-requires-clause-stands : goal.count-requires-clause-stands
 count-requires-clause-stands g c =
     let n = c.args.turnstile.now.id.slots in
     let S = g.R.Rules.protocol (n - 1) in
-    (turned S (g.met.R.Rules.lawful (n - 1)) n c.args.cell (c.args.pass.now.used + 1) c.moment-moment.result c.args.pass.now c.enter.new.pass
+    (turned S g.R.CellRules.locals (g.met.R.Rules.lawful (n - 1)) n c.args.cell (c.args.pass.now.used + 1) c.moment-moment.result c.args.pass.now c.enter.new.pass
     (ticket c.args.cell c.in-Ok.turn.number ∷ []) c.args.message c.in-Ok-serve.answer c.deref_mut.result.now c.serve.new.cell c.requires.cells
     (g.met.R.Rules.numbered (n - 1)) c.requires.served.within c.requires.sent c.in-Ok.ensures.pass c.facts.ensures.legal c.in-Ok.ensures.trail
     c.requires.may c.facts.ensures.timely
-    (stands_newest S c.args.cell c.enter.new.pass.front c.in-Ok.turn.value.value c.deref_mut.result.now
+    (stands_newest S g.R.CellRules.locals c.args.cell c.enter.new.pass.front c.in-Ok.turn.value.value c.deref_mut.result.now
     (c.deref_mut.ensures.value ∙ ap (λ b. b.value) c.cell.ensures.value) c.in-Ok.ensures.stands)
     c.moment-moment.ensures (c.in-Ok-serve.ensures.answers (n - 1)) (c.in-Ok-serve.ensures.stands (n - 1)) c.in-Ok.turn.cell
     c.of-asked.result.value c.in-Ok.ensures.turn.0 c.of-asked.ensures).1

@@ -11,7 +11,7 @@ returns-then-not-let_go-clause-in_step g c = λ n.
     let no : c.let_go.result ≡ false = search rules in
     let h = c.let_go.ensures.same no in
     same_stays (g.R.Rules.protocol n) (g.met.R.Rules.lawful n) (g.met.R.CellRules.ordered n) g.R.CellRules.locals (g.met.R.CellRules.entries_lawful n) g.met.R.Entry.Ord.total
-    cell c.let_go.new.self h.beside.catalog c.table_of.result c.args.key.now (c.table_of.ensures n) h.slots (c.let_go.ensures.same_entries no)
+    cell c.let_go.new.self h.beside.catalog h.slots (c.let_go.ensures.same_entries no)
 
 pub returns-clause-in_step : goal.returns-clause-in_step
 returns-clause-in_step g c = λ n.

@@ -12,7 +12,7 @@ returns-then-not-settle-clause-in_step g c = λ n.
     let no : c.settle.result ≡ false = search rules in
     let h = c.settle.ensures.same no in
     same_stays (g.R.Rules.protocol n) (g.met.R.Rules.lawful n) (g.met.R.CellRules.ordered n) g.R.CellRules.locals (g.met.R.CellRules.entries_lawful n) g.met.R.Entry.Ord.total
-    cell c.settle.new.self h.beside.catalog c.table_of.result c.args.key.now (c.table_of.ensures n) h.slots (c.settle.ensures.same_entries no)
+    cell c.settle.new.self h.beside.catalog h.slots (c.settle.ensures.same_entries no)
 
 pub returns-clause-in_step : goal.returns-clause-in_step
 returns-clause-in_step g c = λ n.

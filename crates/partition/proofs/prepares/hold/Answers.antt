@@ -101,7 +101,7 @@ returns-then-is_empty-clause-in_step g c = λ n.
     (λ h. held_plain_stays S (g.met.R.Rules.lawful n) (g.met.R.CellRules.ordered n) L (g.met.R.CellRules.entries_lawful n) g.met.R.Entry.Ord.total
     cell c.hold.new.self h.beside.catalog u k table c.args.pending h.slots free no c.hold.ensures.entries)
     (λ h. same_stays S (g.met.R.Rules.lawful n) (g.met.R.CellRules.ordered n) L (g.met.R.CellRules.entries_lawful n) g.met.R.Entry.Ord.total
-    cell c.hold.new.self h.beside.catalog u k table h.slots c.hold.ensures.entries)
+    cell c.hold.new.self h.beside.catalog h.slots c.hold.ensures.entries)
 
 pub returns-clause-in_step : goal.returns-clause-in_step
 returns-clause-in_step g c = λ n.

@@ -8,7 +8,7 @@ use Rattle.partition.proofs.Paged.{page_answered}
 use Rattle.partition.proofs.steps.step.Goals as goal
 
 pub returns-in-Get-clause-answers : goal.returns-in-Get-clause-answers
-returns-in-Get-clause-answers g c = IfOk-weaker c.get.result _ _ (λ a h n. answered (g.R.Rules.protocol n) c.args.cell.now c.args.cell.now c.args.message (Message.Get c.in-Get.key) c.in-Get.is ((g.R.Rules.protocol n).core.cell_of c.in-Get.key) refl c.args.moment a (λ es st. h n (state (g.R.Rules.protocol n) es) (feed_after (g.R.Rules.protocol n) es) st)) c.get.ensures
+returns-in-Get-clause-answers g c = IfOk-weaker c.get.result _ _ (λ a h n. answered (g.R.Rules.protocol n) c.args.cell.now c.args.cell.now c.args.message (Message.Get c.in-Get.key) c.in-Get.is ((g.R.Rules.protocol n).core.cell_of c.in-Get.key) refl g.R.CellRules.locals c.args.moment a (λ es st step. h n (state (g.R.Rules.protocol n) es) (feed_after (g.R.Rules.protocol n) es) st)) c.get.ensures
 
 pub returns-in-Get-clause-stands : goal.returns-in-Get-clause-stands
 returns-in-Get-clause-stands g c = IfOk-weaker c.get.result _ _ (λ a h n. stands (g.R.Rules.protocol n) c.args.cell.now c.args.cell.now c.args.message (Message.Get c.in-Get.key) c.in-Get.is ((g.R.Rules.protocol n).core.cell_of c.in-Get.key) refl c.args.moment a (λ w f here. here)) c.get.ensures
@@ -17,7 +17,7 @@ pub returns-in-Get-clause-err : goal.returns-in-Get-clause-err
 returns-in-Get-clause-err g c = on_err c.get.result (λ n. keeps (g.R.Rules.protocol n) c.args.cell.now c.args.cell.now c.args.message (Message.Get c.in-Get.key) c.in-Get.is ((g.R.Rules.protocol n).core.cell_of c.in-Get.key) refl (λ w f here. here))
 
 pub returns-in-ReadVersion-clause-answers : goal.returns-in-ReadVersion-clause-answers
-returns-in-ReadVersion-clause-answers g c = IfOk-weaker c.read_version.result _ _ (λ a h n. answered (g.R.Rules.protocol n) c.args.cell.now c.args.cell.now c.args.message (Message.ReadVersion c.in-ReadVersion.key) c.in-ReadVersion.is ((g.R.Rules.protocol n).core.cell_of c.in-ReadVersion.key) refl c.args.moment a (λ es st. h n (state (g.R.Rules.protocol n) es) (feed_after (g.R.Rules.protocol n) es) st)) c.read_version.ensures
+returns-in-ReadVersion-clause-answers g c = IfOk-weaker c.read_version.result _ _ (λ a h n. answered (g.R.Rules.protocol n) c.args.cell.now c.args.cell.now c.args.message (Message.ReadVersion c.in-ReadVersion.key) c.in-ReadVersion.is ((g.R.Rules.protocol n).core.cell_of c.in-ReadVersion.key) refl g.R.CellRules.locals c.args.moment a (λ es st step. h n (state (g.R.Rules.protocol n) es) (feed_after (g.R.Rules.protocol n) es) st)) c.read_version.ensures
 
 pub returns-in-ReadVersion-clause-stands : goal.returns-in-ReadVersion-clause-stands
 returns-in-ReadVersion-clause-stands g c = IfOk-weaker c.read_version.result _ _ (λ a h n. stands (g.R.Rules.protocol n) c.args.cell.now c.args.cell.now c.args.message (Message.ReadVersion c.in-ReadVersion.key) c.in-ReadVersion.is ((g.R.Rules.protocol n).core.cell_of c.in-ReadVersion.key) refl c.args.moment a (λ w f here. here)) c.read_version.ensures
@@ -26,7 +26,7 @@ pub returns-in-ReadVersion-clause-err : goal.returns-in-ReadVersion-clause-err
 returns-in-ReadVersion-clause-err g c = on_err c.read_version.result (λ n. keeps (g.R.Rules.protocol n) c.args.cell.now c.args.cell.now c.args.message (Message.ReadVersion c.in-ReadVersion.key) c.in-ReadVersion.is ((g.R.Rules.protocol n).core.cell_of c.in-ReadVersion.key) refl (λ w f here. here))
 
 pub returns-in-Write-clause-answers : goal.returns-in-Write-clause-answers
-returns-in-Write-clause-answers g c = IfOk-weaker c.write.result _ _ (λ a h n. answered (g.R.Rules.protocol n) c.args.cell.now c.write.new.cell c.args.message (Message.Write c.in-Write.action) c.in-Write.is ((g.R.Rules.protocol n).core.cell_of ((g.R.Rules.protocol n).core.key_of c.in-Write.action)) refl c.args.moment a (λ es st. h n (state (g.R.Rules.protocol n) es) (feed_after (g.R.Rules.protocol n) es) st)) c.write.ensures.says
+returns-in-Write-clause-answers g c = IfOk-weaker c.write.result _ _ (λ a h n. answered (g.R.Rules.protocol n) c.args.cell.now c.write.new.cell c.args.message (Message.Write c.in-Write.action) c.in-Write.is ((g.R.Rules.protocol n).core.cell_of ((g.R.Rules.protocol n).core.key_of c.in-Write.action)) refl g.R.CellRules.locals c.args.moment a (λ es st step. h n (state (g.R.Rules.protocol n) es) (feed_after (g.R.Rules.protocol n) es) st)) c.write.ensures.says
 
 pub returns-in-Write-clause-stands : goal.returns-in-Write-clause-stands
 returns-in-Write-clause-stands g c = IfOk-weaker c.write.result _ _ (λ a h n. stands (g.R.Rules.protocol n) c.args.cell.now c.write.new.cell c.args.message (Message.Write c.in-Write.action) c.in-Write.is ((g.R.Rules.protocol n).core.cell_of ((g.R.Rules.protocol n).core.key_of c.in-Write.action)) refl c.args.moment a (h n)) c.write.ensures.leaves
@@ -35,7 +35,7 @@ pub returns-in-Write-clause-err : goal.returns-in-Write-clause-err
 returns-in-Write-clause-err g c = on_err_weaker c.write.result (λ h n. keeps (g.R.Rules.protocol n) c.args.cell.now c.write.new.cell c.args.message (Message.Write c.in-Write.action) c.in-Write.is ((g.R.Rules.protocol n).core.cell_of ((g.R.Rules.protocol n).core.key_of c.in-Write.action)) refl (h n ((g.R.Rules.protocol n).core.cell_of ((g.R.Rules.protocol n).core.key_of c.in-Write.action)))) c.write.ensures.err
 
 pub returns-in-Prepare-clause-answers : goal.returns-in-Prepare-clause-answers
-returns-in-Prepare-clause-answers g c = IfOk-weaker c.prepare.result _ _ (λ a h n. answered (g.R.Rules.protocol n) c.args.cell.now c.prepare.new.cell c.args.message (Message.Prepare c.in-Prepare.number c.in-Prepare.stamp c.in-Prepare.action) c.in-Prepare.is ((g.R.Rules.protocol n).core.cell_of ((g.R.Rules.protocol n).core.key_of c.in-Prepare.action)) refl c.args.moment a (λ es st. h n (state (g.R.Rules.protocol n) es) (feed_after (g.R.Rules.protocol n) es) st)) c.prepare.ensures.says
+returns-in-Prepare-clause-answers g c = IfOk-weaker c.prepare.result _ _ (λ a h n. answered (g.R.Rules.protocol n) c.args.cell.now c.prepare.new.cell c.args.message (Message.Prepare c.in-Prepare.number c.in-Prepare.stamp c.in-Prepare.action) c.in-Prepare.is ((g.R.Rules.protocol n).core.cell_of ((g.R.Rules.protocol n).core.key_of c.in-Prepare.action)) refl g.R.CellRules.locals c.args.moment a (λ es st step. h n (state (g.R.Rules.protocol n) es) (feed_after (g.R.Rules.protocol n) es) st)) c.prepare.ensures.says
 
 pub returns-in-Prepare-clause-stands : goal.returns-in-Prepare-clause-stands
 returns-in-Prepare-clause-stands g c = IfOk-weaker c.prepare.result _ _ (λ a h n. stands (g.R.Rules.protocol n) c.args.cell.now c.prepare.new.cell c.args.message (Message.Prepare c.in-Prepare.number c.in-Prepare.stamp c.in-Prepare.action) c.in-Prepare.is ((g.R.Rules.protocol n).core.cell_of ((g.R.Rules.protocol n).core.key_of c.in-Prepare.action)) refl c.args.moment a (h n c.args.moment)) c.prepare.ensures.leaves
@@ -44,7 +44,7 @@ pub returns-in-Prepare-clause-err : goal.returns-in-Prepare-clause-err
 returns-in-Prepare-clause-err g c = on_err_weaker c.prepare.result (λ h n. keeps (g.R.Rules.protocol n) c.args.cell.now c.prepare.new.cell c.args.message (Message.Prepare c.in-Prepare.number c.in-Prepare.stamp c.in-Prepare.action) c.in-Prepare.is ((g.R.Rules.protocol n).core.cell_of ((g.R.Rules.protocol n).core.key_of c.in-Prepare.action)) refl (h n)) c.prepare.ensures.err
 
 pub returns-in-ApplyIndex-clause-answers : goal.returns-in-ApplyIndex-clause-answers
-returns-in-ApplyIndex-clause-answers g c = IfOk-weaker c.apply_index.result _ _ (λ a h n. answered (g.R.Rules.protocol n) c.args.cell.now c.apply_index.new.cell c.args.message (Message.ApplyIndex c.in-ApplyIndex.source c.in-ApplyIndex.sequence c.in-ApplyIndex.index c.in-ApplyIndex.row_key c.in-ApplyIndex.after) c.in-ApplyIndex.is ((g.R.Rules.protocol n).core.cell_of c.in-ApplyIndex.row_key) refl c.args.moment a (λ es st. h n (state (g.R.Rules.protocol n) es) (feed_after (g.R.Rules.protocol n) es) st)) c.apply_index.ensures.says
+returns-in-ApplyIndex-clause-answers g c = IfOk-weaker c.apply_index.result _ _ (λ a h n. answered (g.R.Rules.protocol n) c.args.cell.now c.apply_index.new.cell c.args.message (Message.ApplyIndex c.in-ApplyIndex.source c.in-ApplyIndex.sequence c.in-ApplyIndex.index c.in-ApplyIndex.row_key c.in-ApplyIndex.after) c.in-ApplyIndex.is ((g.R.Rules.protocol n).core.cell_of c.in-ApplyIndex.row_key) refl g.R.CellRules.locals c.args.moment a (λ es st step. h n (state (g.R.Rules.protocol n) es) (feed_after (g.R.Rules.protocol n) es) st)) c.apply_index.ensures.says
 
 pub returns-in-ApplyIndex-clause-stands : goal.returns-in-ApplyIndex-clause-stands
 returns-in-ApplyIndex-clause-stands g c = IfOk-weaker c.apply_index.result _ _ (λ a h n. stands (g.R.Rules.protocol n) c.args.cell.now c.apply_index.new.cell c.args.message (Message.ApplyIndex c.in-ApplyIndex.source c.in-ApplyIndex.sequence c.in-ApplyIndex.index c.in-ApplyIndex.row_key c.in-ApplyIndex.after) c.in-ApplyIndex.is ((g.R.Rules.protocol n).core.cell_of c.in-ApplyIndex.row_key) refl c.args.moment a (h n c.args.moment)) c.apply_index.ensures.leaves
@@ -53,13 +53,13 @@ pub returns-in-ApplyIndex-clause-err : goal.returns-in-ApplyIndex-clause-err
 returns-in-ApplyIndex-clause-err g c = on_err_weaker c.apply_index.result (λ h n. keeps (g.R.Rules.protocol n) c.args.cell.now c.apply_index.new.cell c.args.message (Message.ApplyIndex c.in-ApplyIndex.source c.in-ApplyIndex.sequence c.in-ApplyIndex.index c.in-ApplyIndex.row_key c.in-ApplyIndex.after) c.in-ApplyIndex.is ((g.R.Rules.protocol n).core.cell_of c.in-ApplyIndex.row_key) refl (h n ((g.R.Rules.protocol n).core.cell_of c.in-ApplyIndex.row_key))) c.apply_index.ensures.err
 
 pub returns-in-Apply-clause-answers : goal.returns-in-Apply-clause-answers
-returns-in-Apply-clause-answers g c = λ n. answered (g.R.Rules.protocol n) c.args.cell.now c.apply.new.cell c.args.message (Message.Apply c.in-Apply.number c.in-Apply.key) c.in-Apply.is ((g.R.Rules.protocol n).core.cell_of c.in-Apply.key) refl c.args.moment c.apply.result (λ es st. c.apply.ensures.says n (state (g.R.Rules.protocol n) es) (feed_after (g.R.Rules.protocol n) es) st)
+returns-in-Apply-clause-answers g c = λ n. answered (g.R.Rules.protocol n) c.args.cell.now c.apply.new.cell c.args.message (Message.Apply c.in-Apply.number c.in-Apply.key) c.in-Apply.is ((g.R.Rules.protocol n).core.cell_of c.in-Apply.key) refl g.R.CellRules.locals c.args.moment c.apply.result (λ es st step. c.apply.ensures.says n (state (g.R.Rules.protocol n) es) (feed_after (g.R.Rules.protocol n) es) st)
 
 pub returns-in-Apply-clause-stands : goal.returns-in-Apply-clause-stands
 returns-in-Apply-clause-stands g c = λ n. stands (g.R.Rules.protocol n) c.args.cell.now c.apply.new.cell c.args.message (Message.Apply c.in-Apply.number c.in-Apply.key) c.in-Apply.is ((g.R.Rules.protocol n).core.cell_of c.in-Apply.key) refl c.args.moment c.apply.result (c.apply.ensures.leaves n c.args.moment)
 
 pub returns-in-Release-clause-answers : goal.returns-in-Release-clause-answers
-returns-in-Release-clause-answers g c = λ n. answered (g.R.Rules.protocol n) c.args.cell.now c.release.new.cell c.args.message (Message.Release c.in-Release.number c.in-Release.key) c.in-Release.is ((g.R.Rules.protocol n).core.cell_of c.in-Release.key) refl c.args.moment c.release.result (λ es st. c.release.ensures.says n (state (g.R.Rules.protocol n) es) (feed_after (g.R.Rules.protocol n) es) st)
+returns-in-Release-clause-answers g c = λ n. answered (g.R.Rules.protocol n) c.args.cell.now c.release.new.cell c.args.message (Message.Release c.in-Release.number c.in-Release.key) c.in-Release.is ((g.R.Rules.protocol n).core.cell_of c.in-Release.key) refl g.R.CellRules.locals c.args.moment c.release.result (λ es st step. c.release.ensures.says n (state (g.R.Rules.protocol n) es) (feed_after (g.R.Rules.protocol n) es) st)
 
 pub returns-in-Release-clause-stands : goal.returns-in-Release-clause-stands
 returns-in-Release-clause-stands g c = λ n. stands (g.R.Rules.protocol n) c.args.cell.now c.release.new.cell c.args.message (Message.Release c.in-Release.number c.in-Release.key) c.in-Release.is ((g.R.Rules.protocol n).core.cell_of c.in-Release.key) refl c.args.moment c.release.result (c.release.ensures.leaves n c.args.moment)
@@ -72,8 +72,8 @@ returns-in-Ack-clause-stands g c = λ n.
 pub returns-in-QueryPage-clause-answers : goal.returns-in-QueryPage-clause-answers
 returns-in-QueryPage-clause-answers g c =
     IfOk-weaker c.page.result _ _
-    (λ a h n. answered (g.R.Rules.protocol n) c.args.cell.now c.args.cell.now c.args.message (Message.QueryPage c.in-QueryPage.asked) c.in-QueryPage.is ((g.R.Rules.protocol n).page_cell c.in-QueryPage.asked) refl c.args.moment a
-    (λ es st. page_answered (g.R.Rules.protocol n) (g.met.R.Rules.lawful n) c.args.cell.now c.in-QueryPage.asked a es (h n) st)) c.page.ensures
+    (λ a h n. answered (g.R.Rules.protocol n) c.args.cell.now c.args.cell.now c.args.message (Message.QueryPage c.in-QueryPage.asked) c.in-QueryPage.is ((g.R.Rules.protocol n).page_cell c.in-QueryPage.asked) refl g.R.CellRules.locals c.args.moment a
+    (λ es st step. page_answered (g.R.Rules.protocol n) (g.met.R.Rules.lawful n) g.R.CellRules.locals c.args.cell.now c.in-QueryPage.asked a es (h n) st step)) c.page.ensures
 
 pub returns-in-QueryPage-clause-stands : goal.returns-in-QueryPage-clause-stands
 returns-in-QueryPage-clause-stands g c =
@@ -88,8 +88,8 @@ returns-in-QueryPage-clause-err g c =
 pub returns-in-ScanPage-clause-answers : goal.returns-in-ScanPage-clause-answers
 returns-in-ScanPage-clause-answers g c =
     IfOk-weaker c.page-in-ScanPage.result _ _
-    (λ a h n. answered (g.R.Rules.protocol n) c.args.cell.now c.args.cell.now c.args.message (Message.ScanPage c.in-ScanPage.asked) c.in-ScanPage.is ((g.R.Rules.protocol n).page_cell c.in-ScanPage.asked) refl c.args.moment a
-    (λ es st. page_answered (g.R.Rules.protocol n) (g.met.R.Rules.lawful n) c.args.cell.now c.in-ScanPage.asked a es (h n) st)) c.page-in-ScanPage.ensures
+    (λ a h n. answered (g.R.Rules.protocol n) c.args.cell.now c.args.cell.now c.args.message (Message.ScanPage c.in-ScanPage.asked) c.in-ScanPage.is ((g.R.Rules.protocol n).page_cell c.in-ScanPage.asked) refl g.R.CellRules.locals c.args.moment a
+    (λ es st step. page_answered (g.R.Rules.protocol n) (g.met.R.Rules.lawful n) g.R.CellRules.locals c.args.cell.now c.in-ScanPage.asked a es (h n) st step)) c.page-in-ScanPage.ensures
 
 pub returns-in-ScanPage-clause-stands : goal.returns-in-ScanPage-clause-stands
 returns-in-ScanPage-clause-stands g c =

@@ -1,10 +1,9 @@
 use Rattle.std.proofs.Common.{rules, ◌≡◌, None, sym, ap, ◌∙◌}
 use Rattle.std.specs.Option.{option_copied}
 use Rattle.txn_core.specs.History.{is_written}
-use Rattle.txn_core.specs.declared.outcome.Outcome.TheVariants.{New}
 use Rattle.item_store.specs.Slots.{holder_of, row_of}
 use Rattle.item_store.specs.Changes.{slot_at}
-use Rattle.partition.specs.Knows.{kept_at, outcome_at}
+use Rattle.partition.specs.Knows.{kept_at}
 use Rattle.partition.proofs.Moved.{if_ok_with, write_moved}
 use Rattle.partition.proofs.writes.attempt.Goals as goal
 

@@ -6,6 +6,6 @@ use Rattle.cell_rules.proofs.cells.TableRulesPageRules.page_of_rows.Goals as goa
 
 pub returns : goal.returns
 returns c =
-    IfOk-weaker c.told_of_cell.result _ _
-    (λ told is n. is ∙ ap (λ rows. told_of c.args.catalog.now rows c.args.page.now) (told_all c.args.rows.now.entries))
-    c.told_of_cell.ensures
+    IfOk-weaker c.told_of_rows.result _ _
+    (λ told is n index named. is index named ∙ ap (λ rows. told_of c.args.catalog.now rows c.args.page.now) (told_all c.args.rows.now.entries))
+    c.told_of_rows.ensures

@@ -18,7 +18,7 @@ split-requires-clause-kinds g c = λ i b at.
     let stands = c.close.ensures.history.values_stand i b (ap (λ l. slice_get l i) (sym c.into-cells.ensures) ∙ at) in
     let count : length c.into-cells.result.items ≡ n = ap length c.into-cells.ensures ∙ c.close.ensures.count in
     let last : S.control ≡ length c.into-cells.result.items - 1 = omega arith in
-    subst (λ (k : ℕ). IsInPlace k i b.value) last (in_place S i b.value _ stands)
+    subst (λ (k : ℕ). IsInPlace k i b.value) last (in_place S g.R.CellRules.locals i b.value _ stands)
 
 pub returns-clause-after : goal.returns-clause-after
 returns-clause-after g c =
@@ -35,9 +35,9 @@ returns-clause-after g c =
       fronts = history.fronts;
       partitions_stand = λ i x at.
           let h = split.partitions i x at in
-          partition_stands S i history.log h.0.value x h.2 (history.values_stand i h.0 (ap (λ l. slice_get l i) (sym is) ∙ h.1));
+          partition_stands S g.R.CellRules.locals i history.log h.0.value x h.2 (history.values_stand i h.0 (ap (λ l. slice_get l i) (sym is) ∙ h.1));
       control_holds =
           let h = split.ledger in
           let k = length c.split.result.partitions in
-          control_holds S k history.log h.0.value c.split.result.ledger h.2 (history.values_stand k h.0 (ap (λ l. slice_get l k) (sym is) ∙ h.1));
+          control_holds S g.R.CellRules.locals k history.log h.0.value c.split.result.ledger h.2 (history.values_stand k h.0 (ap (λ l. slice_get l k) (sym is) ∙ h.1));
     }

@@ -4,7 +4,7 @@ use Rattle.item_store.specs.Changes.{CountsOne}
 use Rattle.item_store.specs.Tables.{slot_under}
 use Rattle.local_index.specs.Tables.{claim_under}
 use Rattle.planned_changes.specs.Commands.{is_in, is_number}
-use Rattle.partition.specs.Plans.{HasPlace, filled}
+use Rattle.partition.specs.Plans.{HasPlace, entered, filled}
 use Rattle.planned_changes.proofs.Basics.{some_is}
 use Rattle.partition.proofs.Moved.{is_ok_where}
 use Rattle.partition.proofs.cell.Partition.carry_out_plan.Goals as goal
@@ -18,6 +18,7 @@ returns g c = λ p is room.
     is_ok_where c.count_change.result c.count_change.ensures.counted c.count_change.ensures.left (λ none. omega (arith, room.number, none)) in
     let place : HasPlace c.count_change.new.self.tables plan.made =
     subst (λ t. HasPlace t plan.made) (sym counted.tables) (subst (λ y. HasPlace old.items.tables y.made) (sym one) room.place) in
+    let beside : HasPlace old.locals.tables plan.made = subst (λ y. HasPlace old.locals.tables y.made) (sym one) room.entries in
     record {
       partitions = refl;
       catalog = ap (λ y. y.catalog) one;
@@ -27,7 +28,10 @@ returns g c = λ p is room.
           (c.fill_table.ensures.slots place u q ∙ ap (λ t. filled plan.made u q (slot_under t u q)) counted.tables)
           ∙ ap (λ y. if is_number y.dropped u then None else filled y.made u q (slot_under old.items.tables u q)) one;
       numbers = c.drop_table.ensures.counts ∙ c.fill_table.ensures.counts ∙ counted.counts;
-      entries = λ u q. c.drop_entries.ensures u q ∙ ap (λ y. if is_number y.dropped u then None else claim_under g.N.Ord.cmp old.locals.tables u q) one;
+      entries = λ u q.
+          c.drop_entries.ensures u q
+          ∙ ap (λ x. if is_number plan.dropped u then None else x) (c.fill_table.ensures.entries beside u q)
+          ∙ ap (λ y. if is_number y.dropped u then None else entered y.made u q (claim_under g.N.Ord.cmp old.locals.tables u q)) one;
       prepared = refl;
       waiting = c.queue_all.ensures.waiting ∙ ap (λ y. old.outbox.waiting.items ++ y.changes.items) one;
       sent = c.queue_all.ensures.sent;

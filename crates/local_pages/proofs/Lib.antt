@@ -1,0 +1,4 @@
+pub mod Parts
+pub mod Among
+pub mod Rows
+pub mod Walks

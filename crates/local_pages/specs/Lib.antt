@@ -1,0 +1,2 @@
+-- The rows that entries of local indexes stand for.
+pub mod Met
