@@ -1,5 +1,5 @@
 -- A number that an answered Begin names was begun with the same parameters.
-use Rattle.std.proofs.Common.{◌≡◌, ℕ, Bool, true, false, not, ◌&&◌, nat_eq, List, [], ◌∷◌, ◌++◌, Option, None, Some, is_some, IfSome, if◌then◌else◌, refl, sym, ap, ◌∙◌, subst}
+use Rattle.std.proofs.Common.{◌≡◌, ℕ, Bool, true, false, not, ◌&&◌, nat_eq, List, [], ◌∷◌, ◌++◌, Option, None, Some, is_some, IfSome, if◌then◌else◌, refl, ap, ◌∙◌, subst}
 use Rattle.std.specs.List.{list_all}
 use Rattle.std.specs.Str.{bytes_eq}
 use Rattle.std.proofs.lemmas.Bool.{cond_both}
@@ -8,7 +8,7 @@ use Rattle.txn_core.specs.declared.message.Message.{Message}
 use Rattle.txn_core.specs.declared.answer.Answer.{Answer}
 use Rattle.txn_core.specs.Answers.{KeptToken, begin_answer}
 use Rattle.txn_core.specs.Driver.{KnowsBegun}
-use Rattle.txn_core.specs.History.{is_first, tells_cancel, is_finished, effects, Had, begins, is_over, unless_over, completed, freed, begun_with, kept_after, kept, found_kept}
+use Rattle.txn_core.specs.History.{is_first, tells_cancel, is_finished, effects, Had, begins, is_over, unless_over, completed, freed, kept_after, kept, found_kept}
 use Rattle.txn_core.specs.Legal.{state, IsAnswer, IsLegal}
 use Rattle.txn_core.specs.Serial.{begun_stamp, begun_actions}
 use Rattle.txn_core.specs.Service.{Service, IsServiceLawful, Asked, Reply, Event, History}

@@ -1,6 +1,6 @@
 //! The steps that decide a transaction.
 
-ghost use Rattle.std.specs.Prelude.{◌≡◌, ◌≢◌, ◌↔◌, ◌<◌, None, true, [], reverse, if◌then◌else◌, IfErr, IfOk, OnOk, Err};
+ghost use Rattle.std.specs.Prelude.{◌≡◌, ◌≢◌, ◌↔◌, ◌<◌, true, [], reverse, if◌then◌else◌, IfErr, IfOk, OnOk, Err};
 ghost use Rattle.turnstile.specs.Passes.{most_units};
 ghost use Rattle.txn_core.specs.declared.course.Move.{Move};
 ghost use Rattle.txn_core.specs.declared.fate.Fate.{Fate};

@@ -1,6 +1,6 @@
 //! A driver begins with the record of its transaction.
 
-ghost use Rattle.std.specs.Prelude.{◌≡◌, ◌↔◌, [], reverse, IfErr, IfOk, IfSome, IfNone, Err};
+ghost use Rattle.std.specs.Prelude.{◌≡◌, ◌↔◌, [], IfErr, IfOk, IfSome, IfNone, Err};
 ghost use Rattle.turnstile.specs.Passes.{most_units};
 ghost use Rattle.txn_core.specs.declared.fate.Fate.{Fate};
 ghost use Rattle.cluster.specs.Steps.{partitions_of};

@@ -1,5 +1,5 @@
 -- What is drained where no other pass queued anything.
-use Rattle.std.proofs.Common.{◌≡◌, ◌⊎◌, ℕ, suc, ◌+◌, ◌≤◌, ◌<◌, Bool, true, false, cond, leb, leb-true, leb-false, append-nil, ◌==◌, List, [], ◌∷◌, ◌++◌, length, map, filter, reverse, drop, Option, None, inl, inr, ⊎_elim, refl, sym, ap, ◌∙◌, subst, arith, append_assoc, eq-eqb}
+use Rattle.std.proofs.Common.{◌≡◌, ◌⊎◌, ℕ, suc, ◌+◌, ◌≤◌, ◌<◌, Bool, true, false, cond, leb, leb-true, leb-false, append-nil, ◌==◌, List, [], ◌∷◌, ◌++◌, length, map, filter, reverse, drop, inl, inr, ⊎_elim, refl, sym, ap, ◌∙◌, subst, arith, append_assoc, eq-eqb}
 use Rattle.std.proofs.Math.Seq.{drop-append_seam}
 use Rattle.std.proofs.lemmas.List.{append_cancel_left}
 use Rattle.std.specs.List.{AllByRecursion, range_with_len}
@@ -19,7 +19,7 @@ use Rattle.txn_core.specs.Legal.{IsLegal}
 use Rattle.txn_core.specs.Service.{Service, IsServiceLawful, Event, History}
 use Rattle.txn_core.proofs.Exports.{beginning_is_tail, newest, legal_before, legal_events, empty_is_empty, others_queue_nothing}
 use Rattle.cluster.specs.Events.{pass_of}
-use Rattle.index_feeder.specs.Feeds.{Feeding, Found, Fed, all_empty, entries_of, entries, finds_empty, Makes, Drains, LeavesDrained}
+use Rattle.index_feeder.specs.Feeds.{Feeding, Found, Fed, all_empty, entries, finds_empty, Drains, LeavesDrained}
 use Rattle.index_feeder.proofs.Made.{entries_append}
 
 -- what holds of each that passes a test, and of each that doesn't

@@ -1,5 +1,5 @@
 -- The three messages of a feed: what they are answered, and why each may be sent.
-use Rattle.std.proofs.Common.{◌≡◌, ℕ, ◌<◌, Bool, true, ◌&&◌, ◌||◌, nat_eq, List, [], ◌∷◌, ◌++◌, length, Option, None, Some, inl, inr, refl, sym, ap, ◌∙◌, subst, arith, eq-eqb}
+use Rattle.std.proofs.Common.{◌≡◌, ℕ, Bool, true, ◌&&◌, ◌||◌, nat_eq, [], ◌∷◌, ◌++◌, Option, None, Some, inl, inr, refl, sym, ap, ◌∙◌, subst, arith, eq-eqb}
 use Rattle.turnstile.specs.Passes.{PassView}
 use Rattle.index_feed.specs.Feed.{Out, showing}
 use Rattle.txn_core.specs.declared.message.Message.{Message}
@@ -15,7 +15,7 @@ use Rattle.cluster.specs.Steps.{IsLater}
 use Rattle.own_entries.specs.Counts.{Counts, CountsUntil}
 use Rattle.own_entries.proofs.Counting.{counts_on, counts_until, same_event}
 use Rattle.index_feeder.specs.declared.feeding.Feed.{Feed}
-use Rattle.index_feeder.specs.Feeds.{shows, applies, acknowledges, IsCutOff, Feeds, FeedsPartly}
+use Rattle.index_feeder.specs.Feeds.{shows, applies, acknowledges, Feeds, FeedsPartly}
 
 module _ {K V A F B : Type 0} (cell_of : K → ℕ) where
   abbrev Same : Answer K V A F B → Option (Out K V) → Type 0

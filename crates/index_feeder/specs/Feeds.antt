@@ -1,5 +1,5 @@
 -- What feeds add to the history, one after another, and what they leave.
-use Rattle.std.specs.Prelude.{◌≡◌, ◌⊎◌, ℕ, ◌+◌, ◌*◌, ◌<◌, ◌≤◌, Bool, false, List, [], ◌∷◌, ◌++◌, length, map, reverse, drop, Option, None, Some}
+use Rattle.std.specs.Prelude.{◌≡◌, ◌⊎◌, ℕ, ◌+◌, ◌*◌, ◌≤◌, Bool, false, List, [], ◌∷◌, ◌++◌, length, map, reverse, drop, None, Some}
 use Rattle.std.specs.List.{AllByRecursion, range_with_len}
 use Rattle.turnstile.specs.Passes.{PassView}
 use Rattle.index_feed.specs.Feed.{Out}

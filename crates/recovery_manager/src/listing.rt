@@ -1,6 +1,6 @@
 //! What the cells list of transactions that are not ended.
 
-ghost use Rattle.std.specs.Prelude.{◌≡◌, ◌<◌, ℕ, [], IfOk, IfErr};
+ghost use Rattle.std.specs.Prelude.{◌≡◌, ◌<◌, [], IfOk, IfErr};
 ghost use Rattle.cluster.specs.Steps.{partitions_of};
 ghost use Rattle.own_entries.specs.Counts.{CountsUntil};
 ghost use Rattle.recovery_manager.specs.Lists.{AreTheNumbers, ListsHeld, ListsItems, ListsNumbers, ListsPartly, numbers_in};
