@@ -9,4 +9,5 @@ pub mod Differing
 pub mod Drawn
 pub mod Writing
 pub mod Alike
+pub mod Leaving
 pub mod Total

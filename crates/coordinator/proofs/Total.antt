@@ -21,13 +21,32 @@ use Rattle.own_entries.proofs.Counting.{all_at_on, counts_none}
 use Rattle.own_entries.proofs.Lists.{any_back, any_front, each_append}
 use Rattle.coordinator.specs.declared.drive_end.DriveEnd.{DriveEnd}
 use Rattle.coordinator.specs.declared.transact_end.TransactEnd.{TransactEnd}
-use Rattle.coordinator.specs.Driving.{is_driving, is_done, Added, AllDrive}
-use Rattle.coordinator.specs.Drives.{is_gone_end, IsEnd}
-use Rattle.coordinator.specs.Writes.{ended_by, unanswered, draws_some, Forgets, ForgetsDone, RunsDrawn, Follows, Turns, TurnsAgain, Writes, IsOfWrite, IsAlike, WasAnswered, WasNamed, EndsBy, AddsWriting}
+use Rattle.coordinator.specs.Driving.{is_driving, is_done, Added, AllDrive, ended}
+use Rattle.coordinator.specs.Drives.{is_gone_end, IsEnd, LeavesNoneDecided}
+use Rattle.coordinator.specs.Writes.{is_cut_off, ended_by, unanswered, draws_some, Forgets, ForgetsDone, RunsDrawn, Follows, Turns, TurnsAgain, Writes, IsOfWrite, IsAlike, WasAnswered, WasNamed, EndsBy, AddsWriting}
 use Rattle.coordinator.proofs.Finishing.{some_weaker}
+use Rattle.coordinator.proofs.Leaving.{is_cut, both_leave, end_leaves, quiet_leaves}
 use Rattle.coordinator.proofs.Moving.{added_after, added_by, exactly, until_added, until_exact}
 use Rattle.coordinator.proofs.Alike.{IsBegunAlike, alike_stays, running_is_alike}
 use Rattle.coordinator.proofs.Writing.{none_by, same_pass}
+
+module _ {V F : Type 0} where
+  -- so is the end of a turn, where it is one
+  abbrev cut_off : Option (TransactEnd V F) → Bool
+  cut_off None = false
+  cut_off (Some end) = is_cut_off end
+
+  cut_alike : (driven : DriveEnd V F) → cut_off (ended_by driven) ≡ is_cut driven
+  cut_alike DriveEnd.Committed = refl
+  cut_alike (DriveEnd.Cancelled reasons) = refl
+  cut_alike (DriveEnd.NoTable place) = refl
+  cut_alike DriveEnd.Gone = refl
+  cut_alike DriveEnd.Stopped = refl
+  cut_alike DriveEnd.Spent = refl
+  cut_alike DriveEnd.NoMemory = refl
+
+  calm_of : (driven : DriveEnd V F) (end : Option (TransactEnd V F)) → end ≡ ended_by driven → cut_off end ≡ false → is_cut driven ≡ false
+  calm_of driven end is calm = sym (cut_alike driven) ∙ (ap cut_off (sym is) ∙ calm)
 
 module _ {K V A F C D Q B : Type 0} (S : Service K V A F C D Q B) (token : Option (List ℕ)) (actions : List A) where
   -- how many of these drew a number
@@ -66,21 +85,34 @@ module _ {K V A F C D Q B : Type 0} (S : Service K V A F C D Q B) (token : Optio
       by_case true = omega arith
       by_case false = omega arith
 
-  -- some own entries between two moments of the pass: exactly a unit each where this is so, and at most so many drew a number
-  record Part (sure : Type 0) (most : ℕ) (p q : PassView (Event S)) : Type 0 where
+  -- some own entries between two moments of the pass: exactly a unit each where this is so, none left between its decision and its end
+  -- where they were not cut off, and at most so many drew a number
+  record Part (sure : Type 0) (cut : Bool) (most : ℕ) (p q : PassView (Event S)) : Type 0 where
     pub own : List (Event S)
     pub added : Added S 1 p own q
     pub exact : sure → q.used ≡ p.used + length own
     pub each : Each own
     pub few : drew own ≤ most
+    pub leaves : cut ≡ false → LeavesNoneDecided S own
 
-  counted : (sure : Type 0) (most : ℕ) (p q : PassView (Event S)) (own : List (Event S)) → Counts S p own 0 q → Each own → drew own ≤ most → Part sure most p q
-  counted sure most p q own h each few =
-      record { own = own; added = added_by S 1 0 p own q (omega arith) h; exact = λ _. exactly S p own q h; each = each; few = few }
+  counted :
+      (sure : Type 0) (cut : Bool) (most : ℕ) (p q : PassView (Event S)) (own : List (Event S)) → Counts S p own 0 q → Each own → drew own ≤ most
+      → LeavesNoneDecided S own → Part sure cut most p q
+  counted sure cut most p q own h each few leaves =
+      record {
+        own = own;
+        added = added_by S 1 0 p own q (omega arith) h;
+        exact = λ _. exactly S p own q h;
+        each = each;
+        few = few;
+        leaves = λ _. leaves;
+      }
 
   -- two stretches, of which only the last may use more
-  behind : (sure : Type 0) (i j : ℕ) (p q r : PassView (Event S)) (xs : List (Event S)) → Counts S p xs 0 q → Each xs → drew xs ≤ i → Part sure j q r → Part sure (i + j) p r
-  behind sure i j p q r xs one each few two =
+  behind :
+      (sure : Type 0) (cut : Bool) (i j : ℕ) (p q r : PassView (Event S)) (xs : List (Event S)) → Counts S p xs 0 q → Each xs → drew xs ≤ i
+      → LeavesNoneDecided S xs → Part sure cut j q r → Part sure cut (i + j) p r
+  behind sure cut i j p q r xs one each few leaves two =
       let units = one.units in
       let long = length-append xs two.own in
       let all = drew_append xs two.own in
@@ -91,6 +123,7 @@ module _ {K V A F C D Q B : Type 0} (S : Service K V A F C D Q B) (token : Optio
         exact = λ s. (let later = two.exact s in omega arith);
         each = each_append (λ e. IsOfWrite S token actions e.message) xs two.own each two.each;
         few = omega arith;
+        leaves = λ calm. both_leave S xs two.own leaves (two.leaves calm);
       }
 
   added_before : (p q r : PassView (Event S)) (xs ys : List (Event S)) → Added S 1 p xs q → Counts S q ys 0 r → Added S 1 p (xs ++ ys) r
@@ -114,12 +147,13 @@ module _ {K V A F C D Q B : Type 0} (S : Service K V A F C D Q B) (token : Optio
     pub counts : Counts S p own 0 q
     pub each : Each own
     pub none : drew own ≡ 0
+    pub quiet : (n : ℕ) → ended S n own ≡ false
 
   nothing : (p q : PassView (Event S)) → q ≡ p → Last p q
-  nothing p q same = record { own = []; counts = subst (λ (z : PassView (Event S)). Counts S p [] 0 z) (sym same) (counts_none S p); each = tt; none = refl }
+  nothing p q same = record { own = []; counts = subst (λ (z : PassView (Event S)). Counts S p [] 0 z) (sym same) (counts_none S p); each = tt; none = refl; quiet = λ n. refl }
 
   forget_part : (p q : PassView (Event S)) (n : ℕ) → Forgets S p n q → Last p q
-  forget_part p q n (inl h) = record { own = _; counts = h.1; each = (tt, tt); none = refl }
+  forget_part p q n (inl h) = record { own = _; counts = h.1; each = (tt, tt); none = refl; quiet = λ n. refl }
   forget_part p q n (inr h) = nothing p q h.0
 
   last_part : (driven : DriveEnd V F) (p q : PassView (Event S)) (n : ℕ) → ForgetsDone S driven p n q → Last p q
@@ -132,7 +166,7 @@ module _ {K V A F C D Q B : Type 0} (S : Service K V A F C D Q B) (token : Optio
   last_part DriveEnd.NoMemory p q n h = nothing p q h
 
   drawn_part :
-      (n : ℕ) (stamp : _) (p q : PassView (Event S)) (driven : DriveEnd V F) → RunsDrawn S n stamp actions p driven q → Part (driven ≢ DriveEnd.NoMemory) 0 p q
+      (n : ℕ) (stamp : _) (p q : PassView (Event S)) (driven : DriveEnd V F) → RunsDrawn S n stamp actions p driven q → Part (driven ≢ DriveEnd.NoMemory) (is_cut driven) 0 p q
   drawn_part n stamp p q driven h =
       let last = last_part driven h.middle q n h.forgets in
       let drives = all_drive n h.own h.each in
@@ -147,37 +181,56 @@ module _ {K V A F C D Q B : Type 0} (S : Service K V A F C D Q B) (token : Optio
         exact = λ sure. (let before = h.exact sure in omega arith);
         each = each_append (λ e. IsOfWrite S token actions e.message) h.own last.own drives.0 last.each;
         few = omega arith;
+        leaves = λ calm. both_leave S h.own last.own (end_leaves S q n h.own h.each driven h.is calm) (quiet_leaves S last.own last.quiet);
       }
 
   sure_of : (driven : DriveEnd V F) (end : Option (TransactEnd V F)) → end ≡ ended_by driven → end ≢ Some TransactEnd.NoMemory → driven ≢ DriveEnd.NoMemory
   sure_of driven end is sure e = sure (is ∙ ap ended_by e)
 
-  weaker : (one two : Type 0) (i j : ℕ) (p q : PassView (Event S)) → (two → one) → i ≤ j → Part one i p q → Part two j p q
-  weaker one two i j p q f le h =
-      let few = h.few in record { own = h.own; added = h.added; exact = λ s. h.exact (f s); each = h.each; few = omega arith }
+  weaker :
+      (one two : Type 0) (b c : Bool) (i j : ℕ) (p q : PassView (Event S)) → (two → one) → (c ≡ false → b ≡ false) → i ≤ j → Part one b i p q
+      → Part two c j p q
+  weaker one two b c i j p q f calm le h =
+      let few = h.few in
+      record { own = h.own; added = h.added; exact = λ s. h.exact (f s); each = h.each; few = omega arith; leaves = λ s. h.leaves (calm s) }
 
-  at_once : (sure : Type 0) (p q : PassView (Event S)) → q ≡ p → Part sure 0 p q
-  at_once sure p q same = let l = nothing p q same in counted sure 0 p q l.own l.counts l.each (let none = l.none in omega arith)
+  at_once : (sure : Type 0) (cut : Bool) (p q : PassView (Event S)) → q ≡ p → Part sure cut 0 p q
+  at_once sure cut p q same =
+      let l = nothing p q same in
+      counted sure cut 0 p q l.own l.counts l.each (let none = l.none in omega arith) (quiet_leaves S l.own l.quiet)
 
   -- what follows a Begin draws nothing
-  follow_part : (a : Reply S) (p q : PassView (Event S)) (end : Option (TransactEnd V F)) → Follows S actions a p end q → Part (end ≢ Some TransactEnd.NoMemory) 0 p q
-  follow_part (Answer.Begun n stamp) p q end h = weaker _ _ 0 0 p q (sure_of h.0 end h.2) (omega arith) (drawn_part n stamp p q h.0 h.1)
+  follow_part :
+      (a : Reply S) (p q : PassView (Event S)) (end : Option (TransactEnd V F)) → Follows S actions a p end q
+      → Part (end ≢ Some TransactEnd.NoMemory) (cut_off end) 0 p q
+  follow_part (Answer.Begun n stamp) p q end h =
+      weaker _ _ (is_cut h.0) (cut_off end) 0 0 p q (sure_of h.0 end h.2) (calm_of h.0 end h.2) (omega arith) (drawn_part n stamp p q h.0 h.1)
   follow_part (Answer.Running n) p q end h =
       let drives = all_drive n h.1.own h.1.each in
       let none = drives.1 in
-      record { own = h.1.own; added = h.1.added; exact = λ sure. h.1.exact (sure_of h.0 end h.2 sure); each = drives.0; few = omega arith }
-  follow_part (Answer.Repeat n) p q end h = at_once _ p q h.0
-  follow_part (Answer.Mismatch n) p q end h = at_once _ p q h.0
-  follow_part Answer.Stale p q end h = at_once _ p q h.0
+      record {
+        own = h.1.own;
+        added = h.1.added;
+        exact = λ sure. h.1.exact (sure_of h.0 end h.2 sure);
+        each = drives.0;
+        few = omega arith;
+        leaves = λ calm. end_leaves S q n h.1.own h.1.each h.0 h.1.is (calm_of h.0 end h.2 calm);
+      }
+  follow_part (Answer.Repeat n) p q end h = at_once _ (cut_off end) p q h.0
+  follow_part (Answer.Mismatch n) p q end h = at_once _ (cut_off end) p q h.0
+  follow_part Answer.Stale p q end h = at_once _ (cut_off end) p q h.0
   follow_part _ p q end h = absurd h
 
   unanswered_sure : (why : StepError) (end : Option (TransactEnd V F)) → end ≡ Some (unanswered why) → end ≢ Some TransactEnd.NoMemory → why ≢ StepError.NoMemory
   unanswered_sure why end is sure e = sure (is ∙ ap (λ w. Some (unanswered w)) e)
 
-  turn_part : (p q : PassView (Event S)) (end : Option (TransactEnd V F)) → Turns S token actions p end q → Part (end ≢ Some TransactEnd.NoMemory) 1 p q
+  turn_part :
+      (p q : PassView (Event S)) (end : Option (TransactEnd V F)) → Turns S token actions p end q
+      → Part (end ≢ Some TransactEnd.NoMemory) (cut_off end) 1 p q
   turn_part p q end (inl h) =
       let e : Event S = event_of p h.cell (Message.Begin token actions) h.answer in
-      behind _ 1 0 p h.middle q (e ∷ []) h.begin ((refl, refl), tt) (drew_one e) (follow_part h.answer h.middle q end h.follows)
+      behind _ (cut_off end) 1 0 p h.middle q (e ∷ []) h.begin ((refl, refl), tt) (drew_one e) (quiet_leaves S (e ∷ []) (λ n. refl))
+      (follow_part h.answer h.middle q end h.follows)
   turn_part p q end (inr h) =
       record {
         own = [];
@@ -185,6 +238,7 @@ module _ {K V A F C D Q B : Type 0} (S : Service K V A F C D Q B) (token : Optio
         exact = λ sure. until_exact S p [] q h.0 h.1 (unanswered_sure h.0 end h.2 sure);
         each = tt;
         few = omega arith;
+        leaves = λ _. quiet_leaves S [] (λ n. refl);
       }
 
   -- the pass is of the same turnstile then
@@ -203,11 +257,12 @@ module _ {K V A F C D Q B : Type 0} (S : Service K V A F C D Q B) (token : Optio
   -- one after which the Begin is sent again drew nothing
   again_by :
       (p m q : PassView (Event S)) (cell : Option ℕ) (a : Reply S) → Counts S p (event_of p cell (Message.Begin token actions) a ∷ []) 0 m
-      → Follows S actions a m None q → Part (Unit {0}) 0 p q
+      → Follows S actions a m None q → Part (Unit {0}) false 0 p q
   again_by p m q cell (Answer.Running n) counts h =
       let part = follow_part (Answer.Running n) m q None h in
-      behind (Unit {0}) 0 0 p m q _ counts ((refl, refl), tt) (omega arith)
-      (weaker _ (Unit {0}) 0 0 m q (λ _ e. (let k : None ≡ Some TransactEnd.NoMemory = e in cc)) (omega arith) part)
+      let e : Event S = event_of p cell (Message.Begin token actions) (Answer.Running n) in
+      behind (Unit {0}) false 0 0 p m q (e ∷ []) counts ((refl, refl), tt) (omega arith) (quiet_leaves S (e ∷ []) (λ k. refl))
+      (weaker _ (Unit {0}) false false 0 0 m q (λ _ e. (let k : None ≡ Some TransactEnd.NoMemory = e in cc)) (λ calm. calm) (omega arith) part)
   again_by p m q cell (Answer.Begun n stamp) counts h =
       let gone = none_by h.0 (sym h.2) in absurd (let e = sym (ap is_gone_end gone) ∙ h.1.there in cc)
   again_by p m q cell (Answer.Repeat n) counts h = absurd (let e = h.1 in cc)
@@ -215,18 +270,19 @@ module _ {K V A F C D Q B : Type 0} (S : Service K V A F C D Q B) (token : Optio
   again_by p m q cell Answer.Stale counts h = absurd (let e = h.1 in cc)
   again_by p m q cell _ counts h = absurd h
 
-  again_turn : (p q : PassView (Event S)) → Turns S token actions p None q → Part (Unit {0}) 0 p q
+  again_turn : (p q : PassView (Event S)) → Turns S token actions p None q → Part (Unit {0}) false 0 p q
   again_turn p q (inl h) = again_by p h.middle q h.cell h.answer h.begin h.follows
   again_turn p q (inr h) = absurd (let e = h.2 in cc)
 
-  counts_of : (most : ℕ) (p q : PassView (Event S)) (h : Part (Unit {0}) most p q) → Counts S p h.own 0 q
+  counts_of : (most : ℕ) (p q : PassView (Event S)) (h : Part (Unit {0}) false most p q) → Counts S p h.own 0 q
   counts_of most p q h = let units = h.exact tt in record { pass = h.added.pass; trail = h.added.trail; moments = h.added.moments; units = omega arith }
 
-  again_part : (p : PassView (Event S)) (k : ℕ) (q : PassView (Event S)) → TurnsAgain S token actions p k q → Part (Unit {0}) 0 p q
-  again_part p zero q h = at_once (Unit {0}) p q h
+  again_part : (p : PassView (Event S)) (k : ℕ) (q : PassView (Event S)) → TurnsAgain S token actions p k q → Part (Unit {0}) false 0 p q
+  again_part p zero q h = at_once (Unit {0}) false p q h
   again_part p (suc k) q h =
       let before = again_part p k h.0 h.1 in
-      behind (Unit {0}) 0 0 p h.0 q before.own (counts_of 0 p h.0 before) before.each before.few (again_turn h.0 q h.2)
+      behind (Unit {0}) false 0 0 p h.0 q before.own (counts_of 0 p h.0 before) before.each before.few (before.leaves refl)
+      (again_turn h.0 q h.2)
 
   has_back : (xs ys : List (Event S)) (e : Event S) → Has ys e → Has (xs ++ ys) e
   has_back [] ys e h = h
@@ -372,13 +428,16 @@ module _ {K V A F C D Q B : Type 0} (S : Service K V A F C D Q B) (token : Optio
   unfolding behind
   adds_writing law p q end legal h =
       let before = again_part p h.again h.last h.before in
-      let all = behind _ 0 1 p h.last q before.own (counts_of 0 p h.last before) before.each before.few (turn_part h.last q (Some end) h.turn) in
+      let all =
+      behind _ (is_cut_off end) 0 1 p h.last q before.own (counts_of 0 p h.last before) before.each before.few (before.leaves refl)
+      (turn_part h.last q (Some end) h.turn) in
       record {
         own = all.own;
         added = all.added;
         exact = λ sure. all.exact (λ e. sure (let k : Some end ≡ Some TransactEnd.NoMemory = e in cc));
         each = all.each;
         cause = turn_cause law before.own h.last q end h.turn legal;
+        settled = all.leaves;
         once = all.few;
       }
 
@@ -391,5 +450,6 @@ module _ {K V A F C D Q B : Type 0} (S : Service K V A F C D Q B) (token : Optio
         exact = λ _. exactly S p [] p (counts_none S p);
         each = tt;
         cause = cause;
+        settled = λ _. quiet_leaves S [] (λ n. refl);
         once = omega arith;
       }

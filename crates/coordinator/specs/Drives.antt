@@ -49,6 +49,11 @@ module _ {K V A F C D Q B : Type 0} (S : Service K V A F C D Q B) where
   HasCause q n own DriveEnd.Spent = q.used ≡ most_units
   HasCause q n own DriveEnd.NoMemory = (ended S n own ≡ false) ⊎ (sent_done S n own ≡ true)
 
+  -- no transaction was left between its decision and its end: of each that one of these entries decided or ended, one is the Done, or
+  -- found no record
+  abbrev pub LeavesNoneDecided : List (Event S) → Type 0
+  LeavesNoneDecided own = (n : ℕ) → ended S n own ≡ true → (sent_done S n own ≡ true) ⊎ (found_none S n own ≡ true)
+
   -- the end is that of a drive with these own entries: the number is gone exactly where one of them found none
   pub record IsEnd (q : PassView (Event S)) (n : ℕ) (own : List (Event S)) (end : DriveEnd V F) : Type 0 where
     pub gone : is_gone_end end ≡ found_none S n own

@@ -11,6 +11,7 @@ use Rattle.txn_core.specs.declared.stamp.Stamp.{Stamp}
 use Rattle.txn_core.specs.Course.{IsToldSo}
 use Rattle.txn_core.specs.Driver.{told_nothing, KnowsBegun, Knows}
 use Rattle.txn_core.specs.History.{effects, Had, commits, finishes, forgets, is_own_begin}
+use Rattle.txn_core.specs.Replay.{are_apart}
 use Rattle.txn_core.specs.Serial.{begun_actions}
 use Rattle.txn_core.specs.Service.{Service, Asked, Reply, Event, History}
 use Rattle.cluster.specs.declared.step.StepError.{StepError}
@@ -21,9 +22,15 @@ use Rattle.coordinator.specs.declared.driver.Driver.{Driver}
 use Rattle.coordinator.specs.declared.drive_end.DriveEnd.{DriveEnd}
 use Rattle.coordinator.specs.declared.transact_end.TransactEnd.{TransactEnd}
 use Rattle.coordinator.specs.Driving.{Added, AllDrive, sent_done, FoundGone}
-use Rattle.coordinator.specs.Drives.{is_none, is_gone_end, IsCancelled, IsEnd, Drives}
+use Rattle.coordinator.specs.Drives.{is_none, is_gone_end, IsCancelled, LeavesNoneDecided, IsEnd, Drives}
 
 module _ {V F : Type 0} where
+  -- the gate stopped the call, or no unit was left for it
+  abbrev pub is_cut_off : TransactEnd V F → Bool
+  is_cut_off TransactEnd.Stopped = true
+  is_cut_off TransactEnd.Spent = true
+  is_cut_off _ = false
+
   -- the end of a transaction that was driven to this end; none where its number is gone
   abbrev pub ended_by : DriveEnd V F → Option (TransactEnd V F)
   ended_by DriveEnd.Committed = Some TransactEnd.Committed
@@ -80,6 +87,10 @@ pub record StartsWith {A V F : Type 0} (n : ℕ) (stamp : Stamp) (actions : List
   pub fate : d.fate ≡ Fate.Undecided
 
 module _ {K V A F C D Q B : Type 0} (S : Service K V A F C D Q B) where
+  -- these can be the actions of one transaction: 1 to 100 of them, on items that differ
+  abbrev pub AreWritable : List A → Type 0
+  AreWritable actions = (1 ≤ length actions) × (length actions ≤ 100) × (are_apart S.core actions ≡ true)
+
   -- a Begin of the pass drew the number, which the pass has not had forgotten
   abbrev pub IsOwn : ℕ → ℕ → History S → Type 0
   IsOwn pass n es =
@@ -198,11 +209,13 @@ module _ {K V A F C D Q B : Type 0} (S : Service K V A F C D Q B) where
     IsOfWrite _ = ⊥
 
     -- from p to q the pass added these own entries and no other, for one unit each; where memory was refused one unit more may be used;
-    -- each of them belongs to the writing, the end has its cause, and one at most drew a number
+    -- each of them belongs to the writing, the end has its cause, none is left between its decision and its end unless the call was cut
+    -- off, and one at most drew a number
     pub record AddsWriting (p : PassView (Event S)) (end : TransactEnd V F) (q : PassView (Event S)) : Type 0 where
       pub own : List (Event S)
       pub added : Added S 1 p own q
       pub exact : end ≢ TransactEnd.NoMemory → q.used ≡ p.used + length own
       pub each : AllByRecursion (λ e. IsOfWrite e.message) own
       pub cause : EndsBy own q end
+      pub settled : is_cut_off end ≡ false → LeavesNoneDecided S own
       pub once : length (filter (λ e. draws_some e.message e.answer) own) ≤ 1

@@ -9,7 +9,7 @@ ghost use Rattle.txn_core.specs.declared.stamp.Stamp.{Stamp};
 ghost use Rattle.txn_core.specs.History.{Had, finishes};
 ghost use Rattle.txn_core.specs.Replay.{are_apart};
 ghost use Rattle.cluster.specs.Steps.{partitions_of};
-ghost use Rattle.coordinator.specs.Writes.{AddsWriting, answers_begin, Follows, Forgets, IsDrawn, IsOwn, RunsDrawn, Turns, Writes};
+ghost use Rattle.coordinator.specs.Writes.{AddsWriting, answers_begin, AreWritable, Follows, Forgets, IsDrawn, IsOwn, RunsDrawn, Turns, Writes};
 ghost use Rattle.coordinator.specs.declared.drive_end.DriveEnd.{DriveEnd};
 ghost use Rattle.coordinator.specs.declared.transact_end.TransactEnd.{TransactEnd};
 
@@ -133,9 +133,7 @@ where
     R::Fault: Copy,
     requires of { pass.old.turnstile ≡ cluster.now.id }
     requires free { pass.old.turns ≡ [] }
-    requires some { 1 ≤ length actions.now }
-    requires few { length actions.now ≤ 100 }
-    requires apart { are_apart (R.protocol (partitions_of cluster.now)).core actions.now ≡ true }
+    requires actions { AreWritable (R.protocol (partitions_of cluster.now)) actions.now }
     ensures turns { Turns (R.protocol (partitions_of cluster.now)) (option_copied token.entry) actions.now pass.old result pass.new }
     ensures stopped { result ≡ Some TransactEnd.Stopped → Rose (G.stops gate.old) (G.stops gate.new) }
     ensures later { G.stops gate.old ≤ G.stops gate.new }
@@ -167,9 +165,7 @@ where
     R::Fault: Copy,
     requires of { pass.old.turnstile ≡ cluster.now.id }
     requires free { pass.old.turns ≡ [] }
-    requires some { 1 ≤ length actions.now }
-    requires few { length actions.now ≤ 100 }
-    requires apart { are_apart (R.protocol (partitions_of cluster.now)).core actions.now ≡ true }
+    requires actions { AreWritable (R.protocol (partitions_of cluster.now)) actions.now }
     ensures turns { Turns (R.protocol (partitions_of cluster.now)) (option_copied token.entry) actions.now pass.old result pass.new }
     ensures budget { pass.new.used ≤ most_units }
     ensures stopped { result ≡ Some TransactEnd.Stopped → Rose (G.stops gate.old) (G.stops gate.new) }
@@ -194,9 +190,7 @@ where
     R::Fault: Copy,
     requires of { pass.old.turnstile ≡ cluster.now.id }
     requires free { pass.old.turns ≡ [] }
-    requires some { 1 ≤ length actions.now }
-    requires few { length actions.now ≤ 100 }
-    requires apart { are_apart (R.protocol (partitions_of cluster.now)).core actions.now ≡ true }
+    requires actions { AreWritable (R.protocol (partitions_of cluster.now)) actions.now }
     ensures writes { Writes (R.protocol (partitions_of cluster.now)) (option_copied token.entry) actions.now pass.old result pass.new }
     ensures stopped { result ≡ TransactEnd.Stopped → Rose (G.stops gate.old) (G.stops gate.new) }
 {
@@ -213,6 +207,7 @@ where
 /// it was begun with the same parameters as these actions have.
 ///
 /// After `Stopped`, `Spent` and `NoMemory` the transaction stands once and whole in the end, or nowhere, once others have driven it on.
+/// After any other end than `Stopped` and `Spent` this call leaves no transaction between its decision and its Done.
 /// `Stopped` comes only where the gate counted a stop, and `Spent` only where no unit is left. `Twice` comes exactly where two actions
 /// are on one item, unless memory is refused for the look.
 pub fn transact_write<R: PageRules, G: Gate, T: Wait>(

@@ -2,7 +2,6 @@
 use Rattle.std.proofs.Common.{◌≡◌, ◌⊎◌, inl, inr, ℕ, ◌+◌, ◌*◌, Bool, true, false, ◌&&◌, ◌||◌, nat_eq, List, [], ◌∷◌, ◌++◌, length, reverse, Ok, Err, refl, sym, ap, ◌∙◌, subst, arith, eq-eqb, length-append}
 use Rattle.std.specs.Prelude.{Contains}
 use Rattle.std.proofs.lemmas.Bool.{and_parts, eqb-true, or_cases, or_right}
-use Rattle.std.proofs.lemmas.List.Folds.{list_any-append}
 use Rattle.std.proofs.lemmas.List.Sums.{sum_by-append, sum_by_push}
 use Rattle.turnstile.specs.Histories.{Trail}
 use Rattle.turnstile.specs.Passes.{PassView, most_units}
@@ -18,11 +17,12 @@ use Rattle.txn_core.proofs.Exports.{beginning_is_tail, had_more, had_stays, lega
 use Rattle.cluster.specs.Events.{pass_of}
 use Rattle.own_entries.proofs.Counting.{counts_none}
 use Rattle.coordinator.specs.declared.drive_end.DriveEnd.{DriveEnd}
-use Rattle.coordinator.specs.Driving.{is_done, is_driving, is_ending, finds_none, AllDrive, found_none, ended, sent_done}
-use Rattle.coordinator.specs.Drives.{is_gone_end, HasCause, Drives}
+use Rattle.coordinator.specs.Driving.{is_done, is_driving, is_ending, finds_none, found_none, ended, sent_done}
+use Rattle.coordinator.specs.Drives.{is_gone_end, HasCause, LeavesNoneDecided, Drives}
+use Rattle.coordinator.proofs.Leaving.{Comes, both_leave, ends_its_own, one_leaves}
 use Rattle.coordinator.proofs.Moving.{added_on}
 use Rattle.recovery_manager.specs.declared.sweep_end.SweepEnd.{SweepEnd}
-use Rattle.recovery_manager.specs.Ends.{found_gone, IsDone, IsForgotten, LeavesNoneDecided}
+use Rattle.recovery_manager.specs.Ends.{found_gone, IsDone, IsForgotten}
 use Rattle.recovery_manager.specs.Parts.{is_on, AllOn, DrivesSome, DrivesAll, DrivesPartly}
 use Rattle.own_entries.proofs.Lists.{any_back, any_front, each_append}
 use Rattle.recovery_manager.proofs.Each.{each_at, each_so, found, splits}
@@ -103,29 +103,14 @@ module _ {K V A F C D Q B : Type 0} (S : Service K V A F C D Q B) where
   gone_of DriveEnd.Spent is = absurd (cc)
   gone_of DriveEnd.NoMemory is = absurd (cc)
 
-  -- a number that a message decides or ends is the one that it drives
-  ends_its_own : (n m : ℕ) (x : Asked S) → is_ending n x ≡ true → is_driving m x ≡ true → n ≡ m
-  ends_its_own n m (Message.Decide k commit reasons) ends drives = sym (eqb-true k n ends) ∙ eqb-true k m drives
-  ends_its_own n m (Message.Apply k key) ends drives = sym (eqb-true k n ends) ∙ eqb-true k m drives
-  ends_its_own n m (Message.Release k key) ends drives = sym (eqb-true k n ends) ∙ eqb-true k m drives
-  ends_its_own n m (Message.Done k) ends drives = sym (eqb-true k n ends) ∙ eqb-true k m drives
-  ends_its_own n m _ ends drives = absurd (cc)
-
-  -- so it is one of those that the entries are on
+  -- a number that is decided or ended is one of those that the entries are on
   ended_among : (n : ℕ) (numbers : List ℕ) (own : List (Event S)) → AllOn S numbers own → ended S n own ≡ true → Contains numbers n
   ended_among n numbers [] each h = absurd (cc)
   ended_among n numbers (e ∷ own) each h = elim (or_cases (is_ending n e.message) (ended S n own) h) [
     | inl now ↦
         let m = found (λ k. is_driving k e.message) numbers each.0 in
-        subst (Contains numbers) (sym (ends_its_own n m.0 e.message now m.2)) m.1
+        subst (Contains numbers) (sym (ends_its_own S n m.0 e.message now m.2)) m.1
     | inr older ↦ ended_among n numbers own each.1 older
-  ]
-
-  ended_is : (n m : ℕ) (own : List (Event S)) → AllDrive S m own → ended S n own ≡ true → n ≡ m
-  ended_is n m [] each h = absurd (cc)
-  ended_is n m (e ∷ own) each h = elim (or_cases (is_ending n e.message) (ended S n own) h) [
-    | inl now ↦ ends_its_own n m e.message now each.0
-    | inr older ↦ ended_is n m own each.1 older
   ]
 
   -- where each came to its end, none was left in between
@@ -245,28 +230,9 @@ module _ {K V A F C D Q B : Type 0} (S : Service K V A F C D Q B) where
 
     -- where the drive did not come to its end, or what it found could not be noted
     module _ (numbers rest : List ℕ) (whole : numbers ≡ (ms ++ n ∷ []) ++ rest) (gone : ℕ → Bool) (so : DrivesAll S gone ms p q) where
-      abbrev Comes : ℕ → List (Event S) → Type 0
-      Comes m own = (sent_done S m own ≡ true) ⊎ (found_none S m own ≡ true)
-
       -- the drives before left none in between, so the last one alone may
-      last_leaves : (ended S n d.own ≡ true → Comes n d.own) → LeavesNoneDecided S (so.drives.own ++ d.own)
-      last_leaves last m h =
-          by_turn
-          (or_cases (ended S m so.drives.own) (ended S m d.own) (sym (list_any-append (λ e. is_ending m e.message) so.drives.own d.own) ∙ h))
-        where
-          before : Comes m so.drives.own → Comes m (so.drives.own ++ d.own)
-          before (inl done) = inl (any_front (λ e. is_done m e.message) so.drives.own d.own done)
-          before (inr none) = inr (any_front (λ e. finds_none m e.message e.answer) so.drives.own d.own none)
-
-          behind : Comes m d.own → Comes m (so.drives.own ++ d.own)
-          behind (inl done) = inl (any_back (λ e. is_done m e.message) so.drives.own d.own done)
-          behind (inr none) = inr (any_back (λ e. finds_none m e.message e.answer) so.drives.own d.own none)
-
-          by_turn : (ended S m so.drives.own ≡ true) ⊎ (ended S m d.own ≡ true) → Comes m (so.drives.own ++ d.own)
-          by_turn (inl old) = before (none_left gone ms p q so m old)
-          by_turn (inr now) =
-              let same = ended_is m n d.own d.each now in
-              behind (subst (λ k. Comes k d.own) (sym same) (last (subst (λ k. ended S k d.own ≡ true) same now)))
+      last_leaves : (ended S n d.own ≡ true → Comes S n d.own) → LeavesNoneDecided S (so.drives.own ++ d.own)
+      last_leaves last = both_leave S so.drives.own d.own (none_left gone ms p q so) (one_leaves S n d.own d.each last)
 
       pub partly_ended : (why : SweepEnd) → found_gone end ≡ Err why → DrivesPartly S numbers p why r
       unfolding some_more some_within
@@ -278,7 +244,7 @@ module _ {K V A F C D Q B : Type 0} (S : Service K V A F C D Q B) where
             memory = λ e. last_leaves (undecided_or_done (memory_of r n d.own end why d.is.cause is e));
           }
         where
-          undecided_or_done : (ended S n d.own ≡ false) ⊎ (sent_done S n d.own ≡ true) → ended S n d.own ≡ true → Comes n d.own
+          undecided_or_done : (ended S n d.own ≡ false) ⊎ (sent_done S n d.own ≡ true) → ended S n d.own ≡ true → Comes S n d.own
           undecided_or_done (inl undecided) h = absurd (cc)
           undecided_or_done (inr done) h = inl done
 
@@ -292,7 +258,7 @@ module _ {K V A F C D Q B : Type 0} (S : Service K V A F C D Q B) where
             memory = λ _. last_leaves (λ _. came b is);
           }
         where
-          came : (c : Bool) → found_gone end ≡ Ok c → Comes n d.own
+          came : (c : Bool) → found_gone end ≡ Ok c → Comes S n d.own
           came false told = inl (done_of r n d.own end d.is.cause told).done
           came true told = inr (sym d.is.gone ∙ gone_of end told)
 

@@ -9,7 +9,7 @@ use Rattle.txn_core.specs.Serial.{begun_actions}
 use Rattle.txn_core.specs.Service.{Service, Event, History}
 use Rattle.cluster.specs.declared.step.StepError.{StepError}
 use Rattle.coordinator.specs.declared.drive_end.DriveEnd.{DriveEnd}
-use Rattle.coordinator.specs.Driving.{Added, AllDrive, found_none, ended, sent_done}
+use Rattle.coordinator.specs.Driving.{Added, AllDrive, found_none, sent_done}
 use Rattle.coordinator.specs.Drives.{HasCause}
 use Rattle.recovery_manager.specs.declared.sweep_end.SweepEnd.{SweepEnd}
 
@@ -38,11 +38,6 @@ module _ {K V A F C D Q B : Type 0} (S : Service K V A F C D Q B) where
   pub record IsForgotten (es : History S) (own : List (Event S)) (n : ℕ) : Type 0 where
     pub forgotten : Had (forgets n) es
     pub found : found_none S n own ≡ true
-
-  -- no transaction was left between its decision and its end: of each that one of these entries decided or ended, one is the Done, or
-  -- found no record
-  abbrev pub LeavesNoneDecided : List (Event S) → Type 0
-  LeavesNoneDecided own = (n : ℕ) → ended S n own ≡ true → (sent_done S n own ≡ true) ⊎ (found_none S n own ≡ true)
 
   -- one of these entries is a Release of the number on the item
   abbrev pub lets_go : ℕ → K → List (Event S) → Bool

@@ -13,8 +13,9 @@ use Rattle.cluster.specs.declared.step.StepError.{StepError}
 use Rattle.cluster.specs.Events.{event_of}
 use Rattle.own_entries.specs.Counts.{Counts, CountsUntil}
 use Rattle.coordinator.specs.Driving.{is_driving, Added}
+use Rattle.coordinator.specs.Drives.{LeavesNoneDecided}
 use Rattle.recovery_manager.specs.declared.sweep_end.SweepEnd.{SweepEnd}
-use Rattle.recovery_manager.specs.Ends.{IsDone, IsForgotten, LeavesNoneDecided, lets_go}
+use Rattle.recovery_manager.specs.Ends.{IsDone, IsForgotten, lets_go}
 
 module _ {K V A F C D Q B : Type 0} (S : Service K V A F C D Q B) where
   -- the entry is a message that drives one of these transactions: no Write, no Begin and no command is

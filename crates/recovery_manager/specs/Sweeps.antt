@@ -6,8 +6,9 @@ use Rattle.turnstile.specs.Passes.{PassView, most_units}
 use Rattle.txn_core.specs.declared.answer.HeldItem.{HeldItem}
 use Rattle.txn_core.specs.Service.{Service, Event, History}
 use Rattle.coordinator.specs.Driving.{Added}
+use Rattle.coordinator.specs.Drives.{LeavesNoneDecided}
 use Rattle.recovery_manager.specs.declared.sweep_end.SweepEnd.{SweepEnd}
-use Rattle.recovery_manager.specs.Ends.{IsDone, IsForgotten, LeavesNoneDecided, lets_go}
+use Rattle.recovery_manager.specs.Ends.{IsDone, IsForgotten, lets_go}
 use Rattle.recovery_manager.specs.Lists.{Listing, all_items, numbers_in, AreTheNumbers, lists_held, lists}
 use Rattle.recovery_manager.specs.Parts.{AllOn, most_drives}
 

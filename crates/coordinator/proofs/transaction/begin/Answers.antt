@@ -14,7 +14,7 @@ ask_ledger-requires-clause-may g c =
     let S = g.R.Rules.protocol (c.args.cluster.now.id.slots - 1) in
     let p = c.args.pass.now in
     subst (λ m. Allowed S (reverse p.front) p.number m) (sym c.in-Ok-begin_message.ensures)
-    (may_begin S c.args.actions.now c.requires.some c.requires.few c.requires.apart)
+    (may_begin S c.args.actions.now c.requires.actions.0 c.requires.actions.1 c.requires.actions.2)
 
 pub follow-requires-clause-told : goal.follow-requires-clause-told
 follow-requires-clause-told g c =

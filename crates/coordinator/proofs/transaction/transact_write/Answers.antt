@@ -23,8 +23,9 @@ returns-then-not-apart-clause-own g c =
     adds_none (g.R.Rules.protocol (c.args.cluster.now.id.slots - 1)) (option_copied c.args.token) c.args.actions.now c.args.pass.now
     TransactEnd.Twice refl
 
-pub write_apart-end-requires-clause-apart : goal.write_apart-end-requires-clause-apart
-write_apart-end-requires-clause-apart g c = sym (c.in-Ok.ensures (c.args.cluster.now.id.slots - 1)) ∙ c.if-not-apart.false
+pub write_apart-end-requires-clause-actions : goal.write_apart-end-requires-clause-actions
+write_apart-end-requires-clause-actions g c =
+    (c.requires.some, c.requires.few, sym (c.in-Ok.ensures (c.args.cluster.now.id.slots - 1)) ∙ c.if-not-apart.false)
 
 pub facts-requires : goal.facts-requires
 facts-requires g c =
