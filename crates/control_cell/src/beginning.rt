@@ -1,6 +1,6 @@
 //! The message that begins a transaction.
 
-ghost use Rattle.std.specs.Prelude.{◌≡◌, ℕ, List, None, Some, true, IfOk, IfSome, OnOk, OnErr};
+ghost use Rattle.std.specs.Prelude.{◌≡◌, ℕ, None, Some, true, IfOk, IfSome, OnErr};
 ghost use Rattle.std.specs.Option.{option_copied};
 ghost use Rattle.control_cell.specs.Holding.{Answers, Takes, Unchanged};
 ghost use Rattle.control_cell.specs.Keeping.{found_in, token_of, with_actions};

@@ -1,6 +1,6 @@
 //! What the control cell holds.
 
-ghost use Rattle.std.specs.Prelude.{◌≡◌, ℕ, [], IfOk};
+ghost use Rattle.std.specs.Prelude.{ℕ, [], IfOk};
 
 use std::alloc::{AllocError as NoMemory, Global};
 use txn_core::{Reason, Rules};

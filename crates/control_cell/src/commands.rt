@@ -1,6 +1,6 @@
 //! The part of the control cell in a command, which goes to all cells.
 
-ghost use Rattle.std.specs.Prelude.{◌≡◌, ℕ, IfOk};
+ghost use Rattle.std.specs.Prelude.{ℕ, IfOk};
 ghost use Rattle.control_cell.specs.Plans.{IsPlan, PlanAnswers, TakesPlan};
 
 use crate::cell::ControlCell;

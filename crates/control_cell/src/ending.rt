@@ -1,7 +1,7 @@
 //! Messages that decide, finish and forget a transaction. They take no memory.
 
-ghost use Rattle.std.specs.Prelude.{◌≡◌, ℕ, List, ◌∷◌};
-ghost use Rattle.control_cell.specs.Holding.{Answers, Holds, IsEntry, Takes, TakesAllowed};
+ghost use Rattle.std.specs.Prelude.{ℕ};
+ghost use Rattle.control_cell.specs.Holding.{Answers, Takes, TakesAllowed};
 ghost use Rattle.txn_core.specs.declared.message.Message.{Message};
 
 use crate::cell::ControlCell;

@@ -1,5 +1,5 @@
 -- What a call changes in an outbox.
-use Rattle.std.specs.Prelude.{◌≡◌, ◌+◌, List, drop, if◌then◌else◌}
+use Rattle.std.specs.Prelude.{◌≡◌, ◌+◌, drop, if◌then◌else◌}
 use Rattle.std.specs.Prelude.{ℕ}
 use Rattle.global_index.specs.declared.outbox.Outbox.{Outbox}
 use Rattle.global_index.specs.Outboxes.{has_first}

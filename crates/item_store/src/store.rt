@@ -6,7 +6,7 @@ ghost use Rattle.txn_core.specs.Answers.{is_holder};
 ghost use Rattle.item_store.specs.Slots.{committed_of, holder_of, last_of, pending_of, row_of, slot_of, version_of};
 ghost use Rattle.std.specs.Ordering.{nat_cmp};
 ghost use Rattle.std.specs.BTreeMap.{get};
-ghost use Rattle.item_store.specs.Tables.{has_table, held_of, held_under};
+ghost use Rattle.item_store.specs.Tables.{has_table, held_under};
 
 use crate::counts::Counts;
 use crate::slot::{Committed, End, Pending, Slot, item_in, last, version};
@@ -112,6 +112,7 @@ impl<K: Ord, V> ItemStore<K, V> {
         ensures old { IfOk result (λ old. old ≡ row_of (slot_at self.old table key.now)) }
         ensures dropped { OnOk result (Commits self.old self.new table key.now None stamp) }
         ensures held { self.new.held ≡ self.old.held }
+        ensures left { OnErr result (self.old.counts.count + self.old.held + 1 ≡ 2 ^ 64) }
         ensures err { OnErr result (Unchanged self.old self.new) }
     {
         self.next_number()?;

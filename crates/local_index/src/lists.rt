@@ -2,7 +2,6 @@
 
 ghost use Rattle.std.specs.Prelude.{◌≡◌, [], OnOk, OnErr};
 ghost use Rattle.local_index.specs.declared.claim.Claim.TheVariants.{Committed};
-ghost use Rattle.std.specs.BTreeMap.{get};
 ghost use Rattle.local_index.specs.Claims.{instead, joined, without};
 ghost use Rattle.local_index.specs.Entries.{changed, held_too, is_among, let_go, settled, Gives, SameClaims};
 

@@ -5,9 +5,9 @@
 //! [`CellRules`], for pages [`PageRules`], and for commands of the catalog [`CommandRules`]. Each says, of every state and feed
 //! of `txn_core` that the cell holds, that its answer is the one of the protocol, and that the cell holds the state and the feed
 //! after it: `specs/Holds.antt` says when a cell holds a state, `specs/Says.antt` what is answered. So nothing is said here of
-//! how a cell came to be as it is, but for [`page`]: it asks of the feed that it lists all that is there, which
-//! `proofs/Listed.antt` has of the feed of any entries. Each message that changes a cell leaves its local entries in step with
-//! its items too, whatever it answers (`specs/InStep.antt`).
+//! how a cell came to be as it is, but for [`page`]. It asks of the feed that it lists all that is there, which
+//! `proofs/Listed.antt` has of the feed of any entries, and of the cell that its local entries are in step with its items
+//! (`specs/InStep.antt`). Each message that changes a cell leaves them so, whatever it answers, and so does a command.
 //!
 //! A command of the catalog changes all cells or none, over any tables that meet [`CommandRules`]: [`first_holder`] tells which
 //! transaction stands in its way, [`plan_catalog`] takes all that a cell needs for it and changes nothing, and when all cells

@@ -1,6 +1,6 @@
 //! The changes of each held item.
 
-ghost use Rattle.std.specs.Prelude.{◌≡◌, ◌+◌, ℕ, [], Some, IfOk, OnOk, OnErr, length, if◌then◌else◌};
+ghost use Rattle.std.specs.Prelude.{◌≡◌, ◌+◌, [], Some, IfOk, OnOk, OnErr, length, if◌then◌else◌};
 ghost use Rattle.std.specs.BTreeMap.{is_at};
 ghost use Rattle.prepared_changes.specs.Prepared.{changes_in, moves_in, moves_of, no_moves, places_in, prepared_in, SameLists};
 
