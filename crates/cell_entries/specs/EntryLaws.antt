@@ -128,8 +128,9 @@ module _ (schema : Schema) (update : TableUpdate) (key : ItemKey) (item : Attrib
   same_from [] place known left = refl
   same_from (index ∷ rest) place known left =
       let typed = and_parts (has_kinds schema index.keys) (list_all (λ other. has_kinds schema other.keys) rest) known in
-      let here = kept_key schema update index.keys item typed.0 (λ name has. left name (or_left (is_key_name index.keys name) (list_any (λ other. is_key_name other.keys name) rest) has)) in
-      let more = same_from rest (place + 1) typed.1 (λ name has. left name (or_right (is_key_name index.keys name) (list_any (λ other. is_key_name other.keys name) rest) has)) in
+      let others : List ℕ → Bool = λ name. list_any (λ other. is_key_name other.keys name) rest in
+      let here = kept_key schema update index.keys item typed.0 (λ name has. left name (or_left (is_key_name index.keys name) (others name) has)) in
+      let more = same_from rest (place + 1) typed.1 (λ name has. left name (or_right (is_key_name index.keys name) (others name) has)) in
       λ i. entry_at key place (position_if key.key (here i)) ++ more i
 
 updated_entries : (update : TableUpdate) (drawn : ℕ) (table : CatalogTable) (key : ItemKey) (item : Attributes)

@@ -86,19 +86,14 @@ front : {X : Type 0} (f : X → Bool) (xs ys : List X) → list_all f (xs ++ ys)
 front f [] ys h = refl
 front f (x ∷ xs) ys h = let p = and_parts (f x) (list_all f (xs ++ ys)) h in and_from (f x) (list_all f xs) p.0 (front f xs ys p.1)
 
-locals_typed : (schema : Schema) (locals : List LocalIndex) → list_all (λ (i : StatedIndex). defines_key (stated_of schema) i.keys) (map of_local locals) ≡ true
-    → list_all (λ index. has_kinds schema index.keys) locals ≡ true
-locals_typed schema [] h = refl
-locals_typed schema (l ∷ ls) h =
-    let p = and_parts (defines_key (stated_of schema) (elements_of l.keys)) _ h in
-    and_from (has_kinds schema l.keys) _ (typed_key schema l.keys p.0) (locals_typed schema ls p.1)
-
-all_typed : (schema : Schema) (globals : List GlobalIndex) → list_all (λ (i : StatedIndex). defines_key (stated_of schema) i.keys) (map of_global globals) ≡ true
-    → list_all (λ index. has_kinds schema index.keys) globals ≡ true
-all_typed schema [] h = refl
-all_typed schema (g ∷ gs) h =
-    let p = and_parts (defines_key (stated_of schema) (elements_of g.keys)) _ h in
-    and_from (has_kinds schema g.keys) _ (typed_key schema g.keys p.0) (all_typed schema gs p.1)
+-- where the keys of each index, as it was stated, are defined, they have types
+each_typed : {X : Type 0} (schema : Schema) (keys : X → KeyNames) (stated : X → StatedIndex) (same : (x : X) → (stated x).keys ≡ elements_of (keys x)) (xs : List X)
+    → list_all (λ (i : StatedIndex). defines_key (stated_of schema) i.keys) (map stated xs) ≡ true → list_all (λ x. has_kinds schema (keys x)) xs ≡ true
+each_typed schema keys stated same [] h = refl
+each_typed schema keys stated same (x ∷ xs) h =
+    let p = and_parts (defines_key (stated_of schema) (stated x).keys) _ h in
+    let typed = typed_key schema (keys x) (subst (λ k. defines_key (stated_of schema) k ≡ true) (same x) p.0) in
+    and_from (has_kinds schema (keys x)) _ typed (each_typed schema keys stated same xs p.1)
 
 -- the index keys of a valid schema have types
 pub valid_typed : (schema : Schema) → IsValid schema → is_typed schema ≡ true
@@ -109,8 +104,8 @@ valid_typed schema valid =
     let all = (and_parts (list_all (λ d. is_in_key stated d.name) stated.definitions) (defines_keys stated) free).1 in
     let indexes = (and_parts (defines_key stated stated.keys) (list_all (λ (i : StatedIndex). defines_key stated i.keys) (map of_local schema.locals ++ map of_global schema.globals)) all).1 in
     and_from (list_all (λ index. has_kinds schema index.keys) schema.locals) (list_all (λ index. has_kinds schema index.keys) schema.globals)
-    (locals_typed schema schema.locals (front (λ (i : StatedIndex). defines_key stated i.keys) (map of_local schema.locals) (map of_global schema.globals) indexes))
-    (all_typed schema schema.globals (behind (λ (i : StatedIndex). defines_key stated i.keys) (map of_local schema.locals) (map of_global schema.globals) indexes))
+    (each_typed schema (λ (index : LocalIndex). index.keys) of_local (λ _. refl) schema.locals (front (λ (i : StatedIndex). defines_key stated i.keys) (map of_local schema.locals) (map of_global schema.globals) indexes))
+    (each_typed schema (λ (index : GlobalIndex). index.keys) of_global (λ _. refl) schema.globals (behind (λ (i : StatedIndex). defines_key stated i.keys) (map of_local schema.locals) (map of_global schema.globals) indexes))
 
 -- ---- one name more
 

@@ -74,7 +74,8 @@ module _
 
     -- a partition that had planned a command stands with the command's entry
     abbrev pub CarriesPlanned :
-        ClusterCell (Partition K V C N O E P X Y Z) (ControlCell R K V A F C D Q B) → ClusterCell (Partition K V C N O E P X Y Z) (ControlCell R K V A F C D Q B)
+        ClusterCell (Partition K V C N O E P X Y Z) (ControlCell R K V A F C D Q B)
+        → ClusterCell (Partition K V C N O E P X Y Z) (ControlCell R K V A F C D Q B)
         → ℕ → Type 0
     CarriesPlanned old new moment =
         (i : ℕ) (es : History S) (e : Event S) (d : D) → i < S.control → HasPlanned i old d moment → IsCarriedOut S moment d e

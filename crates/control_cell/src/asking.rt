@@ -8,22 +8,8 @@ ghost use Rattle.txn_core.specs.declared.answer.Answer.{Answer};
 use crate::cell::ControlCell;
 use base_types::Seq;
 use std::alloc::{AllocError as NoMemory, Global};
-use txn_core::{Answer, Reason, Reply, Rules};
+use txn_core::{Answer, Reason, Reply, Rules, copy_of_actions};
 use txn_ledger::Record;
-
-/// A copy of actions.
-pub(crate) fn copy_of_actions<R: Rules>(
-    alloc: Global,
-    actions: &[R::Action],
-) -> Result<Seq<R::Action>, NoMemory>
-    ensures { IfOk result (λ copies. copies ≡ actions.now) }
-{
-    let mut copies = Vec::with_capacity(alloc, actions.len())?;
-    for action in actions {
-        copies.push(R::copy_of_action(alloc, action)?)?;
-    }
-    Ok(Seq::from(copies))
-}
 
 /// A copy of a reason.
 fn copy_of_reason<R: Rules>(

@@ -8,12 +8,11 @@ ghost use Rattle.txn_core.specs.Answers.{begin_answer};
 ghost use Rattle.txn_core.specs.declared.message.Message.{Message};
 ghost use Rattle.control_cell.specs.Begins.{DrawsNone, drawn_in, have_tables};
 
-use crate::asking::copy_of_actions;
 use crate::cell::ControlCell;
 use base_types::{Seq, Text};
 use client_tokens::Kept;
 use std::alloc::{AllocError as NoMemory, Global};
-use txn_core::{Answer, Reply, Rules};
+use txn_core::{Answer, Reply, Rules, copy_of_actions};
 use txn_ledger::ClientToken;
 
 /// Whether the catalog has the table of each action.

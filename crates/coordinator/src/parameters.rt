@@ -4,23 +4,9 @@ ghost use Rattle.std.specs.Prelude.{◌≡◌, IfOk};
 ghost use Rattle.std.specs.Option.{option_copied};
 ghost use Rattle.txn_core.specs.declared.message.Message.{Message};
 
-use base_types::{Seq, Text};
+use base_types::Text;
 use std::alloc::{AllocError as NoMemory, Global};
-use txn_core::{Asked, Message, Rules};
-
-/// A copy of actions.
-pub(crate) fn copy_of_actions<R: Rules>(
-    alloc: Global,
-    actions: &[R::Action],
-) -> Result<Seq<R::Action>, NoMemory>
-    ensures { IfOk result (λ copies. copies ≡ actions.now) }
-{
-    let mut copies = Vec::with_capacity(alloc, actions.len())?;
-    for action in actions {
-        copies.push(R::copy_of_action(alloc, action)?)?;
-    }
-    Ok(Seq::from(copies))
-}
+use txn_core::{Asked, Message, Rules, copy_of_actions};
 
 /// A copy of a token, where there is one.
 fn copy_of_token(token: Option<&Text>) -> Result<Option<Text>, NoMemory>

@@ -16,7 +16,7 @@ ghost use Rattle.coordinator.specs.declared.transact_end.TransactEnd.{TransactEn
 use crate::apart::are_apart;
 use crate::drive_end::{DriveEnd, DriveEndOf};
 use crate::driver::Driver;
-use crate::parameters::{begin_message, copy_of_actions};
+use crate::parameters::begin_message;
 use crate::run::{drive, drive_on};
 use crate::transact_end::{TransactEnd, TransactEndOf, ended_by, is_over, unanswered};
 use base_types::{Seq, Text};
@@ -27,7 +27,7 @@ use partition::PageRules;
 use std::alloc::Global;
 use std::sync::Wait;
 use turnstile::Pass;
-use txn_core::{Answer, Message, Reply, Stamp};
+use txn_core::{Answer, Message, Reply, Stamp, copy_of_actions};
 
 /// Has the record of a transaction forgotten that this pass began and that is done. Where no unit is left for that the record stays,
 /// which takes room in the control cell and nothing else.

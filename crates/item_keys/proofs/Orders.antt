@@ -15,12 +15,13 @@ use Rattle.item_keys.specs.ScanOrder.{key_order, scan_order}
 pub keys_in_order : (a b : PlacedKey) → ghosts.cmp a b ≡ scan_order a b
 keys_in_order a b = refl
 
-first_ties : (o p : Ordering) → ordering_then o p ≡ Equal → o ≡ Equal
+-- one order behind another ties only where both do
+pub first_ties : (o p : Ordering) → ordering_then o p ≡ Equal → o ≡ Equal
 first_ties Less p e = absurd (cc)
 first_ties Equal p e = refl
 first_ties Greater p e = absurd (cc)
 
-rest_ties : (o p : Ordering) → ordering_then o p ≡ Equal → p ≡ Equal
+pub rest_ties : (o p : Ordering) → ordering_then o p ≡ Equal → p ≡ Equal
 rest_ties Less p e = absurd (cc)
 rest_ties Equal p e = e
 rest_ties Greater p e = absurd (cc)

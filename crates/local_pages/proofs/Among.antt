@@ -11,6 +11,7 @@ use Rattle.std.proofs.lemmas.Map.Lookups.{CmpEqualImpliesEq, exact_unsigned}
 use Rattle.attr_value.specs.Tree.{Attributes}
 use Rattle.table_schema.specs.declared.index.LocalIndex.{LocalIndex}
 use Rattle.table_schema.specs.declared.schema.Schema.{Schema}
+use Rattle.item_keys.proofs.Orders.{first_ties, rest_ties}
 use Rattle.row_keys.specs.declared.position.Position.{Position}
 use Rattle.row_keys.specs.Keys.{position_order}
 use Rattle.row_keys.specs.KeyLaws.{position_total}
@@ -30,16 +31,6 @@ pub entry_total : IsTotalOrder entry_order
 entry_total =
     then_total (on_total (λ e. e.table) nat_cmp_total)
     (then_total (on_total (λ e. e.index) nat_cmp_total) (on_total (λ e. e.at) position_total))
-
-first_ties : (o p : Ordering) → ordering_then o p ≡ Equal → o ≡ Equal
-first_ties Less p e = absurd (cc)
-first_ties Equal p e = refl
-first_ties Greater p e = absurd (cc)
-
-rest_ties : (o p : Ordering) → ordering_then o p ≡ Equal → p ≡ Equal
-rest_ties Less p e = absurd (cc)
-rest_ties Equal p e = e
-rest_ties Greater p e = absurd (cc)
 
 equal_from : (o : Ordering) → is_eq o ≡ true → o ≡ Equal
 equal_from Less e = absurd (cc)

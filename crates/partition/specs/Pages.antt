@@ -65,7 +65,9 @@ module _ {K V : Type 0} where
     AreItemsOrdered None = Unit {0}
     AreItemsOrdered (Some items) = IsOrdered O.cmp items.slots
 
-module _ {K V C : Type 0} {O : ord.Ghosts K} {E : eq.Ghosts K} {P : partial.Ghosts K} {N : Type 0} {X : ord.Ghosts N} {Y : eq.Ghosts N} {Z : partial.Ghosts N} where
+module _
+    {K V C : Type 0} {O : ord.Ghosts K} {E : eq.Ghosts K} {P : partial.Ghosts K}
+    {N : Type 0} {X : ord.Ghosts N} {Y : eq.Ghosts N} {Z : partial.Ghosts N} where
   -- what a cell shows to a page of this table, or of this index
   abbrev pub shown_to : Partition K V C N O E P X Y Z → ℕ → Option ℕ → List (K × V)
   shown_to c table None = items_of (get nat_cmp c.items.tables table)

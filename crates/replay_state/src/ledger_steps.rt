@@ -4,23 +4,8 @@ ghost use Rattle.txn_core.specs.History.{effect};
 ghost use Rattle.replay_state.specs.Ledger.{begun_by, decision_by, finished_by, forgotten_by, with_last, Enters};
 
 use crate::ledger::{Decision, LedgerOf, Transaction, next_of};
-use base_types::Seq;
 use std::alloc::{AllocError as NoMemory, Global};
-use txn_core::{Answer, Event, Fate, Message, Rules};
-
-/// Copies of actions.
-fn copy_of_actions<R: Rules>(
-    alloc: Global,
-    actions: &[R::Action],
-) -> Result<Seq<R::Action>, NoMemory>
-    ensures { IfOk result (λ copies. copies ≡ actions.now) }
-{
-    let mut copies = Vec::new(alloc);
-    for action in actions {
-        copies.push(R::copy_of_action(alloc, action)?)?;
-    }
-    Ok(Seq::from(copies))
-}
+use txn_core::{Answer, Event, Fate, Message, Rules, copy_of_actions};
 
 /// What the entry begins, as the transaction of this number, if it begins one.
 fn begun_by<R: Rules>(

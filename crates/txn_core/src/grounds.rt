@@ -160,8 +160,8 @@ fn are_told<R: Rules>(
         && are_told::<R>(past, number, others, rest)
 }
 
-/// Whether one of the reasons is a refusal.
-fn have_refusal<V, F>(reasons: &[Reason<V, F>]) -> bool
+/// Whether one of the reasons is a refusal: any but the one of an action that was accepted.
+pub fn have_refusal<V, F>(reasons: &[Reason<V, F>]) -> bool
     ensures { MatchBool result (Any (λ r. r ≢ Reason.None) reasons.now) (All (λ r. r ≡ Reason.None) reasons.now) }
 {
     for reason in reasons {

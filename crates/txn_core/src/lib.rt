@@ -34,6 +34,7 @@
 
 mod answer;
 pub mod cells;
+mod copies;
 mod course;
 pub mod driver;
 mod entry;
@@ -55,10 +56,12 @@ mod stamp;
 mod verdict;
 
 pub use answer::{Answer, HeldItem};
+pub use copies::copy_of_actions;
 pub use course::{Course, Move};
 pub use entry::{Asked, Entry, Event, Reply};
 pub use fact::{Fact, ItemFact};
 pub use fate::Fate;
+pub use grounds::have_refusal;
 pub use kind::BreakKind;
 pub use message::Message;
 pub use outcome::Outcome;

@@ -1,6 +1,6 @@
 //! What two rounds of reads tell.
 
-ghost use Rattle.std.specs.Prelude.{◌≡◌, ◌≢◌, MatchBool, All, Any, map, IfOk};
+ghost use Rattle.std.specs.Prelude.{◌≡◌, map, IfOk};
 ghost use Rattle.txn_core.specs.declared.reason.Reason.{Reason};
 ghost use Rattle.txn_reader.specs.Reasons.{IsRuled, reason_of, reasons_of};
 
@@ -8,7 +8,7 @@ use crate::item_version::ItemVersion;
 use crate::read_end::ReadEnd;
 use base_types::Seq;
 use std::alloc::{AllocError as NoMemory, Global};
-use txn_core::Reason;
+use txn_core::{Reason, have_refusal};
 
 /// Why two reads of an item may be of two points.
 fn reason_of<V, F>(one: &ItemVersion<V>, two: &ItemVersion<V>) -> Reason<V, F>
@@ -39,13 +39,6 @@ fn reasons_of<V: Drop, F: Drop>(
     Ok(Seq::from(reasons))
 }
 
-/// Whether one of them says more than that there is none.
-fn have_reason<V, F>(reasons: &[Reason<V, F>]) -> bool
-    ensures { MatchBool result (Any (λ r. r ≢ Reason.None) reasons.now) (All (λ r. r ≡ Reason.None) reasons.now) }
-{
-    reasons.iter().any(|reason| !matches!(reason, Reason::None))
-}
-
 /// The items that were found.
 fn items_of<V: Drop>(alloc: Global, found: Seq<ItemVersion<V>>) -> Result<Seq<Option<V>>, NoMemory>
     ensures { IfOk result (λ items. items ≡ map (λ read. read.item) found) }
@@ -67,7 +60,7 @@ pub(crate) fn rule<V: Drop, F: Drop>(
     ensures { IfOk result (λ end. IsRuled first second end) }
 {
     let reasons = reasons_of(alloc, first.as_slice(), second.as_slice())?;
-    if have_reason(reasons.as_slice()) {
+    if have_refusal(reasons.as_slice()) {
         return Ok(ReadEnd::Cancelled(reasons));
     }
     Ok(ReadEnd::Rows(items_of(alloc, first)?))

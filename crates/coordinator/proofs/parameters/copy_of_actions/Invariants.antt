@@ -1,5 +1,0 @@
-use Rattle.std.proofs.Common.{◌≡◌, ◌++◌, drop}
-use Rattle.coordinator.proofs.parameters.copy_of_actions.Given as goal
-
-abbrev pub invariant-loop-action : goal.invariant-loop-action
-invariant-loop-action g l = l.copies.items ++ drop l.action-index l.actions ≡ l.actions
