@@ -15,7 +15,7 @@ use std::sync::{Mutex, Wait};
 use std::test::*;
 use std::thread::{Threads, join};
 use turnstile::Pass;
-use txn_core::{Answer, Message, Reply};
+use txn_core::{Answer, Asked, Message, Reply};
 use txn_replay::replay_check;
 
 /// A question to the cells, which changes nothing.
@@ -26,6 +26,19 @@ enum Look {
     Pendings(u32),
     Unfinished,
     Fate(u64),
+}
+
+impl Look {
+    /// The question as it is asked.
+    fn message(self) -> Asked<Shop> {
+        match self {
+            Look::Get(number) => Message::Get { key: order(number) },
+            Look::Version(number) => Message::ReadVersion { key: order(number) },
+            Look::Pendings(cell) => Message::Pendings { cell },
+            Look::Unfinished => Message::Unfinished,
+            Look::Fate(number) => Message::FateOf { number },
+        }
+    }
 }
 
 /// A change that an outbox showed.
@@ -131,7 +144,53 @@ fn command<R: Wait>(
     Ok(())
 }
 
-/// Asks a question.
+/// Has a cell answer a question: its number, and the answer. None where there is no such partition.
+fn answer_to<R: Wait>(
+    rt: &R,
+    alloc: Global,
+    shop: &Cluster<Shop>,
+    pass: &mut Pass<TableWorld<Shop>>,
+    look: Look,
+) -> Result<Option<(u32, Reply<Shop>)>, StepError>
+    requires of { pass.old.turnstile ≡ shop.now.id }
+    requires free { pass.old.turns ≡ [] }
+    ensures same { (pass.new.turnstile ≡ pass.old.turnstile) × (pass.new.turns ≡ []) }
+{
+    let (cell, answer) = match look {
+        Look::Get(number) => {
+            let key = order(number);
+            let cell = shop.cell_of(&key);
+            (
+                cell,
+                shop.step(rt, alloc, pass, cell, Message::Get { key })?,
+            )
+        }
+        Look::Version(number) => {
+            let key = order(number);
+            let cell = shop.cell_of(&key);
+            let asked = Message::ReadVersion { key };
+            (cell, shop.step(rt, alloc, pass, cell, asked)?)
+        }
+        Look::Pendings(cell) => {
+            if cell >= shop.partitions() {
+                return Ok(None);
+            }
+            let asked = Message::Pendings { cell };
+            (cell, shop.step(rt, alloc, pass, cell, asked)?)
+        }
+        Look::Unfinished => (
+            PARTITIONS,
+            shop.step_ledger(rt, alloc, pass, Message::Unfinished)?,
+        ),
+        Look::Fate(number) => (
+            PARTITIONS,
+            shop.step_ledger(rt, alloc, pass, Message::FateOf { number })?,
+        ),
+    };
+    Ok(Some((cell, answer)))
+}
+
+/// Asks a question, and takes it down.
 fn look_at<R: Wait>(
     rt: &R,
     alloc: Global,
@@ -145,48 +204,8 @@ fn look_at<R: Wait>(
     ensures same { (pass.new.turnstile ≡ pass.old.turnstile) × (pass.new.turns ≡ []) }
 {
     let mut tape = tape.lock(rt);
-    match look {
-        Look::Get(number) => {
-            let key = order(number);
-            let cell = shop.cell_of(&key);
-            let answer = shop.step(rt, alloc, pass, cell, Message::Get { key })?;
-            tape.add(pass.number(), Some(cell), Message::Get { key }, answer)?;
-        }
-        Look::Version(number) => {
-            let key = order(number);
-            let cell = shop.cell_of(&key);
-            let answer = shop.step(rt, alloc, pass, cell, Message::ReadVersion { key })?;
-            tape.add(
-                pass.number(),
-                Some(cell),
-                Message::ReadVersion { key },
-                answer,
-            )?;
-        }
-        Look::Pendings(cell) => {
-            if cell < shop.partitions() {
-                let answer = shop.step(rt, alloc, pass, cell, Message::Pendings { cell })?;
-                tape.add(
-                    pass.number(),
-                    Some(cell),
-                    Message::Pendings { cell },
-                    answer,
-                )?;
-            }
-        }
-        Look::Unfinished => {
-            let answer = shop.step_ledger(rt, alloc, pass, Message::Unfinished)?;
-            tape.add(pass.number(), Some(PARTITIONS), Message::Unfinished, answer)?;
-        }
-        Look::Fate(number) => {
-            let answer = shop.step_ledger(rt, alloc, pass, Message::FateOf { number })?;
-            tape.add(
-                pass.number(),
-                Some(PARTITIONS),
-                Message::FateOf { number },
-                answer,
-            )?;
-        }
+    if let Some((cell, answer)) = answer_to(rt, alloc, shop, pass, look)? {
+        tape.add(pass.number(), Some(cell), look.message(), answer)?;
     }
     Ok(())
 }
