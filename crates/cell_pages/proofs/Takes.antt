@@ -2,7 +2,7 @@
 use Rattle.std.specs.Prelude.{if◌then◌else◌}
 use Rattle.std.proofs.Common.{◌≡◌, Bool, true, false, ◌&&◌, List, [], ◌∷◌, ◌++◌, map, filter, reverse, Option, None, Some, refl, sym, ap, ◌∙◌, append-nil}
 use Rattle.std.proofs.lemmas.Bool.{cond-true, cond-false}
-use Rattle.std.proofs.lemmas.List.{reverse-append, reverse-reverse, map-append, append_assoc}
+use Rattle.std.proofs.lemmas.List.{reverse-append, reverse-reverse, map-append}
 use Rattle.std.proofs.lemmas.List.Elements.{filter-append}
 use Rattle.attr_value.specs.Tree.{Attributes}
 use Rattle.row_keys.specs.declared.position.Position.{Position}
@@ -17,7 +17,6 @@ use Rattle.cell_model.specs.declared.answer.PageRow.{PageRow}
 use Rattle.cell_model.specs.declared.answer.CatalogAnswer.{CatalogAnswer}
 use Rattle.cell_model.specs.declared.answer.CatalogAnswer.TheVariants as answer
 use Rattle.cell_model.specs.Pages.{is_over, taken, room_behind, room_after, page_row, part_of}
-use Rattle.std.proofs.lemmas.List.Sums.{fold-append}
 use Rattle.cell_pages.specs.Asked.{is_behind, is_asked, entry_of, left, left_with}
 
 -- a page that is over takes nothing
@@ -82,31 +81,6 @@ as_entries (e ∷ es) = ap (λ l. e ∷ l) (as_entries es)
 as_rows : (rows : List PageRow) → map page_row (map entry_of rows) ≡ rows
 as_rows [] = refl
 as_rows (row ∷ rows) = ap (λ l. row ∷ l) (as_rows rows)
-
--- a row that is asked for comes behind those that were taken
-pub one_taken : (page : PageQuestion) (room next : PageRoom) (rows rest more : List PageRow) (row : PageRow) (all : Entries) → is_asked page row.at ≡ true
-    → all ≡ map entry_of rows ++ left page room rest → left page room rest ≡ left_with page room row more → next ≡ room_behind room row.item
-    → all ≡ map entry_of (rows ++ row ∷ []) ++ left page next more
-one_taken page room next rows rest more row all asked before met after =
-    before
-    ∙ ap (λ l. map entry_of rows ++ l) (met ∙ cond-true (is_asked page row.at) _ _ asked)
-    ∙ ap (λ r. map entry_of rows ++ entry_of row ∷ left page r more) (sym after)
-    ∙ sym (append_assoc (map entry_of rows) (entry_of row ∷ []) (left page next more))
-    ∙ ap (λ l. l ++ left page next more) (sym (map-append entry_of rows (row ∷ [])))
-
--- and the room is what they leave
-pub room_left : (start room next : PageRoom) (rows : List PageRow) (row : PageRow) → room ≡ room_after start (map entry_of rows) → next ≡ room_behind room row.item
-    → next ≡ room_after start (map entry_of (rows ++ row ∷ []))
-room_left start room next rows row before after =
-    after
-    ∙ ap (λ r. room_behind r row.item) before
-    ∙ sym (ap (room_after start) (map-append entry_of rows (row ∷ [])) ∙ fold-append (λ left entry. room_behind left entry.1) start (map entry_of rows) (entry_of row ∷ []))
-
--- a row that is not asked for is passed by
-pub one_passed : (page : PageQuestion) (room : PageRoom) (rows rest more : List PageRow) (row : PageRow) (all : Entries) → is_asked page row.at ≡ false
-    → all ≡ map entry_of rows ++ left page room rest → left page room rest ≡ left_with page room row more → all ≡ map entry_of rows ++ left page room more
-one_passed page room rows rest more row all passed before met =
-    before ∙ ap (λ l. map entry_of rows ++ l) (met ∙ cond-false (is_asked page row.at) _ _ passed)
 
 -- where nothing is left, what was taken is the page
 pub ended : (page : PageQuestion) (room : PageRoom) (rows : List PageRow) (more : Entries) (stopped : Bool) (all : Entries)

@@ -1,13 +1,12 @@
 -- The rows of an ordered map that a page is asked for are those of the list that it shows.
 use Rattle.std.specs.Prelude.{if◌then◌else◌}
-use Rattle.std.proofs.Common.{◌≡◌, ◌⊎◌, append_assoc, ℕ, Bool, true, false, ◌&&◌, not, nat_eq, Less, Equal, Greater, List, [], ◌∷◌, ◌++◌, map, filter, filter_map, reverse, Option, None, Some, option_map, inl, inr, refl, sym, ap, ◌∙◌, append-nil}
+use Rattle.std.proofs.Common.{◌≡◌, ◌⊎◌, ℕ, Bool, true, false, ◌&&◌, not, nat_eq, Less, Equal, Greater, List, [], ◌∷◌, ◌++◌, filter, filter_map, reverse, Option, None, Some, option_map, inl, inr, refl, sym, ap, ◌∙◌, append-nil}
 use Rattle.std.specs.List.{cons_option}
 use Rattle.std.specs.Cmp.{IsTotalOrder, nat_cmp_total, tied_itself}
 use Rattle.std.specs.Ordering.{is_gt, is_le, is_lt, nat_cmp, ordering_reverse, ordering_then}
 use Rattle.std.specs.BTreeMap.Range.{entries_between, is_from_start, is_past_end, range_contains}
 use Rattle.std.specs.declared.cmp.Ordering.{Ordering}
 use Rattle.std.proofs.lemmas.Bool.{and_parts, cond-false, eq-eqb, eqb-true}
-use Rattle.std.proofs.lemmas.List.{map-append}
 use Rattle.std.proofs.lemmas.List.Elements.{filter_map-append}
 use Rattle.attr_value.specs.Tree.{Attributes}
 use Rattle.row_keys.specs.declared.position.Position.{Position}
@@ -21,16 +20,15 @@ use Rattle.page_ranges.specs.Span.{is_inside, low_end, high_end, stands_inside}
 use Rattle.cell_model.specs.declared.key.CellKey.{CellKey}
 use Rattle.cell_model.specs.declared.key.CellKey.TheVariants.{Item, Row}
 use Rattle.cell_model.specs.declared.catalog.CatalogTable.{CatalogTable}
-use Rattle.cell_model.specs.declared.answer.PageRow.{PageRow}
 use Rattle.cell_model.specs.declared.question.PageRoom.{PageRoom}
 use Rattle.cell_model.specs.declared.question.PageSource.{PageSource}
 use Rattle.cell_model.specs.declared.question.PageSource.TheVariants as source
 use Rattle.cell_model.specs.declared.question.PageQuestion.{PageQuestion}
 use Rattle.cell_model.specs.Keys.{key_order}
 use Rattle.cell_model.specs.KeyLaws.{key_total}
-use Rattle.cell_model.specs.Pages.{CellRows, is_over, part_of, room_behind, source_rows, taken}
-use Rattle.cell_pages.specs.Asked.{entry_of, is_asked, is_behind, part_in, part_of_rows}
-use Rattle.cell_pages.specs.Walked.{IsWalked, Surround, asked_if, included, is_from, is_reversed, is_up_to, key_at, met, picked, picked_of, position_under, row_under, shown_among}
+use Rattle.cell_model.specs.Pages.{CellRows, is_over, part_of, source_rows, taken}
+use Rattle.cell_pages.specs.Asked.{is_asked, is_behind, part_in, part_of_rows}
+use Rattle.cell_pages.specs.Walked.{IsWalked, Surround, asked_if, included, is_from, is_reversed, is_up_to, key_at, page_along, picked, picked_of, position_under, row_met, row_under, shown_among}
 use Rattle.cell_pages.proofs.Sources.{source_under}
 use Rattle.cell_pages.proofs.Takes.{backward_asked, forward_asked, inside, kept_reversed, over_takes}
 
@@ -195,7 +193,7 @@ module _ (table : ℕ) (read : PageSource) (key : CellKey) (at : Position) (is :
       ∙ turned_lt (key_order key (key_at table read end)) (key_before table read end at key is up_to)
 
 -- where two ends are the wrong way round nothing is between them
-pub none_between : {K W : Type 0} {R : K → K → Ordering} → IsTotalOrder R → (low high : Option K) → is_reversed R low high ≡ true → (es : List (K × W))
+none_between : {K W : Type 0} {R : K → K → Ordering} → IsTotalOrder R → (low high : Option K) → is_reversed R low high ≡ true → (es : List (K × W))
     → entries_between R (included low) (included high) es ≡ []
 none_between total (Some low) (Some high) wrong [] = refl
 none_between {R = R} total (Some low) (Some high) wrong (e ∷ es) =
@@ -236,9 +234,13 @@ module _ {X Y : Type 0} (h : X → Option Y) where
       by (Some y) = sym (reverse_cons y (filter_map h xs))
 
   -- the order of a walk is that of what it picks
-  pub picked_in_direction : (forward : Bool) (xs : List X) → filter_map h (in_direction forward xs) ≡ in_direction forward (filter_map h xs)
+  picked_in_direction : (forward : Bool) (xs : List X) → filter_map h (in_direction forward xs) ≡ in_direction forward (filter_map h xs)
   picked_in_direction true xs = refl
   picked_in_direction false xs = picked_reversed xs
+
+  nothing_met : (forward : Bool) → filter_map h (in_direction {X = X} forward []) ≡ []
+  nothing_met true = refl
+  nothing_met false = refl
 
 module _ {W : Type 0} (shown : W → Option Attributes) (page : PageQuestion) (table : ℕ) (read : PageSource) where
   abbrev kept_asked : Position × Attributes → Bool
@@ -265,7 +267,7 @@ module _ {W : Type 0} (shown : W → Option Attributes) (page : PageQuestion) (t
   shown_asked (e ∷ es) = one_asked e.0 (shown e.1) (shown_among shown es) _ (shown_asked es)
 
 -- the rows of a list that a page is asked for, as it meets them
-pub asked_rows_are : (page : PageQuestion) (forward : Bool) (es : Entries)
+asked_rows_are : (page : PageQuestion) (forward : Bool) (es : Entries)
     → rows_after position_order forward page.after (filter (inside page) es) ≡ in_direction forward (filter (λ e. is_inside page.span e.0.read && is_behind forward page.after e.0) es)
 asked_rows_are page true es = sym (forward_asked page page.after es)
 asked_rows_are page false es = sym (backward_asked page page.after es) ∙ kept_reversed (λ e. is_inside page.span e.0.read && is_behind false page.after e.0) es
@@ -280,17 +282,46 @@ page_of_none page = ap (λ rows. part_of page.room (taken page.room rows)) (by p
     by true (Some place) = refl
     by false (Some place) = refl
 
+module _ {E : Type 0} (row : E → Option (Position × Attributes)) (page : PageQuestion) where
+  -- along no entry the page has no row
+  page_along_none : page_along row page [] ≡ part_of page.room []
+  page_along_none = ap (λ rows. part_of page.room (taken page.room rows)) (nothing_met row page.forward)
+
+  -- where the rows that entries stand for are those of a list that the page is asked for, the page along them is the list's
+  pub page_along_is : (es : List E) (rows : Entries) → filter (λ e. is_asked page e.0) rows ≡ filter_map row es
+      → page_along row page es ≡ part_of_rows page rows
+  page_along_is es rows same =
+      ap (λ met. part_of page.room (taken page.room met))
+      (picked_in_direction row page.forward es
+      ∙ ap (λ met. in_direction page.forward met) (sym same)
+      ∙ sym (asked_rows_are page page.forward rows))
+
+module _ {K W : Type 0} (cmp : K → K → Ordering) (low high : Option K) (page : PageQuestion) (row : K × W → Option (Position × Attributes)) where
+  abbrev is_between : K × W → Bool
+  is_between e = range_contains cmp (included low) (included high) e.0
+
+  -- where no entry outside two ends stands for a row, the page between them is the page along all entries
+  pub page_within : ((e : K × W) → is_between e ≡ false → row e ≡ None) → (es : List (K × W))
+      → page_along row page (entries_between cmp (included low) (included high) es) ≡ page_along row page es
+  page_within outside es =
+      ap (λ met. part_of page.room (taken page.room met))
+      (picked_in_direction row page.forward (entries_between cmp (included low) (included high) es)
+      ∙ ap (λ met. in_direction page.forward met) (sym (picked_within row is_between outside es))
+      ∙ sym (picked_in_direction row page.forward es))
+
+  -- where the ends are the wrong way round the page between them has no row
+  pub page_reversed : IsTotalOrder cmp → true ≡ is_reversed cmp low high → (es : List (K × W))
+      → part_of page.room [] ≡ page_along row page (entries_between cmp (included low) (included high) es)
+  page_reversed total wrong es = sym (ap (page_along row page) (none_between total low high (sym wrong) es) ∙ page_along_none row page)
+
 module _ {W : Type 0} (shown : W → Option Attributes) (page : PageQuestion) (t : CatalogTable) (es : List (CellKey × W)) where
   source_met : (read : PageSource) → IsWalked read → filter (λ e. is_asked page e.0) (source_rows t read (shown_among shown es)) ≡ filter_map (λ e. picked_of read t.number page e.0 (shown e.1)) es
   source_met read walked = ap (filter (λ e. is_asked page e.0)) (source_under t read walked (shown_among shown es)) ∙ shown_asked shown page t.number read es
 
   -- the page of what a map shows is the page of the rows that it meets along the map
-  pub page_walked : IsWalked page.source → part_of page.room (taken page.room (met shown t.number page (in_direction page.forward es))) ≡ part_in (Some t) (shown_among shown es) page
+  pub page_walked : IsWalked page.source → page_along (row_met shown t.number page) page es ≡ part_in (Some t) (shown_among shown es) page
   page_walked walked =
-      ap (λ rows. part_of page.room (taken page.room rows))
-      (picked_in_direction (λ e. picked t.number page e.0 (shown e.1)) page.forward es
-      ∙ ap (λ rows. in_direction page.forward rows) (sym (source_met page.source walked))
-      ∙ sym (asked_rows_are page page.forward (source_rows t page.source (shown_among shown es))))
+      page_along_is (row_met shown t.number page) page es (source_rows t page.source (shown_among shown es)) (source_met page.source walked)
 
 module _ {W : Type 0} (shown : W → Option Attributes) (page : PageQuestion) (table : ℕ) (low high : Option Position) (around : Surround page low high) (es : List (CellKey × W)) where
   abbrev low_key : Option CellKey
@@ -324,43 +355,14 @@ module _ {W : Type 0} (shown : W → Option Attributes) (page : PageQuestion) (t
       and_both a b p q = λ j. p j && q j
 
   -- a walk between the ends meets all rows that the page is asked for
-  pub met_between : met shown table page (in_direction page.forward (entries_between key_order (included low_key) (included high_key) es))
-      ≡ met shown table page (in_direction page.forward es)
-  met_between =
-      picked_in_direction (λ e. picked table page e.0 (shown e.1)) page.forward (entries_between key_order (included low_key) (included high_key) es)
-      ∙ ap (λ rows. in_direction page.forward rows)
-      (sym (picked_within (λ e. picked table page e.0 (shown e.1)) (λ e. range_contains key_order (included low_key) (included high_key) e.0) outside es))
-      ∙ sym (picked_in_direction (λ e. picked table page e.0 (shown e.1)) page.forward es)
+  pub met_between : page_along (row_met shown table page) page (entries_between key_order (included low_key) (included high_key) es)
+      ≡ page_along (row_met shown table page) page es
+  met_between = page_within key_order low_key high_key page (row_met shown table page) outside es
 
 -- ---- the walk
 
 module _ {X : Type 0} (h : X → Option (Position × Attributes)) where
-  -- a row that is asked for comes behind those that were taken
-  pub walk_taken : (room next : PageRoom) (rows : List PageRow) (row : PageRow) (x : X) (left more : List X) (all : Entries) → is_over room ≡ false
-      → all ≡ map entry_of rows ++ taken room (filter_map h left) → left ≡ x ∷ more → Some (entry_of row) ≡ h x → next ≡ room_behind room row.item
-      → all ≡ map entry_of (rows ++ row ∷ []) ++ taken next (filter_map h more)
-  walk_taken room next rows row x left more all going before first is after =
-      before
-      ∙ ap (λ xs. map entry_of rows ++ taken room (filter_map h xs)) first
-      ∙ ap (λ o. map entry_of rows ++ taken room (cons_option o (filter_map h more))) (sym is)
-      ∙ ap (λ es. map entry_of rows ++ es) (cond-false (is_over room) [] _ going)
-      ∙ ap (λ r. map entry_of rows ++ entry_of row ∷ taken r (filter_map h more)) (sym after)
-      ∙ sym (append_assoc (map entry_of rows) (entry_of row ∷ []) (taken next (filter_map h more)))
-      ∙ ap (λ l. l ++ taken next (filter_map h more)) (sym (map-append entry_of rows (row ∷ [])))
-
-  -- any other is passed by
-  pub walk_passed : (room : PageRoom) (rows : List PageRow) (x : X) (left more : List X) (all : Entries)
-      → all ≡ map entry_of rows ++ taken room (filter_map h left) → left ≡ x ∷ more → None ≡ h x → all ≡ map entry_of rows ++ taken room (filter_map h more)
-  walk_passed room rows x left more all before first is =
-      before
-      ∙ ap (λ xs. map entry_of rows ++ taken room (filter_map h xs)) first
-      ∙ ap (λ o. map entry_of rows ++ taken room (cons_option o (filter_map h more))) (sym is)
-
-  pub nothing_met : (forward : Bool) → filter_map h (in_direction {X = X} forward []) ≡ []
-  nothing_met true = refl
-  nothing_met false = refl
-
   -- where the page is over, or nothing is left, nothing more is taken
   pub walk_ended : (forward : Bool) (room : PageRoom) (left : List X) → (is_over room ≡ true) ⊎ (left ≡ []) → taken room (filter_map h (in_direction forward left)) ≡ []
   walk_ended forward room left (inl over) = over_takes room _ over
-  walk_ended forward room left (inr none) = ap (λ xs. taken room (filter_map h (in_direction forward xs))) none ∙ ap (taken room) (nothing_met forward)
+  walk_ended forward room left (inr none) = ap (λ xs. taken room (filter_map h (in_direction forward xs))) none ∙ ap (taken room) (nothing_met h forward)

@@ -8,7 +8,7 @@ use Rattle.std.specs.declared.ops.Bound.TheVariants.{Included, Unbounded}
 use Rattle.attr_value.specs.Tree.{Attributes}
 use Rattle.row_keys.specs.declared.position.Position.{Position}
 use Rattle.row_keys.specs.Keys.{position_order}
-use Rattle.row_keys.specs.Rows.{Entries, position}
+use Rattle.row_keys.specs.Rows.{position}
 use Rattle.paging.specs.Rows.{in_direction}
 use Rattle.cell_model.specs.declared.key.CellKey.{CellKey}
 use Rattle.cell_model.specs.declared.key.CellKey.TheVariants.{Item, Row}
@@ -56,13 +56,13 @@ module _ {W : Type 0} (shown : W → Option Attributes) where
   abbrev pub shown_among : List (CellKey × W) → CellRows
   shown_among entries = filter_map (λ e. option_map (λ item. (e.0, item)) (shown e.1)) entries
 
-  -- those of these entries that the page is asked for
-  abbrev pub met : ℕ → PageQuestion → List (CellKey × W) → Entries
-  met table page entries = filter_map (λ e. picked table page e.0 (shown e.1)) entries
+  -- the row that an entry of the map stands for, where the page is asked for it
+  abbrev pub row_met : ℕ → PageQuestion → CellKey × W → Option (Position × Attributes)
+  row_met table page entry = picked table page entry.0 (shown entry.1)
 
-  -- the page of a walk along these entries
-  abbrev pub page_along : ℕ → PageQuestion → List (CellKey × W) → CatalogAnswer
-  page_along table page entries = part_of page.room (taken page.room (met table page (in_direction page.forward entries)))
+-- the page of a walk along entries, each of which stands for one row or for none
+abbrev pub page_along : {E : Type 0} → (E → Option (Position × Attributes)) → PageQuestion → List E → CatalogAnswer
+page_along row page entries = part_of page.room (taken page.room (filter_map row (in_direction page.forward entries)))
 
 -- ---- ends
 

@@ -1,7 +1,6 @@
 //! Between which keys the rows stand that a page is asked for.
 
 ghost use Rattle.std.specs.Prelude.{◌≡◌, true, IfOk, option_map};
-ghost use Rattle.std.specs.Option.{option_copied};
 ghost use Rattle.std.specs.Range.Bound.{bound_map};
 ghost use Rattle.row_keys.specs.declared.position.Position.{Position as AnyPosition};
 ghost use Rattle.page_ranges.specs.Span.{is_inside, stands_inside};
@@ -139,7 +138,7 @@ pub(crate) fn keys_at(table: u64, source: PageSource, ends: Ends<Position>) -> E
 }
 
 /// An end with its key, or open.
-pub fn end_at<K>(key: &Option<K>) -> Bound<&K>
+pub(crate) fn end_at<K>(key: &Option<K>) -> Bound<&K>
     ensures { bound_map (λ end. end.now) result ≡ included key.now }
 {
     match key {
@@ -150,7 +149,7 @@ pub fn end_at<K>(key: &Option<K>) -> Bound<&K>
 
 impl<K: Ord> Ends<K> {
     /// Whether nothing can be between the ends: the low one is above the high one.
-    pub fn is_reversed(&self) -> bool
+    pub(crate) fn is_reversed(&self) -> bool
         ensures { result ≡ is_reversed K.cmp self.now.low self.now.high }
     {
         match (&self.low, &self.high) {

@@ -1,6 +1,6 @@
 //! The rows of a local index.
 
-ghost use Rattle.std.specs.Prelude.{◌≡◌, map, drop, length, IfOk, OnOk};
+ghost use Rattle.std.specs.Prelude.{◌≡◌, map, IfOk, OnOk};
 ghost use Rattle.row_keys.specs.Rows.{position_in, entered, index_of, local_entries};
 ghost use Rattle.cell_model.specs.Pages.{page_row, item_in, items_of};
 ghost use Rattle.cell_pages.specs.Entered.{entered_if};

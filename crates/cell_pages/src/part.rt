@@ -66,14 +66,14 @@ fn rows_in(
 }
 
 /// Whether the page has as many rows or bytes as it may.
-pub fn is_over(room: PageRoom) -> bool
+pub(crate) fn is_over(room: PageRoom) -> bool
     ensures { result ≡ is_over room }
 {
     room.rows == Some(0) || room.bytes == 0
 }
 
 /// What a page may still take after one more row.
-pub fn room_behind(room: PageRoom, item: &SharedItem) -> PageRoom
+pub(crate) fn room_behind(room: PageRoom, item: &SharedItem) -> PageRoom
     ensures { result ≡ room_behind room item.now }
 {
     PageRoom {

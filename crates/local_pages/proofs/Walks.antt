@@ -16,7 +16,6 @@ use Rattle.row_keys.specs.declared.row_key.RowKey.{RowKey}
 use Rattle.row_keys.specs.Keys.{position_order}
 use Rattle.row_keys.specs.KeyLaws.{position_total}
 use Rattle.row_keys.specs.Rows.{Entries, Rows, position}
-use Rattle.paging.specs.Rows.{in_direction}
 use Rattle.page_ranges.specs.Least.{least_at}
 use Rattle.page_ranges.proofs.Orders.{nat_cmp-le, position_first, row_least}
 use Rattle.local_index.specs.declared.claim.Claim.{Claim}
@@ -27,14 +26,14 @@ use Rattle.cell_model.specs.declared.question.PageQuestion.{PageQuestion}
 use Rattle.cell_model.specs.declared.question.PageSource.TheVariants.{Local}
 use Rattle.cell_model.specs.Catalogs.{numbered}
 use Rattle.cell_model.specs.Keys.{key_order}
-use Rattle.cell_model.specs.Pages.{items_of, local_rows, part_of, source_rows, taken}
+use Rattle.cell_model.specs.Pages.{items_of, local_rows, part_of, source_rows}
 use Rattle.cell_model.proofs.Lookups.{some_is}
 use Rattle.cell_entries.specs.declared.entry.LocalEntry.{LocalEntry}
 use Rattle.cell_entries.specs.LocalEntries.{entry_order}
 use Rattle.cell_pages.specs.Asked.{is_asked, part_of_rows}
-use Rattle.cell_pages.specs.Walked.{Surround, asked_if, included, is_from, is_up_to, shown_among}
-use Rattle.cell_pages.proofs.Walks.{asked_rows_are, page_of_none, picked_in_direction, picked_within}
-use Rattle.local_pages.specs.Met.{AreEntriesOf, Enclose, entry_in, item_in, met, named_at, page_along, position_of, row_at}
+use Rattle.cell_pages.specs.Walked.{Surround, asked_if, included, is_from, is_up_to, page_along, shown_among}
+use Rattle.cell_pages.proofs.Walks.{page_along_is, page_of_none, page_within}
+use Rattle.local_pages.specs.Met.{AreEntriesOf, Enclose, entry_in, item_in, named_at, position_of, row_at, row_met}
 use Rattle.local_pages.proofs.Among.{in_order}
 use Rattle.local_pages.proofs.Rows.{place_back, rows_are_listed}
 
@@ -127,18 +126,16 @@ module _ (items : RowKey → Option Attributes) (page : PageQuestion) (table pla
   row_asked claim (Some at) rest more is = one_asked claim at rest more is
 
   -- the rows of entries that a page is asked for are met along the entries
-  asked_met : (es : List (LocalEntry × Claim)) → filter is_wanted (filter_map (λ e. row_at items e.1 (position_of table place e.0)) es) ≡ met items table place page es
+  asked_met : (es : List (LocalEntry × Claim))
+      → filter is_wanted (filter_map (λ e. row_at items e.1 (position_of table place e.0)) es) ≡ filter_map (row_met items table place page) es
   asked_met [] = refl
-  asked_met (e ∷ es) = row_asked e.1 (position_of table place e.0) _ (met items table place page es) (asked_met es)
-
-  abbrev pub row_met : LocalEntry × Claim → Option (Position × Attributes)
-  row_met e = row_at items e.1 (asked_if page (position_of table place e.0))
+  asked_met (e ∷ es) = row_asked e.1 (position_of table place e.0) _ (filter_map (row_met items table place page) es) (asked_met es)
 
   clash : (b : Bool) → b ≡ true → b ≡ false → ⊥
   clash b one other = absurd (cc)
 
   module _ (low high : Option LocalEntry) (around : Enclose table place page low high) where
-    outside : (e : LocalEntry × Claim) → range_contains entry_order (included low) (included high) e.0 ≡ false → row_met e ≡ None
+    outside : (e : LocalEntry × Claim) → range_contains entry_order (included low) (included high) e.0 ≡ false → row_met items table place page e ≡ None
     outside e out = by (position_of table place e.0) refl
       where
         asked_by : (at : Position) (asked : Bool) → position_of table place e.0 ≡ Some at → is_asked page at ≡ asked → row_at items e.1 (if asked then Some at else None) ≡ None
@@ -152,12 +149,10 @@ module _ (items : RowKey → Option Attributes) (page : PageQuestion) (table pla
         by (Some at) is = asked_by at (is_asked page at) is refl
 
     -- a walk between the ends meets all rows that the page is asked for
-    pub met_between : (es : List (LocalEntry × Claim)) → met items table place page (in_direction page.forward (entries_between entry_order (included low) (included high) es))
-        ≡ met items table place page (in_direction page.forward es)
-    met_between es =
-        picked_in_direction row_met page.forward (entries_between entry_order (included low) (included high) es)
-        ∙ ap (λ rows. in_direction page.forward rows) (sym (picked_within row_met (λ e. range_contains entry_order (included low) (included high) e.0) outside es))
-        ∙ sym (picked_in_direction row_met page.forward es)
+    pub met_between : (es : List (LocalEntry × Claim))
+        → page_along (row_met items table place page) page (entries_between entry_order (included low) (included high) es)
+        ≡ page_along (row_met items table place page) page es
+    met_between es = page_within entry_order low high page (row_met items table place page) outside es
 
 -- ---- the page
 
@@ -172,17 +167,14 @@ module _
 
   -- where the entries are those of the items, the page along them is that of the index's rows
   pub page_is : is_some (slice_get t.schema.locals place) ≡ true → (catalog : Catalog) → numbered catalog.tables t.number ≡ Some t → AreEntriesOf shown catalog items entries
-      → page_along found t.number place page entries.entries ≡ part_of_rows page (source_rows t (Local place) (shown_among shown items.entries))
+      → page_along (row_met found t.number place page) page entries.entries ≡ part_of_rows page (source_rows t (Local place) (shown_among shown items.entries))
   page_is has catalog there are =
       let index = some_is (slice_get t.schema.locals place) has in
-      ap (λ rows. part_of page.room (taken page.room rows))
-      (picked_in_direction (row_met found page t.number place) page.forward entries.entries
-      ∙ ap (λ rows. in_direction page.forward rows)
-      (sym (asked_met found page t.number place entries.entries)
-      ∙ ap (λ rows. filter (λ row. is_asked page row.0) rows)
-      (rows_are_listed shown catalog t place index.0 there index.1 items entries items_rising entries_rising are
-      ∙ sym (ap (λ o. local_rows t.schema o own) index.1)))
-      ∙ sym (asked_rows_are page page.forward (source_rows t (Local place) (shown_among shown items.entries))))
+      page_along_is (row_met found t.number place page) page entries.entries (source_rows t (Local place) (shown_among shown items.entries))
+      (ap (filter (λ row. is_asked page row.0))
+      (ap (λ o. local_rows t.schema o own) index.1
+      ∙ sym (rows_are_listed shown catalog t place index.0 there index.1 items entries items_rising entries_rising are))
+      ∙ asked_met found page t.number place entries.entries)
 
 -- where the table has no such index there is no row
 pub page_is_empty : {W : Type 0} (shown : W → Option Attributes) (t : CatalogTable) (place : ℕ) (items : BTreeMap CellKey W) (page : PageQuestion)

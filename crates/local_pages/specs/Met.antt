@@ -1,13 +1,10 @@
 -- The rows of a local index that a page meets: an entry has the place of a row, and names its item.
 use Rattle.std.specs.Prelude.{◌≡◌, ℕ, true, ◌&&◌, nat_eq, List, [], Option, None, Some, option_and_then, option_map, if◌then◌else◌}
-use Rattle.std.specs.List.{filter_map}
 use Rattle.std.specs.BTreeMap.{BTreeMap, get}
 use Rattle.std.specs.BTreeMap.Range.{range_contains}
 use Rattle.attr_value.specs.Tree.{Attributes}
 use Rattle.row_keys.specs.declared.position.Position.{Position}
 use Rattle.row_keys.specs.declared.row_key.RowKey.{RowKey}
-use Rattle.row_keys.specs.Rows.{Entries}
-use Rattle.paging.specs.Rows.{in_direction}
 use Rattle.local_index.specs.declared.claim.Claim.{Claim}
 use Rattle.local_index.specs.Claims.{is_committed}
 use Rattle.local_index.specs.Entries.{is_among}
@@ -15,9 +12,7 @@ use Rattle.cell_model.specs.declared.key.CellKey.{CellKey}
 use Rattle.cell_model.specs.declared.key.CellKey.TheVariants.{Item}
 use Rattle.cell_model.specs.declared.catalog.Catalog.{Catalog}
 use Rattle.cell_model.specs.declared.question.PageQuestion.{PageQuestion}
-use Rattle.cell_model.specs.declared.answer.CatalogAnswer.{CatalogAnswer}
 use Rattle.cell_model.specs.Keys.{key_order}
-use Rattle.cell_model.specs.Pages.{part_of, taken}
 use Rattle.cell_entries.specs.declared.entry.LocalEntry.{LocalEntry}
 use Rattle.cell_entries.specs.LocalEntries.{entries_of, entry_order, item_of_entry}
 use Rattle.cell_pages.specs.Asked.{is_asked}
@@ -52,13 +47,9 @@ module _ (items : RowKey → Option Attributes) where
   row_at claim None = None
   row_at claim (Some at) = option_map (λ item. (at, item)) (named_at at claim)
 
-  -- the rows of these entries that a page is asked for
-  abbrev pub met : ℕ → ℕ → PageQuestion → List (LocalEntry × Claim) → Entries
-  met table place page entries = filter_map (λ e. row_at e.1 (asked_if page (position_of table place e.0))) entries
-
-  -- the page of a walk along them
-  abbrev pub page_along : ℕ → ℕ → PageQuestion → List (LocalEntry × Claim) → CatalogAnswer
-  page_along table place page entries = part_of page.room (taken page.room (met table place page (in_direction page.forward entries)))
+  -- the row that an entry stands for, where it is one of the index and the page is asked for the row
+  abbrev pub row_met : ℕ → ℕ → PageQuestion → LocalEntry × Claim → Option (Position × Attributes)
+  row_met table place page entry = row_at entry.1 (asked_if page (position_of table place entry.0))
 
 module _ {W : Type 0} (shown : W → Option Attributes) where
   -- the item that a map shows under a key, and of a table under its own key

@@ -9,6 +9,5 @@
 mod ends;
 mod page;
 mod row;
-mod walk;
 
 pub use page::items_page;

@@ -6,18 +6,36 @@ ghost use Rattle.cell_model.specs.declared.question.PageSource.TheVariants.{Loca
 ghost use Rattle.cell_model.specs.Catalogs.{numbered};
 ghost use Rattle.cell_model.specs.Pages.{page_part, source_rows};
 ghost use Rattle.cell_pages.specs.Asked.{part_of_rows};
-ghost use Rattle.cell_pages.specs.Walked.{shown_among};
-ghost use Rattle.local_pages.specs.Met.{AreEntriesOf};
+ghost use Rattle.cell_pages.specs.Walked.{page_along, shown_among};
+ghost use Rattle.local_pages.specs.Met.{AreEntriesOf, item_in, row_met};
 
-use crate::row::IndexPlace;
-use crate::walk::walked;
+use crate::ends::entry_ends;
+use crate::row::{IndexPlace, IndexRows};
 use cell_catalog::table_numbered;
 use cell_entries::LocalEntry;
 use cell_model::{Catalog, CatalogAnswer, CatalogTable, CellKey, PageQuestion, PageSource};
-use cell_pages::{Keeps, map_page, no_row};
+use cell_pages::{Keeps, map_page, no_row, page_between};
 use local_index::Claim;
 use std::alloc::{AllocError as NoMemory, Global};
 use std::collections::BTreeMap;
+
+/// The page of the entries of an index.
+fn walked<W: Keeps>(
+    alloc: Global,
+    index: IndexPlace,
+    items: &BTreeMap<CellKey, W>,
+    entries: &BTreeMap<LocalEntry, Claim>,
+    page: &PageQuestion,
+) -> Result<CatalogAnswer, NoMemory>
+    ensures { IfOk result (λ answer. answer
+        ≡ page_along (row_met (item_in W.shown items.now index.table) index.table index.place page.now) page.now entries.now.entries) }
+{
+    let ends = entry_ends(alloc, index, page)?;
+    let rows = IndexRows { index, items };
+    let part = page_between(alloc, &rows, entries, &ends, page);
+    drop(ends);
+    part
+}
 
 /// A page of the local index at a place among those of a table. It has no row where the table has not so many indexes.
 fn local_page<W: Keeps>(

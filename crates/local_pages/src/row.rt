@@ -1,14 +1,14 @@
-//! The row that an entry stands for.
+//! The rows that entries stand for.
 
 ghost use Rattle.std.specs.Prelude.{◌≡◌, IfOk, option_map};
 ghost use Rattle.std.specs.Option.{option_copied};
 ghost use Rattle.cell_pages.specs.Asked.{entry_of};
 ghost use Rattle.cell_pages.specs.Walked.{asked_if};
-ghost use Rattle.local_pages.specs.Met.{item_in, item_under, position_of, row_at};
+ghost use Rattle.local_pages.specs.Met.{item_in, item_under, position_of, row_met};
 
 use cell_entries::LocalEntry;
 use cell_model::{CellKey, ItemKey, PageQuestion, PageRow};
-use cell_pages::{Keeps, is_asked};
+use cell_pages::{EntryRows, Keeps, is_asked};
 use local_index::Claim;
 use row_keys::Position;
 use shared_item::SharedItem;
@@ -83,22 +83,30 @@ fn asked_position<'a>(
     }
 }
 
-/// The row of an entry, where that is a committed item's, is one of the index, and the page is asked for the row.
-pub(crate) fn picked<W: Keeps>(
-    index: IndexPlace,
-    items: &BTreeMap<CellKey, W>,
-    page: &PageQuestion,
-    entry: &LocalEntry,
-    claim: Claim,
-) -> Result<Option<PageRow>, NoMemory>
-    ensures { IfOk result (λ row. option_map entry_of row ≡ row_at (item_in W.shown items.now index.table) claim
-        (asked_if page.now (position_of index.table index.place entry.now))) }
-{
-    let Some(at) = asked_position(index, page, entry) else {
-        return Ok(None);
-    };
-    if !claim.is_committed() {
-        return Ok(None);
+/// The rows of a local index, with the items that its entries name.
+#[derive(Drop)]
+pub(crate) struct IndexRows<'a, W> {
+    pub index: IndexPlace,
+    pub items: &'a BTreeMap<CellKey, W>,
+}
+
+/// An entry stands for a row where it is a committed item's, and one of the index.
+impl<'a, W: Keeps> EntryRows<LocalEntry, Claim> for IndexRows<'a, W> {
+    ghost picked = { λ rows page entry.
+        row_met (item_in W.shown rows.items.now rows.index.table) rows.index.table rows.index.place page entry };
+
+    fn picked(
+        &self,
+        page: &PageQuestion,
+        entry: &LocalEntry,
+        claim: &Claim,
+    ) -> Result<Option<PageRow>, NoMemory> {
+        let Some(at) = asked_position(self.index, page, entry) else {
+            return Ok(None);
+        };
+        if !claim.is_committed() {
+            return Ok(None);
+        }
+        row_with(at, shown_in(self.items, self.index.table, at)?)
     }
-    row_with(at, shown_in(items, index.table, at)?)
 }
