@@ -1,6 +1,6 @@
 -- The three messages of a feed: what they are answered, and why each may be sent.
 use Rattle.std.proofs.Common.{◌≡◌, ℕ, Bool, true, ◌&&◌, ◌||◌, nat_eq, [], ◌∷◌, ◌++◌, Option, None, Some, inl, inr, refl, sym, ap, ◌∙◌, subst, arith, eq-eqb}
-use Rattle.turnstile.specs.Passes.{PassView}
+use Rattle.turnstile.specs.Passes.{PassView, most_units}
 use Rattle.index_feed.specs.Feed.{Out, showing}
 use Rattle.txn_core.specs.declared.message.Message.{Message}
 use Rattle.txn_core.specs.declared.answer.Answer.{Answer}
@@ -16,6 +16,7 @@ use Rattle.own_entries.specs.Counts.{Counts, CountsUntil}
 use Rattle.own_entries.proofs.Counting.{counts_on, counts_until, same_event}
 use Rattle.index_feeder.specs.declared.feeding.Feed.{Feed}
 use Rattle.index_feeder.specs.Feeds.{shows, applies, acknowledges, Feeds, FeedsPartly}
+use Rattle.index_feeder.proofs.Refused.{had_none, had_on}
 
 module _ {K V A F B : Type 0} (cell_of : K → ℕ) where
   abbrev Same : Answer K V A F B → Option (Out K V) → Type 0
@@ -92,9 +93,14 @@ module _ {K V A F C D Q B : Type 0} (S : Service K V A F C D Q B) where
     counts_shown = subst (λ e. Counts S p (e ∷ []) 0 q1) shown_is shown
 
     -- it was cut off behind the first
-    pub cut_shown : (why : StepError) (r : PassView (Event S)) → CountsUntil S q1 [] why r → FeedsPartly S p cell why r
-    cut_shown why r until =
-        record { part = shows S p cell its ∷ []; cut = inr (its, inl refl); counts = counts_until S p (shows S p cell its ∷ []) q1 [] why r counts_shown until }
+    pub cut_shown : (why : StepError) (r : PassView (Event S)) → CountsUntil S q1 [] why r → (q1.used ≡ most_units → why ≡ StepError.Spent) → FeedsPartly S p cell why r
+    cut_shown why r until full =
+        record {
+          part = shows S p cell its ∷ [];
+          cut = inr (its, inl refl);
+          counts = counts_until S p (shows S p cell its ∷ []) q1 [] why r counts_shown until;
+          had = had_on S p (shows S p cell its ∷ []) q1 [] why counts_shown (had_none S q1 why full);
+        }
 
     module _ (q2 : PassView (Event S)) (a : Reply S) (now : Bool) (is : a ≡ feed_answer now)
         (applied : Counts S q1 (event_of q1 (Some t) (Message.ApplyIndex cell s i k v) a ∷ []) 0 q2) where
@@ -109,12 +115,13 @@ module _ {K V A F C D Q B : Type 0} (S : Service K V A F C D Q B) where
           (subst (λ e. Counts S q1 (e ∷ []) 0 q2) applied_is applied)
 
       -- or behind the second
-      pub cut_applied : (why : StepError) (r : PassView (Event S)) → CountsUntil S q2 [] why r → FeedsPartly S p cell why r
-      cut_applied why r until =
+      pub cut_applied : (why : StepError) (r : PassView (Event S)) → CountsUntil S q2 [] why r → (q2.used ≡ most_units → why ≡ StepError.Spent) → FeedsPartly S p cell why r
+      cut_applied why r until full =
           record {
             part = shows S p cell its ∷ applies S p cell its now ∷ [];
             cut = inr (its, inr (now, refl));
             counts = counts_until S p (shows S p cell its ∷ applies S p cell its now ∷ []) q2 [] why r counts_applied until;
+            had = had_on S p (shows S p cell its ∷ applies S p cell its now ∷ []) q2 [] why counts_applied (had_none S q2 why full);
           }
 
       -- it is whole
@@ -133,5 +140,7 @@ module _ {K V A F C D Q B : Type 0} (S : Service K V A F C D Q B) where
           )
 
   -- nothing was shown yet
-  pub cut_at_first : (p : PassView (Event S)) (cell : ℕ) (why : StepError) (q : PassView (Event S)) → CountsUntil S p [] why q → FeedsPartly S p cell why q
-  cut_at_first p cell why q until = record { part = []; cut = inl refl; counts = until }
+  pub cut_at_first :
+      (p : PassView (Event S)) (cell : ℕ) (why : StepError) (q : PassView (Event S)) → CountsUntil S p [] why q
+      → (p.used ≡ most_units → why ≡ StepError.Spent) → FeedsPartly S p cell why q
+  cut_at_first p cell why q until full = record { part = []; cut = inl refl; counts = until; had = had_none S p why full }

@@ -1,3 +1,4 @@
 mod Fed
 mod Made
 mod Drained
+mod Refused

@@ -9,7 +9,8 @@ use Rattle.cluster.specs.declared.step.StepError.{StepError}
 use Rattle.own_entries.specs.Counts.{Counts, CountsUntil}
 use Rattle.own_entries.proofs.Counting.{counts_none, counts_on, counts_until}
 use Rattle.index_feeder.specs.declared.feeding.Feed.{Feed}
-use Rattle.index_feeder.specs.Feeds.{Feeding, Found, Fed, fed_in, all_empty, entries_of, entries, IsCutOff, Feeds, FeedsPartly, Makes, MakesPartly, Empties, GoesRound, Drains}
+use Rattle.index_feeder.specs.Feeds.{Feeding, Found, Fed, fed_in, all_empty, entries_of, entries, IsCutOff, Feeds, FeedsPartly, Makes, MakesPartly, Empties, GoesRound, Drains, HadUnit}
+use Rattle.index_feeder.proofs.Refused.{had_on}
 
 -- what is not none is some
 pub some_more : (more : ℕ) → (more ≡ 0 → ⊥) → 1 ≤ more
@@ -105,6 +106,10 @@ module _ {K V A F C D Q B : Type 0} (S : Service K V A F C D Q B) where
             (sym (ap (λ es. es ++ two.part) (entries_append p fs gs) ∙ append_assoc (entries S p fs) (entries S p gs) two.part))
             (counts_until S p (entries S p fs) q (entries S p gs ++ two.part) why r one.counts
             (subst (λ es. CountsUntil S q (es ++ two.part) why r) same two.counts));
+        had =
+            subst (λ es. HadUnit S p es why)
+            (sym (ap (λ es. es ++ two.part) (entries_append p fs gs) ∙ append_assoc (entries S p fs) (entries S p gs) two.part))
+            (had_on S p (entries S p fs) q (entries S p gs ++ two.part) why one.counts (subst (λ es. HadUnit S q (es ++ two.part) why) same two.had));
       }
 
   partly_wider :
@@ -120,6 +125,7 @@ module _ {K V A F C D Q B : Type 0} (S : Service K V A F C D Q B) where
         part = partly.part;
         cut = partly.cut;
         counts = partly.counts;
+        had = partly.had;
       }
 
   -- one partition, fed so often so far
@@ -158,7 +164,7 @@ module _ {K V A F C D Q B : Type 0} (S : Service K V A F C D Q B) where
     feeds_partly cell why r h =
         let many = so.many in
         partly_on 1 0 0 p so.feedings fed q why r so.makes (omega arith)
-        record { feedings = []; few = omega arith; cell = cell; part = h.part; cut = h.cut; counts = h.counts }
+        record { feedings = []; few = omega arith; cell = cell; part = h.part; cut = h.cut; counts = h.counts; had = h.had }
 
     pub feeds_used : p.used + 3 * fed ≡ q.used
     feeds_used = let below = fed_below p so.feedings fed q so.makes in let many = so.many in omega arith

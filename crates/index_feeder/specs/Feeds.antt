@@ -1,7 +1,7 @@
 -- What feeds add to the history, one after another, and what they leave.
 use Rattle.std.specs.Prelude.{◌≡◌, ◌⊎◌, ℕ, ◌+◌, ◌*◌, ◌≤◌, Bool, false, List, [], ◌∷◌, ◌++◌, length, map, reverse, drop, None, Some}
 use Rattle.std.specs.List.{AllByRecursion, range_with_len}
-use Rattle.turnstile.specs.Passes.{PassView}
+use Rattle.turnstile.specs.Passes.{PassView, most_units}
 use Rattle.index_feed.specs.Feed.{Out}
 use Rattle.txn_core.specs.declared.message.Message.{Message}
 use Rattle.txn_core.specs.declared.answer.Answer.{Answer}
@@ -71,11 +71,17 @@ module _ {K V A F C D Q B : Type 0} (S : Service K V A F C D Q B) where
   Feeds p cell Feed.Fed q =
       (out : Out K V) × (applied : Bool) × (acked : Bool) × Counts S p (entries_of p (Fed cell out applied acked)) 0 q
 
+  -- behind these entries memory was refused to a message for which a unit was left
+  abbrev pub HadUnit : PassView (Event S) → List (Event S) → StepError → Type 0
+  HadUnit p es StepError.Spent = Unit {0}
+  HadUnit p es StepError.NoMemory = p.used + length es ≡ most_units → ⊥
+
   -- a feed ended by an error
   pub record FeedsPartly (p : PassView (Event S)) (cell : ℕ) (why : StepError) (q : PassView (Event S)) : Type 0 where
     pub part : List (Event S)
     pub cut : IsCutOff p cell part
     pub counts : CountsUntil S p part why q
+    pub had : HadUnit p part why
 
   -- from p to q the pass made these feeds, so many of which fed a change, and counted nothing else
   pub record Makes (p : PassView (Event S)) (fs : List (Feeding K V)) (fed : ℕ) (q : PassView (Event S)) : Type 0 where
@@ -90,6 +96,7 @@ module _ {K V A F C D Q B : Type 0} (S : Service K V A F C D Q B) where
     pub part : List (Event S)
     pub cut : IsCutOff p cell part
     pub counts : CountsUntil S p (entries p feedings ++ part) why q
+    pub had : HadUnit p (entries p feedings ++ part) why
 
   -- it fed one partition so often, and then found it empty
   pub record Empties (cell : ℕ) (p : PassView (Event S)) (fed : ℕ) (q : PassView (Event S)) : Type 0 where

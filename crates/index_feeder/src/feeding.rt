@@ -26,8 +26,8 @@ pub enum Feed {
 /// Feeds the first change in a partition's outbox: it is shown, applied in the cell where its row lives, and acknowledged, for one
 /// unit each. Where the outbox is empty one unit is used.
 ///
-/// The errors are those of [`step`](Cluster::step): [`StepError::Spent`] where no unit is left. A change that was shown and not
-/// acknowledged then is fed again by the next feed of the partition, whoever's it is.
+/// The errors are those of [`step`](Cluster::step): [`StepError::Spent`] where no unit is left, and [`StepError::NoMemory`] only
+/// where one was. A change that was shown and not acknowledged then is fed again by the next feed of the partition, whoever's it is.
 pub fn feed_one<R: PageRules, T: Wait>(
     cluster: &Cluster<R>,
     rt: &T,

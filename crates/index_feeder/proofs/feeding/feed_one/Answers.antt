@@ -4,7 +4,7 @@ use Rattle.txn_core.specs.declared.message.Message.{Message}
 use Rattle.cluster.specs.Events.{event_of}
 use Rattle.cluster.specs.Steps.{IsLater}
 use Rattle.own_entries.specs.Counts.{Counts}
-use Rattle.index_feeder.proofs.Fed.{is_answered, target_is, may_apply, may_acknowledge, applied_answer, acked_answer, cut_shown, cut_applied, counts_fed}
+use Rattle.index_feeder.proofs.Fed.{is_answered, target_is, may_apply, may_acknowledge, applied_answer, acked_answer, cut_at_first, cut_shown, cut_applied, counts_fed}
 use Rattle.index_feeder.proofs.feeding.feed_one.Goals as goal
 
 pub unreachable-requires : goal.unreachable-requires
@@ -43,6 +43,14 @@ ask-requires-in-Out-2-clause-may g c =
     may_acknowledge S (reverse q.front) (reverse r.front) q (Some o.target) c.args.source o.sequence o.index o.row_key o.after
     c.in_ok-applied-in-Out.applied c.in_ok-applied-in-Out.ensures.later r.number
 
+pub returns-in_err-shown-clause-err : goal.returns-in_err-shown-clause-err
+returns-in_err-shown-clause-err g c =
+    let S = g.R.Rules.protocol (c.args.cluster.now.id.slots - 1) in
+    let e = err_from_is_err_and c.from_residual.result c.from_residual.ensures.1 in
+    rw (e.1, e.2)
+    (cut_at_first S c.args.pass.now c.args.source c.in_err-shown.field-0.0 c.ask.new.pass c.in_err-shown.ensures.err
+    (λ full. let told = c.in_err-shown.ensures.spent.1 full in cc))
+
 pub returns-in_err-applied-in-Out-clause-err : goal.returns-in_err-applied-in-Out-clause-err
 returns-in_err-applied-in-Out-clause-err g c =
     let S = g.R.Rules.protocol (c.args.cluster.now.id.slots - 1) in
@@ -58,7 +66,8 @@ returns-in_err-applied-in-Out-clause-err g c =
     let e = err_from_is_err_and c.from_residual-in_err-applied-in-Out.result c.from_residual-in_err-applied-in-Out.ensures.1 in
     rw (e.1, e.2)
     (cut_shown S p q c.args.source o.sequence o.index o.target o.row_key o.after here shown c.in_err-applied-in-Out.field-0.0
-    c.ask-in-Out.new.pass c.in_err-applied-in-Out.ensures.err)
+    c.ask-in-Out.new.pass c.in_err-applied-in-Out.ensures.err
+    (λ full. let told = c.in_err-applied-in-Out.ensures.spent.1 full in cc))
 
 pub returns-in_err-acknowledged-in-Out-clause-err : goal.returns-in_err-acknowledged-in-Out-clause-err
 returns-in_err-acknowledged-in-Out-clause-err g c =
@@ -80,7 +89,8 @@ returns-in_err-acknowledged-in-Out-clause-err g c =
     rw (e.1, e.2)
     (cut_applied S p q c.args.source o.sequence o.index o.target o.row_key o.after here shown r c.in_ok-applied-in-Out.applied applied.0
     applied.1 c.in_ok-applied-in-Out.ensures.ok c.in_err-acknowledged-in-Out.field-0.0 c.ask-in-Out-2.new.pass
-    c.in_err-acknowledged-in-Out.ensures.err)
+    c.in_err-acknowledged-in-Out.ensures.err
+    (λ full. let told = c.in_err-acknowledged-in-Out.ensures.spent.1 full in cc))
 
 pub returns-in_ok-acknowledged-in-Out-clause-ok : goal.returns-in_ok-acknowledged-in-Out-clause-ok
 returns-in_ok-acknowledged-in-Out-clause-ok g c =
