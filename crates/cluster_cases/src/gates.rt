@@ -1,6 +1,7 @@
 //! A transaction that is held between two of its Prepares until another thread was answered.
 
 ghost use Rattle.std.specs.Prelude.{◌≡◌, []};
+ghost use Rattle.ddb_outside.specs.declared.gate.Pace.{Pace};
 
 use crate::commands::is_made;
 use crate::orders::{amount, put};
@@ -47,6 +48,8 @@ struct HoldingGate<'a> {
 
 impl<'a> Gate for HoldingGate<'a> {
     ghost stops = { λ g. 0 };
+
+    ghost passes = { λ old point pace new. pace ≡ Pace.Go };
 
     fn pass_point(&mut self, point: Point) -> Pace {
         if point == Point::AfterPrepare(0) {

@@ -158,6 +158,8 @@ impl<'a, R: Wait> Recorder<'a, R> {
 
 impl<'a, R: Wait> Gate for Recorder<'a, R> {
     ghost stops = { λ g. g.stops };
+    // Nothing is claimed of what the entries taken down make it answer.
+    ghost passes = { λ old point pace new. Unit {0} };
 
     fn pass_point(&mut self, point: Point) -> Pace {
         let mut tape = self.tape();

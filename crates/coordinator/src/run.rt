@@ -1,6 +1,6 @@
 //! A transaction is driven to its end.
 
-ghost use Rattle.std.specs.Prelude.{◌≡◌, ◌≢◌, ◌+◌, ◌≤◌, true, false, [], reverse, IfErr, IfOk, OnOk};
+ghost use Rattle.std.specs.Prelude.{◌≡◌, ◌≢◌, ◌+◌, ◌≤◌, true, false, [], reverse, IfErr, IfOk, OnOk, Ok};
 ghost use Rattle.ddb_outside.specs.Causes.{Rose};
 ghost use Rattle.ddb_outside.specs.declared.gate.Pace.{Pace};
 ghost use Rattle.txn_core.specs.declared.course.Move.{Move};
@@ -23,16 +23,18 @@ use std::sync::Wait;
 use turnstile::Pass;
 use txn_core::Fate;
 
-/// Whether the gate stops the driver at a point. It is not asked where the transaction was found gone, since nothing is left then.
-fn is_stopped<A, V, F, G: Gate>(driver: &Driver<A, V, F>, gate: &mut G, point: Point) -> bool
+/// Whether the gate lets the driver go on at a point. It is not asked where the transaction was found gone, since nothing is left then.
+fn pace_at<A, V, F, G: Gate>(driver: &Driver<A, V, F>, gate: &mut G, point: Point) -> Pace
+    ensures asked { is_gone driver.now.fate ≡ false → G.passes gate.old point result gate.new }
+    ensures gone { is_gone driver.now.fate ≡ true → (result ≡ Pace.Go) × (gate.new ≡ gate.old) }
+    ensures stopped { result ≡ Pace.Stop → Rose (G.stops gate.old) (G.stops gate.new) }
     ensures later { G.stops gate.old ≤ G.stops gate.new }
-    ensures cause { result ≡ true → Rose (G.stops gate.old) (G.stops gate.new) }
-    ensures there { result ≡ true → is_gone driver.now.fate ≡ false }
+    ensures obeyed { result ≢ Pace.Stop → G.stops gate.new ≡ G.stops gate.old }
 {
     if matches!(driver.fate, Fate::Gone) {
-        return false;
+        return Pace::Go;
     }
-    matches!(gate.pass_point(point), Pace::Stop)
+    gate.pass_point(point)
 }
 
 /// Takes the steps of a course to its end, unless the gate stops the driver between two of them.
@@ -54,11 +56,13 @@ where
     ensures stopped { IfOk result (λ pace. pace ≡ Pace.Stop → Rose (G.stops gate.old) (G.stops gate.new)) }
     ensures there { IfOk result (λ pace. pace ≡ Pace.Stop → is_gone driver.new.fate ≡ false) }
     ensures later { G.stops gate.old ≤ G.stops gate.new }
+    ensures obeyed { result ≢ Ok Pace.Stop → G.stops gate.new ≡ G.stops gate.old }
     ensures err { IfErr result (λ error. Fails (R.protocol (partitions_of cluster.now)) pass.old driver.old error pass.new) }
 {
     while let Some(point) = advance(cluster, rt, alloc, pass, driver)? {
-        if is_stopped(driver, gate, point) {
-            return Ok(Pace::Stop);
+        match pace_at(driver, gate, point) {
+            Pace::Go => {}
+            Pace::Stop => return Ok(Pace::Stop),
         }
     }
     Ok(Pace::Go)
@@ -155,6 +159,7 @@ where
     ensures ends { Ends (R.protocol (partitions_of cluster.now)) (course_left driver.course + 1) pass.old driver pass.new result }
     ensures stopped { result ≡ DriveEnd.Stopped → Rose (G.stops gate.old) (G.stops gate.new) }
     ensures later { G.stops gate.old ≤ G.stops gate.new }
+    ensures obeyed { result ≢ DriveEnd.Stopped → G.stops gate.new ≡ G.stops gate.old }
 {
     let pace = match take_steps(cluster, rt, alloc, pass, &mut driver, gate) {
         Ok(pace) => pace,
@@ -171,7 +176,7 @@ where
 /// after each of these steps.
 ///
 /// `Gone` comes exactly where a message of this drive found no such transaction. `Stopped` comes only where the gate counted a
-/// stop, and `Spent` only where no unit is left. `NoMemory` comes only before this drive has decided, or when all is done and the
+/// stop, and always where it did, and `Spent` only where no unit is left. `NoMemory` comes only before this drive has decided, or when all is done and the
 /// reasons that another driver's cancel carried were asked for.
 pub fn drive<R: PageRules, G: Gate, T: Wait>(
     cluster: &Cluster<R>,
@@ -188,6 +193,7 @@ where
     ensures drives { Drives (R.protocol (partitions_of cluster.now)) number pass.old pass.new result }
     ensures stopped { result ≡ DriveEnd.Stopped → Rose (G.stops gate.old) (G.stops gate.new) }
     ensures later { G.stops gate.old ≤ G.stops gate.new }
+    ensures obeyed { result ≢ DriveEnd.Stopped → G.stops gate.new ≡ G.stops gate.old }
 {
     let found = match recall(cluster, rt, alloc, pass, number) {
         Ok(found) => found,

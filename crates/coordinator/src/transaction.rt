@@ -1,6 +1,6 @@
 //! A whole transaction, from its Begin to its Forget.
 
-ghost use Rattle.std.specs.Prelude.{◌≡◌, ◌⊎◌, ◌≤◌, ℕ, true, false, Some, [], length, reverse};
+ghost use Rattle.std.specs.Prelude.{◌≡◌, ◌≢◌, ◌⊎◌, ◌≤◌, ℕ, true, false, Some, [], length, reverse};
 ghost use Rattle.std.specs.Option.{option_copied};
 ghost use Rattle.ddb_outside.specs.Causes.{Rose};
 ghost use Rattle.turnstile.specs.Passes.{most_units};
@@ -70,9 +70,11 @@ where
     ensures runs { RunsDrawn (R.protocol (partitions_of cluster.now)) number stamp actions pass.old result pass.new }
     ensures stopped { result ≡ DriveEnd.Stopped → Rose (G.stops gate.old) (G.stops gate.new) }
     ensures later { G.stops gate.old ≤ G.stops gate.new }
+    ensures obeyed { result ≢ DriveEnd.Stopped → G.stops gate.new ≡ G.stops gate.old }
 {
-    if matches!(gate.pass_point(Point::AfterBegin), Pace::Stop) {
-        return DriveEnd::Stopped;
+    match gate.pass_point(Point::AfterBegin) {
+        Pace::Go => {}
+        Pace::Stop => return DriveEnd::Stopped,
     }
     let driver = Driver::begun(alloc, number, stamp, actions);
     let driven = drive_on(cluster, rt, alloc, pass, driver, gate);
@@ -106,6 +108,7 @@ where
     ensures follows { Follows (R.protocol (partitions_of cluster.now)) actions answer pass.old result pass.new }
     ensures stopped { result ≡ Some TransactEnd.Stopped → Rose (G.stops gate.old) (G.stops gate.new) }
     ensures later { G.stops gate.old ≤ G.stops gate.new }
+    ensures obeyed { result ≢ Some TransactEnd.Stopped → G.stops gate.new ≡ G.stops gate.old }
 {
     match answer {
         Answer::Begun { number, stamp } => ended_by(run_drawn(
@@ -137,6 +140,7 @@ where
     ensures turns { Turns (R.protocol (partitions_of cluster.now)) (option_copied token.entry) actions.now pass.old result pass.new }
     ensures stopped { result ≡ Some TransactEnd.Stopped → Rose (G.stops gate.old) (G.stops gate.new) }
     ensures later { G.stops gate.old ≤ G.stops gate.new }
+    ensures obeyed { result ≢ Some TransactEnd.Stopped → G.stops gate.new ≡ G.stops gate.old }
 {
     // Both copies are made before anything is begun.
     let Ok(own) = copy_of_actions::<R>(alloc, actions) else {
@@ -170,6 +174,7 @@ where
     ensures budget { pass.new.used ≤ most_units }
     ensures stopped { result ≡ Some TransactEnd.Stopped → Rose (G.stops gate.old) (G.stops gate.new) }
     ensures later { G.stops gate.old ≤ G.stops gate.new }
+    ensures obeyed { result ≢ Some TransactEnd.Stopped → G.stops gate.new ≡ G.stops gate.old }
 {
     let end = begin(cluster, rt, alloc, pass, token, actions, gate);
     cluster.facts(pass);
@@ -193,6 +198,7 @@ where
     requires actions { AreWritable (R.protocol (partitions_of cluster.now)) actions.now }
     ensures writes { Writes (R.protocol (partitions_of cluster.now)) (option_copied token.entry) actions.now pass.old result pass.new }
     ensures stopped { result ≡ TransactEnd.Stopped → Rose (G.stops gate.old) (G.stops gate.new) }
+    ensures obeyed { result ≢ TransactEnd.Stopped → G.stops gate.new ≡ G.stops gate.old }
 {
     'begins: loop {
         match take_turn(cluster, rt, alloc, pass, token, actions, gate) {
@@ -208,7 +214,7 @@ where
 ///
 /// After `Stopped`, `Spent` and `NoMemory` the transaction stands once and whole in the end, or nowhere, once others have driven it on.
 /// After any other end than `Stopped` and `Spent` this call leaves no transaction between its decision and its Done.
-/// `Stopped` comes only where the gate counted a stop, and `Spent` only where no unit is left. `Twice` comes exactly where two actions
+/// `Stopped` comes only where the gate counted a stop, and always where it did, and `Spent` only where no unit is left. `Twice` comes exactly where two actions
 /// are on one item, unless memory is refused for the look.
 pub fn transact_write<R: PageRules, G: Gate, T: Wait>(
     cluster: &Cluster<R>,
@@ -231,6 +237,7 @@ where
         → (pass.new ≡ pass.old) × ((result ≡ TransactEnd.Twice) ⊎ (result ≡ TransactEnd.NoMemory)) }
     ensures own { AddsWriting (R.protocol (partitions_of cluster.now)) (option_copied token.entry) actions.now pass.old result pass.new }
     ensures stopped { result ≡ TransactEnd.Stopped → Rose (G.stops gate.old) (G.stops gate.new) }
+    ensures obeyed { result ≢ TransactEnd.Stopped → G.stops gate.new ≡ G.stops gate.old }
 {
     let Ok(apart) = are_apart::<R>(alloc, actions) else {
         return TransactEnd::NoMemory;

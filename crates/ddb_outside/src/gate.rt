@@ -1,4 +1,6 @@
-ghost use Rattle.std.specs.Prelude.{◌≡◌, ◌↔◌, ℕ, ◌≤◌, IfOk, IsTrue, Any};
+ghost use Rattle.std.specs.Prelude.{◌≡◌, ◌≢◌, ℕ, ◌≤◌, IfOk, IsTrue};
+ghost use Rattle.ddb_outside.specs.declared.gate.Pace.{Pace};
+ghost use Rattle.ddb_outside.specs.declared.gate.Point.{Point};
 ghost use Rattle.ddb_outside.specs.Causes.{Rose};
 
 use base_types::Seq;
@@ -32,11 +34,15 @@ pub enum Pace {
 pub trait Gate: Sized {
     // How often it has answered Stop.
     ghost stops: { Self → ℕ };
+    // Asked at this point it may answer so, and then it is the second gate.
+    ghost passes: { Self → Point → Pace → Self → Type 0 };
 
-    /// Whether to go on at a point. [`Pace::Stop`] comes only where the gate counted a stop in this call.
+    /// Whether to go on at a point. [`Pace::Stop`] comes only where the gate counted a stop in this call, and always where it did.
     fn pass_point(&mut self, point: Point) -> Pace
+        ensures passes { passes self.old point result self.new }
         ensures later { stops self.old ≤ stops self.new }
-        ensures cause { result ≡ Pace.Stop → Rose (stops self.old) (stops self.new) };
+        ensures cause { result ≡ Pace.Stop → Rose (stops self.old) (stops self.new) }
+        ensures told { result ≢ Pace.Stop → stops self.new ≡ stops self.old };
 
     /// Another gate, which has stopped nothing yet.
     fn twin(&self) -> Result<Self, NoMemory>
@@ -49,6 +55,8 @@ pub struct GoGate;
 
 impl Gate for GoGate {
     ghost stops = { λ g. 0 };
+
+    ghost passes = { λ old point pace new. pace ≡ Pace.Go };
 
     fn pass_point(&mut self, _point: Point) -> Pace {
         Pace::Go
@@ -79,15 +87,17 @@ impl ScriptGate {
 }
 
 impl Gate for ScriptGate {
-    ghost use Rattle.ddb_outside.specs.Gates.{points_of};
+    ghost use Rattle.ddb_outside.specs.Gates.{points_of, Scripted};
 
     ghost stops = { λ g. g.stops };
 
+    ghost passes = { Scripted };
+
     fn pass_point(&mut self, point: Point) -> Pace
+        ensures passes { Scripted self.old point result self.new }
         ensures later { self.old.stops ≤ self.new.stops }
         ensures cause { result ≡ Pace.Stop → Rose self.old.stops self.new.stops }
-        ensures stops { (result ≡ Pace.Stop) ↔ Any (λ p. p ≡ point) (points_of self.old) }
-        ensures points { points_of self.new ≡ points_of self.old }
+        ensures told { result ≢ Pace.Stop → self.new.stops ≡ self.old.stops }
     {
         if self.stops_at.as_slice().contains(&point) {
             self.stops = self.stops.saturating_add(1);

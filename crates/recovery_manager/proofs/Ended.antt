@@ -29,6 +29,15 @@ use Rattle.recovery_manager.proofs.Each.{each_at, each_so, found, splits}
 use Rattle.recovery_manager.proofs.Forgotten.{decide_finds_none, recall_finds_none}
 use Rattle.recovery_manager.proofs.Grown.{counted, same_actions, still_done, still_forgotten, still_had, with_more}
 
+module _ {V F : Type 0} where
+  -- a drive after which the sweep goes on was not stopped
+  pub goes_on : (end : DriveEnd V F) (is_gone : Bool) → Ok is_gone ≡ found_gone end → end ≡ DriveEnd.Stopped → ⊥
+  goes_on end is_gone h e = absurd (let told = h ∙ ap found_gone e in cc)
+
+  -- a sweep that leaves off behind a drive that was stopped is stopped
+  pub stops_so : (end : DriveEnd V F) (why : SweepEnd) → Err why ≡ found_gone end → end ≡ DriveEnd.Stopped → why ≡ SweepEnd.Stopped
+  stops_so end why h e = let told = h ∙ ap found_gone e in cc
+
 module _ {K V A F C D Q B : Type 0} (S : Service K V A F C D Q B) where
   module _ (law : IsServiceLawful S) where
     -- of a begun number no record is found only where it was forgotten

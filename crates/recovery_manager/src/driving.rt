@@ -1,6 +1,6 @@
 //! Transactions are driven to their ends, one after another.
 
-ghost use Rattle.std.specs.Prelude.{◌≡◌, ◌||◌, ◌&&◌, ℕ, [], nat_eq, reverse, Err, IfErr, IfOk, OnOk};
+ghost use Rattle.std.specs.Prelude.{◌≡◌, ◌≢◌, ◌||◌, ◌&&◌, ℕ, [], nat_eq, reverse, Err, IfErr, IfOk, OnOk};
 ghost use Rattle.std.specs.BTreeSet.{contains};
 ghost use Rattle.std.specs.Ordering.{nat_cmp};
 ghost use Rattle.ddb_outside.specs.Causes.{Rose};
@@ -48,6 +48,7 @@ where
         DrivesAll (R.protocol (partitions_of cluster.now)) (contains nat_cmp gone) numbers.now pass.old pass.new) }
     ensures err { IfErr result (λ why. DrivesPartly (R.protocol (partitions_of cluster.now)) numbers.now pass.old why pass.new) }
     ensures stopped { result ≡ Err SweepEnd.Stopped → Rose (G.stops gate.old) (G.stops gate.new) }
+    ensures obeyed { result ≢ Err SweepEnd.Stopped → G.stops gate.new ≡ G.stops gate.old }
 {
     let mut gone = BTreeSet::new(alloc);
     for number in numbers {

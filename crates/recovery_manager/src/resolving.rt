@@ -1,6 +1,6 @@
 //! One transaction that holds an item is driven to its end.
 
-ghost use Rattle.std.specs.Prelude.{◌≡◌, [], reverse};
+ghost use Rattle.std.specs.Prelude.{◌≡◌, ◌≢◌, [], reverse};
 ghost use Rattle.ddb_outside.specs.Causes.{Rose};
 ghost use Rattle.txn_core.specs.History.{Had, begins};
 ghost use Rattle.cluster.specs.Steps.{partitions_of};
@@ -38,6 +38,7 @@ where
     requires begun { Had (begins number) (reverse pass.old.front) }
     ensures resolves { Resolves (R.protocol (partitions_of cluster.now)) number key pass.old result pass.new }
     ensures stopped { result ≡ DriveEnd.Stopped → Rose (G.stops gate.old) (G.stops gate.new) }
+    ensures obeyed { result ≢ DriveEnd.Stopped → G.stops gate.new ≡ G.stops gate.old }
 {
     let end = drive(cluster, rt, alloc, pass, number, gate);
     cluster.facts(pass);

@@ -1,6 +1,6 @@
 //! All transactions that are not ended are driven to their ends.
 
-ghost use Rattle.std.specs.Prelude.{◌≡◌, [], Err, IfErr, IfOk};
+ghost use Rattle.std.specs.Prelude.{◌≡◌, ◌≢◌, [], Err, IfErr, IfOk};
 ghost use Rattle.ddb_outside.specs.Causes.{Rose};
 ghost use Rattle.cluster.specs.Steps.{partitions_of};
 ghost use Rattle.recovery_manager.specs.declared.sweep_end.SweepEnd.{SweepEnd};
@@ -21,7 +21,7 @@ use turnstile::Pass;
 /// Then each transaction that is listed is driven to its end, and each item that was listed with a forgotten one is let go. It
 /// tells how many transactions these are.
 ///
-/// `Stopped` comes only where the gate counted a stop, `Spent` only where no unit is left. `NoMemory` leaves no transaction that this
+/// `Stopped` comes only where the gate counted a stop, and always where it did, `Spent` only where no unit is left. `NoMemory` leaves no transaction that this
 /// sweep drove between its decision and its Done.
 pub fn sweep<R: PageRules, G: Gate, T: Wait>(
     cluster: &Cluster<R>,
@@ -38,6 +38,7 @@ where
     ensures err { IfErr result (λ why.
         SweepsPartly (R.protocol (partitions_of cluster.now)) (partitions_of cluster.now) pass.old why pass.new) }
     ensures stopped { result ≡ Err SweepEnd.Stopped → Rose (G.stops gate.old) (G.stops gate.new) }
+    ensures obeyed { result ≢ Err SweepEnd.Stopped → G.stops gate.new ≡ G.stops gate.old }
 {
     let items = all_held(cluster, rt, alloc, pass)?;
     let unfinished = unfinished_numbers(cluster, rt, alloc, pass)?;

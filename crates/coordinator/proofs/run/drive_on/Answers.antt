@@ -14,6 +14,9 @@ returns-in-Err-clause-ends g c =
 pub returns-in-Err-clause-stopped : goal.returns-in-Err-clause-stopped
 returns-in-Err-clause-stopped g c = λ e. absurd (given_up_goes_on c.in-Err.error (sym c.given_up.ensures ∙ e))
 
+pub returns-in-Err-clause-obeyed : goal.returns-in-Err-clause-obeyed
+returns-in-Err-clause-obeyed g c = λ _. c.take_steps.ensures.obeyed (λ stop. absurd (let e = sym c.in-Err.is ∙ stop in cc))
+
 pub close-requires-clause-of : goal.close-requires-clause-of
 close-requires-clause-of g c = ap (λ z. z.turnstile) c.in-Ok.ensures.ok.added.pass ∙ c.requires.of
 
@@ -33,6 +36,10 @@ returns-in-Go-clause-ends g c =
 
 pub returns-in-Go-clause-stopped : goal.returns-in-Go-clause-stopped
 returns-in-Go-clause-stopped g c = λ e. absurd (c.close.ensures.not_stopped e)
+
+pub returns-in-Go-clause-obeyed : goal.returns-in-Go-clause-obeyed
+returns-in-Go-clause-obeyed g c =
+    λ _. c.take_steps.ensures.obeyed (λ stop. absurd (let e = sym c.in-Ok.is ∙ stop in let go = c.in-Go.is in cc))
 
 pub returns-in-Stop-clause-ends : goal.returns-in-Stop-clause-ends
 returns-in-Stop-clause-ends g c =

@@ -1,4 +1,4 @@
-use Rattle.std.proofs.Common.{◌-◌, sym, ap, ◌∙◌, subst, arith}
+use Rattle.std.proofs.Common.{◌-◌, refl, sym, ap, ◌∙◌, subst}
 use Rattle.coordinator.specs.Driving.{Fails}
 use Rattle.own_entries.proofs.Handed.{handed_on}
 use Rattle.coordinator.proofs.Driven.{fails_on, goes_on, rests}
@@ -8,7 +8,7 @@ pub loop-point-init : goal.loop-point-init
 loop-point-init g c =
     record {
       advances = rests (g.R.Rules.protocol (c.args.cluster.now.id.slots - 1)) c.args.pass.now c.args.driver.now c.requires.driver;
-      later = omega arith;
+      same = refl;
     }
 
 pub advance-requires-clause-of : goal.advance-requires-clause-of
@@ -23,17 +23,15 @@ advance-requires-clause-driver g c = c.loop-point.invariant.advances.knows
 pub loop-point-preserved : goal.loop-point-preserved
 loop-point-preserved g c =
     let inv = c.loop-point.invariant in
-    let before = inv.later in
-    let now = c.is_stopped.ensures.later in
     record {
       advances =
           goes_on (g.R.Rules.protocol (c.args.cluster.now.id.slots - 1)) c.args.pass.now c.loop-point.pass c.advance.new.pass c.args.driver.now
           c.loop-point.driver c.advance.new.driver inv.advances c.in_ok-point.ensures.ok;
-      later = omega arith;
+      same = c.pace_at.ensures.obeyed (λ stop. absurd (let e = sym c.in-Go.is ∙ stop in cc)) ∙ inv.same;
     }
 
-pub returns-then-is_stopped-clause-ok : goal.returns-then-is_stopped-clause-ok
-returns-then-is_stopped-clause-ok g c =
+pub returns-in-Stop-clause-ok : goal.returns-in-Stop-clause-ok
+returns-in-Stop-clause-ok g c =
     goes_on (g.R.Rules.protocol (c.args.cluster.now.id.slots - 1)) c.args.pass.now c.loop-point.pass c.advance.new.pass c.args.driver.now
     c.loop-point.driver c.advance.new.driver c.loop-point.invariant.advances c.in_ok-point.ensures.ok
 

@@ -2,8 +2,8 @@ use Rattle.std.proofs.Common.{◌-◌, sym, ap, ◌∙◌}
 use Rattle.coordinator.proofs.Writing.{begins_driver, forgets_same, over_done, runs_done, runs_undone, still_own, stopped_drawn}
 use Rattle.coordinator.proofs.transaction.run_drawn.Goals as goal
 
-pub returns-then-matches-clause-runs : goal.returns-then-matches-clause-runs
-returns-then-matches-clause-runs g c =
+pub returns-in-Stop-clause-runs : goal.returns-in-Stop-clause-runs
+returns-in-Stop-clause-runs g c =
     stopped_drawn (g.R.Rules.protocol (c.args.cluster.now.id.slots - 1)) c.args.pass.now c.args.number c.args.stamp c.args.actions c.requires.drawn
 
 pub drive_on-driven-requires-clause-driver : goal.drive_on-driven-requires-clause-driver
@@ -18,6 +18,10 @@ returns-then-not-is_over-clause-runs g c =
     runs_undone (g.R.Rules.protocol n) c.args.pass.now c.args.number c.args.stamp c.args.actions c.begun-driver.result c.requires.drawn
     c.begun-driver.ensures (g.met.R.Rules.lawful n) run.new.pass run.result run.ensures.ends c.facts.ensures.legal
     (sym c.is_over.ensures ∙ c.if-not-is_over.true)
+
+pub returns-then-not-is_over-clause-obeyed : goal.returns-then-not-is_over-clause-obeyed
+returns-then-not-is_over-clause-obeyed g c =
+    λ on. c.drive_on-driven.ensures.obeyed on ∙ c.pass_point.ensures.told (λ stop. absurd (let e = sym c.in-Go.is ∙ stop in cc))
 
 pub forget-requires-clause-done : goal.forget-requires-clause-done
 forget-requires-clause-done g c =
@@ -38,6 +42,10 @@ facts-requires-2 g c =
     let run = c.drive_on-driven in
     forgets_same (g.R.Rules.protocol (c.args.cluster.now.id.slots - 1)) run.new.pass c.args.number c.forget.new.pass c.forget.ensures
     ∙ (ap (λ z. z.turnstile) run.ensures.ends.added.pass ∙ c.requires.of)
+
+pub returns-clause-obeyed : goal.returns-clause-obeyed
+returns-clause-obeyed g c =
+    λ on. c.drive_on-driven.ensures.obeyed on ∙ c.pass_point.ensures.told (λ stop. absurd (let e = sym c.in-Go.is ∙ stop in cc))
 
 pub returns-clause-runs : goal.returns-clause-runs
 returns-clause-runs g c =

@@ -1,4 +1,4 @@
-use Rattle.std.proofs.Common.{◌-◌, ◌∙◌, suc, ap, arith}
+use Rattle.std.proofs.Common.{◌-◌, sym, ◌∙◌, suc, ap}
 use Rattle.std.specs.Option.{option_copied}
 use Rattle.coordinator.proofs.Writing.{same_pass, turns_again}
 use Rattle.coordinator.proofs.transaction.write_apart.Goals as goal
@@ -19,13 +19,15 @@ pub begins-preserved : goal.begins-preserved
 begins-preserved g c =
     let S = g.R.Rules.protocol (c.args.cluster.now.id.slots - 1) in
     let inv = c.begins.invariant in
-    let before = inv.later in
-    let now = c.take_turn.ensures.later in
     record {
       again = (
         suc inv.again.0,
         turns_again S (option_copied c.args.token) c.args.actions.now c.args.pass.now inv.again.0 c.begins.pass c.take_turn.new.pass c.take_turn.result
             c.in-None.is inv.again.1 c.take_turn.ensures.turns,
       );
-      later = omega arith;
+      same = c.take_turn.ensures.obeyed (λ stop. absurd (let e = sym c.in-None.is ∙ stop in cc)) ∙ inv.same;
     }
+
+pub returns-in-Some-clause-obeyed : goal.returns-in-Some-clause-obeyed
+returns-in-Some-clause-obeyed g c =
+    λ on. c.take_turn.ensures.obeyed (λ stop. on (let e = sym c.in-Some.is ∙ stop in cc)) ∙ c.begins.invariant.same

@@ -1,4 +1,4 @@
-use Rattle.std.proofs.Common.{◌-◌, ◌≤◌, ℕ}
+use Rattle.std.proofs.Common.{◌≡◌, ◌-◌, ℕ}
 use Rattle.std.specs.Option.{option_copied}
 use Rattle.turnstile.specs.Passes.{most_units}
 use Rattle.coordinator.specs.Writes.{TurnsAgain}
@@ -7,7 +7,7 @@ use Rattle.coordinator.proofs.transaction.write_apart.Given as goal
 abbrev pub invariant-begins : goal.invariant-begins
 invariant-begins g l = record {
   again : (k : ℕ) × TurnsAgain (g.R.Rules.protocol (l.cluster.id.slots - 1)) (option_copied l.token) l.actions l.fn.pass k l.pass;
-  later : g.G.Gate.stops l.fn.gate ≤ g.G.Gate.stops l.gate;
+  same : g.G.Gate.stops l.gate ≡ g.G.Gate.stops l.fn.gate;
 }
 
 abbrev pub decreases-begins : goal.decreases-begins
