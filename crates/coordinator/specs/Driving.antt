@@ -1,6 +1,7 @@
 -- What the driver of one transaction adds to the history, and what it knows of it.
-use Rattle.std.specs.Prelude.{◌≡◌, ℕ, ◌+◌, ◌≤◌, Bool, true, false, ◌&&◌, nat_eq, List, [], ◌∷◌, ◌++◌, length, map, drop, reverse, slice_get, Option, Some, is_some, IfSome, if◌then◌else◌}
+use Rattle.std.specs.Prelude.{◌≡◌, ℕ, ◌+◌, ◌≤◌, Bool, true, false, ◌&&◌, nat_eq, List, [], ◌∷◌, ◌++◌, length, map, drop, reverse, slice_get, Option, None, Some, is_some, IfSome, if◌then◌else◌}
 use Rattle.std.specs.List.{list_any, AllByRecursion}
+use Rattle.ddb_outside.specs.declared.gate.Point.{Point}
 use Rattle.turnstile.specs.Histories.{Trail}
 use Rattle.turnstile.specs.Passes.{PassView}
 use Rattle.txn_core.specs.declared.message.Message.{Message}
@@ -65,6 +66,16 @@ module _ {K V A F D Q : Type 0} where
 abbrev pub last_move : Fate → ℕ → Move
 last_move Committed place = Move.Apply place
 last_move _ place = Move.Release place
+
+-- the point at which a transaction is after a move; the end is none
+abbrev pub point_after : Move → Option Point
+point_after (Move.Prepare place) = Some (Point.AfterPrepare place)
+point_after Move.Commit = Some Point.AfterDecide
+point_after Move.Cancel = Some Point.AfterDecide
+point_after (Move.Apply place) = Some (Point.AfterFinish place)
+point_after (Move.Release place) = Some (Point.AfterFinish place)
+point_after Move.Done = Some Point.AfterDone
+point_after Move.End = None
 
 -- this is the next move of the course
 abbrev pub IsNext : Course → Move → Type 0

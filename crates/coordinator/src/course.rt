@@ -3,10 +3,11 @@
 ghost use Rattle.std.specs.Prelude.{◌≡◌, ◌↔◌, ◌<◌, [], reverse, IfErr, IfOk, IfSome, IfNone, OnOk, Err};
 ghost use Rattle.turnstile.specs.Passes.{most_units};
 ghost use Rattle.txn_core.specs.declared.course.Move.{Move};
+ghost use Rattle.txn_core.specs.Course.{IsToldSo, Told, next_move};
 ghost use Rattle.txn_core.specs.Driver.{course_left};
 ghost use Rattle.cluster.specs.Steps.{partitions_of};
 ghost use Rattle.cluster.specs.declared.step.StepError.{StepError};
-ghost use Rattle.coordinator.specs.Driving.{Advances, Fails, IsDriver, IsNext};
+ghost use Rattle.coordinator.specs.Driving.{Advances, Fails, IsDriver, IsNext, point_after};
 
 use crate::decision::{cancel, commit};
 use crate::driver::DriverOf;
@@ -36,6 +37,8 @@ where
     requires driver { IsDriver (R.protocol (partitions_of cluster.now)) (reverse pass.old.front) driver.old }
     ensures ok { OnOk result (Advances (R.protocol (partitions_of cluster.now)) pass.old driver.old pass.new driver.new) }
     ensures less { IfOk result (λ point. IfSome point (λ _. course_left driver.new.course < course_left driver.old.course)) }
+    ensures point { IfOk result (λ point.
+        (told : Told) → IsToldSo driver.old.course told → point ≡ point_after (next_move told)) }
     ensures end { IfOk result (λ point. IfNone point (IsNext driver.old.course Move.End)) }
     ensures same { IfOk result (λ point. IfNone point ((driver.new ≡ driver.old) × (pass.new ≡ pass.old))) }
     ensures err { IfErr result (λ error. Fails (R.protocol (partitions_of cluster.now)) pass.old driver.old error pass.new) }

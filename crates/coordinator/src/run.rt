@@ -176,8 +176,8 @@ where
 /// after each of these steps.
 ///
 /// `Gone` comes exactly where a message of this drive found no such transaction. `Stopped` comes only where the gate counted a
-/// stop, and always where it did, and `Spent` only where no unit is left. `NoMemory` comes only before this drive has decided, or when all is done and the
-/// reasons that another driver's cancel carried were asked for.
+/// stop, and always where it did, and `Spent` only where no unit is left. `NoMemory` comes only before this drive has decided, or
+/// when all is done and the reasons that another driver's cancel carried were asked for.
 pub fn drive<R: PageRules, G: Gate, T: Wait>(
     cluster: &Cluster<R>,
     rt: &T,

@@ -214,8 +214,8 @@ where
 ///
 /// After `Stopped`, `Spent` and `NoMemory` the transaction stands once and whole in the end, or nowhere, once others have driven it on.
 /// After any other end than `Stopped` and `Spent` this call leaves no transaction between its decision and its Done.
-/// `Stopped` comes only where the gate counted a stop, and always where it did, and `Spent` only where no unit is left. `Twice` comes exactly where two actions
-/// are on one item, unless memory is refused for the look.
+/// `Stopped` comes only where the gate counted a stop, and always where it did, and `Spent` only where no unit is left. `Twice`
+/// comes exactly where two actions are on one item, unless memory is refused for the look.
 pub fn transact_write<R: PageRules, G: Gate, T: Wait>(
     cluster: &Cluster<R>,
     rt: &T,

@@ -21,8 +21,8 @@ use turnstile::Pass;
 /// Then each transaction that is listed is driven to its end, and each item that was listed with a forgotten one is let go. It
 /// tells how many transactions these are.
 ///
-/// `Stopped` comes only where the gate counted a stop, and always where it did, `Spent` only where no unit is left. `NoMemory` leaves no transaction that this
-/// sweep drove between its decision and its Done.
+/// `Stopped` comes only where the gate counted a stop, and always where it did, `Spent` only where no unit is left. `NoMemory`
+/// leaves no transaction that this sweep drove between its decision and its Done.
 pub fn sweep<R: PageRules, G: Gate, T: Wait>(
     cluster: &Cluster<R>,
     rt: &T,
