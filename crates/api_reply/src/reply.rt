@@ -14,10 +14,10 @@ use crate::message::kind_of;
 use crate::to_json::{
     ToJson, write_list_member, write_named, write_object_member, write_optional, write_whole,
 };
+use attr_value::SharedItem;
 use base_types::Seq;
 use json::Writer;
 use request_parts::Refusal as EdgeRefusal;
-use shared_item::SharedItem;
 use std::alloc::{AllocError as NoMemory, Global};
 use table_model::{Page, Reply, TableItems, TableNames};
 use table_request::{TableKeys, TableWrites};

@@ -7,10 +7,9 @@ ghost use Rattle.attr_json.specs.Written.{members_of};
 ghost use Rattle.api_reply.specs.Json.{Adds, entries, list_of, object_of, optional, whole};
 
 use attr_json::write_item;
-use attr_value::Item;
+use attr_value::{Item, SharedItem};
 use base_types::{Seq, Text};
 use json::Writer;
-use shared_item::SharedItem;
 use std::alloc::{AllocError as NoMemory, Global};
 
 /// A type whose values are written as JSON.

@@ -79,6 +79,6 @@ impl From<Elements> for Seq<Value> {
     ghost from_gives = { λ list values. trees_of values ≡ list };
 
     fn from(list: Elements) -> Seq<Value> {
-        list.values
+        list.into_values()
     }
 }

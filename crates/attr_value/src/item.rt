@@ -83,6 +83,6 @@ impl IntoIterator for Item {
     ghost into_iter_gives = { λ item entries. (attributes_of entries ≡ item) × AreInOrder item };
 
     fn into_iter(self) -> btree_map::IntoIter<Text, Value, Global> {
-        self.attributes.into_iter()
+        self.into_attributes().into_iter()
     }
 }

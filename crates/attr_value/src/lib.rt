@@ -31,6 +31,7 @@ mod item;
 mod parts;
 mod path;
 mod set;
+mod shared_item;
 mod size;
 mod value;
 
@@ -38,4 +39,5 @@ pub use change::MAX_DEPTH;
 pub use fault::{ValueEnd, ValueFault};
 pub use parts::push_some;
 pub use set::{binary_set, number_set, string_set};
+pub use shared_item::{SharedItem, kept, lent};
 pub use value::{Elements, Item, Value};

@@ -8,7 +8,7 @@ use std::marker::Model;
 
 /// An attribute value (DynamoDB API Reference: AttributeValue).
 #[cycle(value)]
-#[derive(Debug, Drop)]
+#[derive(Debug)]
 pub enum Value {
     /// A text of UTF-8.
     S(Text),
@@ -32,11 +32,51 @@ pub enum Value {
     Bs(OrderedSet<Bytes>),
 }
 
+// By hand, so that no crate above proves it again.
+impl Drop for Value {
+    #[cycle(drop)]
+    fn drop(self) {
+        match self {
+            Value::S(_)
+            | Value::N(_)
+            | Value::B(_)
+            | Value::Bool(_)
+            | Value::Null
+            | Value::L(_)
+            | Value::M(_)
+            | Value::Ss(_)
+            | Value::Ns(_)
+            | Value::Bs(_) => {}
+        }
+    }
+}
+
 /// An item, or the inside of a map: attributes with a name and a value each, in order of the names' bytes.
 #[cycle(value)]
-#[derive(Debug, Drop)]
+#[derive(Debug)]
 pub struct Item {
     pub(crate) attributes: BTreeMap<Text, Value>,
+}
+
+// By hand, so that no crate above proves it again.
+impl Drop for Item {
+    #[cycle(drop)]
+    fn drop(self) {
+        let Item { attributes: _ } = self;
+    }
+}
+
+impl Item {
+    ghost use Rattle.std.specs.Prelude.{◌≡◌};
+    ghost use Rattle.attr_value.specs.View.{attributes_of};
+
+    /// What the item keeps its attributes in.
+    pub(crate) fn into_attributes(self) -> BTreeMap<Text, Value>
+        ensures { attributes_of result.entries ≡ self }
+    {
+        let Item { attributes } = self;
+        attributes
+    }
 }
 
 impl Model for Item {
@@ -62,9 +102,30 @@ impl Model for Item {
 
 /// The values of a list, in their order.
 #[cycle(value)]
-#[derive(Debug, Drop)]
+#[derive(Debug)]
 pub struct Elements {
     pub(crate) values: Seq<Value>,
+}
+
+// By hand, so that no crate above proves it again.
+impl Drop for Elements {
+    #[cycle(drop)]
+    fn drop(self) {
+        let Elements { values: _ } = self;
+    }
+}
+
+impl Elements {
+    ghost use Rattle.std.specs.Prelude.{◌≡◌};
+    ghost use Rattle.attr_value.specs.View.{trees_of};
+
+    /// What the list keeps its values in.
+    pub(crate) fn into_values(self) -> Seq<Value>
+        ensures { trees_of result ≡ self }
+    {
+        let Elements { values } = self;
+        values
+    }
 }
 
 impl Model for Elements {

@@ -12,9 +12,16 @@ use std::hash::{Hash, Hasher};
 use std::marker::Model;
 
 /// Bytes of any kind, which contracts see as a list.
-#[derive(Debug, Drop)]
+#[derive(Debug)]
 pub struct Bytes {
     bytes: Vec<u8>,
+}
+
+// By hand, so that a crate above calls this one function where it would else prove again how a binary is let go.
+impl Drop for Bytes {
+    fn drop(self) {
+        let Bytes { bytes: _ } = self;
+    }
 }
 
 impl Model for Bytes {
@@ -56,6 +63,13 @@ impl Bytes {
         self.bytes.is_empty()
     }
 
+    fn into_vec(self) -> Vec<u8>
+        ensures { result.items ≡ self }
+    {
+        let Bytes { bytes } = self;
+        bytes
+    }
+
     /// Equal bytes.
     pub fn try_clone(&self) -> Result<Bytes, NoMemory>
         ensures { IfOk result (λ copy. copy ≡ self.now) }
@@ -76,7 +90,7 @@ impl From<Bytes> for Vec<u8> {
     ghost from_gives = { λ bytes vector. vector.items ≡ bytes };
 
     fn from(bytes: Bytes) -> Vec<u8> {
-        bytes.bytes
+        bytes.into_vec()
     }
 }
 

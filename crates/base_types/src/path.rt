@@ -6,10 +6,19 @@ use std::alloc::AllocError as NoMemory;
 
 /// A step of a document path: to the attribute of a name, or to a place of a list, from 0. Names come before places.
 /// Developer Guide: Document paths.
-#[derive(Debug, PartialEq, Eq, PartialOrd, Ord, Drop)]
+#[derive(Debug, PartialEq, Eq, PartialOrd, Ord)]
 pub enum Step {
     Name(Text),
     Index(u32),
+}
+
+// By hand, so that a crate above calls this one function where it would else prove again how a step is let go.
+impl Drop for Step {
+    fn drop(self) {
+        match self {
+            Step::Name(_) | Step::Index(_) => {}
+        }
+    }
 }
 
 impl Step {
@@ -33,9 +42,16 @@ impl Clone for Step {
 }
 
 /// Where a value is within an item: a list of steps from the item on. A path comes before those that go on from it.
-#[derive(Debug, PartialEq, Eq, PartialOrd, Ord, Drop)]
+#[derive(Debug, PartialEq, Eq, PartialOrd, Ord)]
 pub struct DocPath {
     pub steps: Seq<Step>,
+}
+
+// By hand, so that a crate above calls this one function where it would else prove again how a path is let go.
+impl Drop for DocPath {
+    fn drop(self) {
+        let DocPath { steps: _ } = self;
+    }
 }
 
 impl DocPath {

@@ -12,9 +12,16 @@ use std::marker::Model;
 use std::slice;
 
 /// A list that grows at its end, which contracts see as the list of its items.
-#[derive(Debug, Drop)]
+#[derive(Debug)]
 pub struct Seq<T> {
     items: Vec<T>,
+}
+
+// By hand, so that a crate above calls this one function where it would else prove again how a list is let go.
+impl<T: Drop> Drop for Seq<T> {
+    fn drop(self) {
+        let Seq { items: _ } = self;
+    }
 }
 
 impl<T> Model for Seq<T> {
@@ -42,6 +49,13 @@ impl<T> Seq<T> {
         Ok(Seq {
             items: Vec::with_capacity(alloc, capacity)?,
         })
+    }
+
+    fn into_vec(self) -> Vec<T>
+        ensures { result.items ≡ self }
+    {
+        let Seq { items } = self;
+        items
     }
 
     /// What the list takes its memory from.
@@ -171,7 +185,7 @@ impl<T> From<Seq<T>> for Vec<T> {
     ghost from_gives = { λ seq vector. vector.items ≡ seq };
 
     fn from(seq: Seq<T>) -> Vec<T> {
-        seq.items
+        seq.into_vec()
     }
 }
 

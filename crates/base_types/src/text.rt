@@ -14,9 +14,15 @@ use std::hash::{Hash, Hasher};
 use std::marker::Model;
 
 /// A text: a string that contracts see as the list of its UTF-8 bytes.
-#[derive(Drop)]
 pub struct Text {
     text: String,
+}
+
+// By hand, so that a crate above calls this one function where it would else prove again how a text is let go.
+impl Drop for Text {
+    fn drop(self) {
+        let Text { text: _ } = self;
+    }
 }
 
 impl Model for Text {
@@ -59,6 +65,13 @@ impl Text {
         self.text.is_empty()
     }
 
+    fn into_string(self) -> String
+        ensures { string_bytes result ≡ self }
+    {
+        let Text { text } = self;
+        text
+    }
+
     /// An equal text.
     pub fn try_clone(&self) -> Result<Text, NoMemory>
         ensures { IfOk result (λ copy. copy ≡ self.now) }
@@ -81,7 +94,7 @@ impl From<Text> for String {
     ghost from_gives = { λ text string. string_bytes string ≡ text };
 
     fn from(text: Text) -> String {
-        text.text
+        text.into_string()
     }
 }
 

@@ -2,7 +2,7 @@
 use Rattle.std.specs.Prelude.{◌≡◌, ℕ, true, false, ◌||◌, Bool, refl, Option, None, Some}
 use Rattle.std.specs.Ordering.{nat_cmp, is_eq}
 use Rattle.local_index.specs.Entries.{is_among}
-use Rattle.planned_changes.specs.Entries.{AreEntriesLawful}
+use Rattle.index_changes.specs.Entries.{AreEntriesLawful}
 use Rattle.case_rules.specs.declared.key.Key.{Key}
 use Rattle.case_rules.specs.declared.item.Item.{Item}
 use Rattle.case_rules.specs.declared.entry.Entry.{Entry}

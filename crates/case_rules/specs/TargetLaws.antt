@@ -6,8 +6,8 @@ use Rattle.std.proofs.Common.{inl, inr, sym, ap, ◌∙◌, arith}
 use Rattle.std.proofs.Math.Nat.{le-max_left, le-max_right}
 use Rattle.std.proofs.lemmas.Bool.{cases_Bool, cond_both, eq-eqb, eqb-true, or_cases}
 use Rattle.std.proofs.lemmas.List.{append-nil}
-use Rattle.planned_changes.specs.declared.command_rules.TableChange.{TableChange}
-use Rattle.planned_changes.specs.Commands.{AreCommandsLawful, alters, drops, is_in, is_number, makes, subject as number_of}
+use Rattle.index_changes.specs.declared.command_rules.TableChange.{TableChange}
+use Rattle.index_changes.specs.Commands.{AreCommandsLawful, alters, drops, is_in, is_number, makes, subject as number_of}
 use Rattle.case_rules.specs.declared.key.Key.{Key}
 use Rattle.case_rules.specs.declared.key.Name.{Name}
 use Rattle.case_rules.specs.declared.key.Name.TheVariants.{Orders, Payments}

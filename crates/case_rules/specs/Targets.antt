@@ -1,9 +1,9 @@
 -- What commands do to tables by their numbers.
 use Rattle.std.specs.Prelude.{◌≡◌, ℕ, true, false, nat_eq, List, ◌++◌, Option, None, Some}
 use Rattle.std.specs.Option.{option_to_list}
-use Rattle.planned_changes.specs.declared.command_rules.TableChange.{TableChange}
-use Rattle.planned_changes.specs.declared.command_rules.TableChange.TheVariants.{Makes, Drops, Alters, Nothing}
-use Rattle.planned_changes.specs.Commands.{is_in}
+use Rattle.index_changes.specs.declared.command_rules.TableChange.{TableChange}
+use Rattle.index_changes.specs.declared.command_rules.TableChange.TheVariants.{Makes, Drops, Alters, Nothing}
+use Rattle.index_changes.specs.Commands.{is_in}
 use Rattle.case_rules.specs.declared.catalog.Table.{Table}
 use Rattle.case_rules.specs.declared.catalog.Catalog.{Catalog}
 use Rattle.case_rules.specs.declared.catalog.Command.{Command}

@@ -73,12 +73,9 @@ fn index_fault(schema: &Schema, change: &Option<IndexChange>) -> Option<CatalogA
 fn schema_fault(refusal: Refusal) -> Option<SchemaFault>
     ensures { result ≡ schema_fault refusal }
 {
-    match refusal {
-        Refusal::Invalid(Invalid::Schema(fault)) => Some(fault),
-        refusal => {
-            drop(refusal);
-            None
-        }
+    match &refusal {
+        Refusal::Invalid(Invalid::Schema(fault)) => Some(*fault),
+        _ => None,
     }
 }
 

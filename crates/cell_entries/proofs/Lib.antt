@@ -1,1 +1,5 @@
 pub mod Entered
+pub mod Parts
+pub mod Among
+pub mod Rows
+pub mod Walks

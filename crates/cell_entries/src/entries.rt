@@ -5,10 +5,10 @@ ghost use Rattle.cell_entries.specs.LocalEntries.{entries_from, entries_of, entr
 ghost use Rattle.row_keys.specs.Rows.{position_in};
 
 use crate::entry::LocalEntry;
+use attr_value::SharedItem;
 use cell_catalog::table_numbered;
 use cell_model::{Catalog, CellKey, ItemKey};
 use row_keys::position_of;
-use shared_item::SharedItem;
 use std::alloc::{AllocError as NoMemory, Global};
 use table_schema::{LocalIndex, Schema};
 

@@ -10,10 +10,16 @@ use table_request::TransactAction;
 /// An action on one item, with the item's key, which was computed once.
 ///
 /// Contracts see what it says, its expressions by their trees.
-#[derive(Drop)]
 pub struct KeyedAction {
     key: CellKey,
     action: TransactAction,
+}
+
+// By hand, so that no crate above proves it again.
+impl Drop for KeyedAction {
+    fn drop(self) {
+        let KeyedAction { key: _, action: _ } = self;
+    }
 }
 
 impl Model for KeyedAction {

@@ -1,9 +1,9 @@
 //! What is told of the catalog, and of pages.
 
 use crate::question::PageRoom;
+use attr_value::SharedItem;
 use base_types::{Seq, Text};
 use row_keys::Position;
-use shared_item::SharedItem;
 use table_schema::{Schema, SchemaFault};
 
 /// A row of a page.
@@ -12,7 +12,7 @@ pub struct PageRow {
     pub item: SharedItem,
 }
 
-// By hand, so that a crate above calls this one function where it would else prove again how a row is let go.
+// By hand, so that no crate above proves it again.
 impl Drop for PageRow {
     fn drop(self) {
         let PageRow { at: _, item: _ } = self;
@@ -20,7 +20,6 @@ impl Drop for PageRow {
 }
 
 /// What is told of a command, or answers a question.
-#[derive(Drop)]
 pub enum CatalogAnswer {
     /// A Create was carried out: the table's number.
     Made {
@@ -65,4 +64,32 @@ pub enum CatalogAnswer {
         room: PageRoom,
         stopped: bool,
     },
+}
+
+// By hand, so that no crate above proves it again.
+impl Drop for CatalogAnswer {
+    fn drop(self) {
+        match self {
+            CatalogAnswer::Made { number: _ }
+            | CatalogAnswer::Exists
+            | CatalogAnswer::Full
+            | CatalogAnswer::Dropped { schema: _ }
+            | CatalogAnswer::NoTable
+            | CatalogAnswer::Changed { schema: _ }
+            | CatalogAnswer::NoIndex
+            | CatalogAnswer::IndexExists
+            | CatalogAnswer::BadSchema { fault: _ }
+            | CatalogAnswer::Table {
+                table: _,
+                schema: _,
+                indexes: _,
+            }
+            | CatalogAnswer::NameList { names: _, more: _ }
+            | CatalogAnswer::Part {
+                rows: _,
+                room: _,
+                stopped: _,
+            } => {}
+        }
+    }
 }

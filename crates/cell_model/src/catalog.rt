@@ -5,7 +5,6 @@ use table_schema::Schema;
 
 /// A table: its number, what it was made with, and the numbers of its global indexes, in the order in which the schema has
 /// them.
-#[derive(Drop)]
 pub struct CatalogTable {
     pub number: u64,
     pub schema: Schema,
@@ -13,9 +12,29 @@ pub struct CatalogTable {
     pub indexes: Seq<u64>,
 }
 
+// By hand, so that no crate above proves it again.
+impl Drop for CatalogTable {
+    fn drop(self) {
+        let CatalogTable {
+            number: _,
+            schema: _,
+            indexes: _,
+        } = self;
+    }
+}
+
 /// The tables that are there, in the order of their names, and the greatest number that was drawn for a table or an index.
-#[derive(Drop)]
 pub struct Catalog {
     pub drawn: u64,
     pub tables: Seq<CatalogTable>,
+}
+
+// By hand, so that no crate above proves it again.
+impl Drop for Catalog {
+    fn drop(self) {
+        let Catalog {
+            drawn: _,
+            tables: _,
+        } = self;
+    }
 }

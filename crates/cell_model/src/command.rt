@@ -5,7 +5,6 @@ use table_request::TableUpdate;
 use table_schema::Schema;
 
 /// A change of the catalog.
-#[derive(Drop)]
 pub enum CatalogCommand {
     /// Makes a table (API Reference: CreateTable). The schema's `created` counts for nothing.
     Create { schema: Schema },
@@ -13,4 +12,15 @@ pub enum CatalogCommand {
     Drop { name: Text },
     /// Changes a table (API Reference: UpdateTable).
     Change { name: Text, change: TableUpdate },
+}
+
+// By hand, so that no crate above proves it again.
+impl Drop for CatalogCommand {
+    fn drop(self) {
+        match self {
+            CatalogCommand::Create { schema: _ }
+            | CatalogCommand::Drop { name: _ }
+            | CatalogCommand::Change { name: _, change: _ } => {}
+        }
+    }
 }

@@ -7,14 +7,21 @@ use std::alloc::AllocError as NoMemory;
 use std::cmp::Ordering;
 
 /// Which item: its table's number, and its key there. Items of one table stand in the order of a Scan.
-#[derive(PartialEq, Eq, PartialOrd, Ord, Drop)]
+#[derive(PartialEq, Eq, PartialOrd, Ord)]
 pub struct ItemKey {
     pub table: u64,
     pub key: RowKey,
 }
 
+// By hand, so that no crate above proves it again.
+impl Drop for ItemKey {
+    fn drop(self) {
+        let ItemKey { table: _, key: _ } = self;
+    }
+}
+
 /// Which row of a global index: the numbers of the table and of the index, and where the row stands.
-#[derive(PartialEq, Eq, PartialOrd, Ord, Drop)]
+#[derive(PartialEq, Eq, PartialOrd, Ord)]
 pub struct IndexRowKey {
     pub table: u64,
     pub index: u64,
@@ -22,11 +29,30 @@ pub struct IndexRowKey {
     pub at: Position,
 }
 
+// By hand, so that no crate above proves it again.
+impl Drop for IndexRowKey {
+    fn drop(self) {
+        let IndexRowKey {
+            table: _,
+            index: _,
+            at: _,
+        } = self;
+    }
+}
+
 /// What a cell keeps something for. Items stand before rows of indexes.
-#[derive(Drop)]
 pub enum CellKey {
     Item(ItemKey),
     Row(IndexRowKey),
+}
+
+// By hand, so that no crate above proves it again.
+impl Drop for CellKey {
+    fn drop(self) {
+        match self {
+            CellKey::Item(_) | CellKey::Row(_) => {}
+        }
+    }
 }
 
 impl ItemKey {

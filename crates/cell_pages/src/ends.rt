@@ -110,9 +110,10 @@ fn key_at(table: u64, source: PageSource, at: Position) -> CellKey
 fn own_key_at(table: u64, at: Position) -> CellKey
     ensures { result ≡ CellKey.Item (record { table = table; key = at.read }) }
 {
-    let Position { read, item } = at;
-    drop(item);
-    CellKey::Item(ItemKey { table, key: read })
+    CellKey::Item(ItemKey {
+        table,
+        key: at.into_read(),
+    })
 }
 
 /// The key at an end, where there is one.

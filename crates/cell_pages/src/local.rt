@@ -6,10 +6,10 @@ ghost use Rattle.cell_model.specs.Pages.{page_row, item_in, items_of};
 ghost use Rattle.cell_pages.specs.Entered.{entered_if};
 
 use crate::rows::Kept;
+use attr_value::SharedItem;
 use base_types::Seq;
 use cell_model::{CellKey, PageRow};
 use row_keys::{Position, RowKey, position_of};
-use shared_item::SharedItem;
 use std::alloc::{AllocError as NoMemory, Global};
 use std::collections::BTreeMap;
 use table_schema::{KeyNames, LocalIndex, Schema};

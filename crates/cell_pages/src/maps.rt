@@ -11,9 +11,9 @@ use crate::ends::{ends_of, keys_at};
 use crate::part::{is_asked, no_row};
 use crate::rows::position_under;
 use crate::walk::{EntryRows, page_between};
+use attr_value::SharedItem;
 use cell_model::{CatalogAnswer, CatalogTable, CellKey, PageQuestion, PageRow, PageSource};
 use item_store::Slot;
-use shared_item::SharedItem;
 use std::alloc::{AllocError as NoMemory, Global};
 use std::collections::BTreeMap;
 

@@ -12,11 +12,11 @@ ghost use Rattle.row_keys.specs.Rows.{Entries};
 
 use crate::local::local_rows;
 use crate::rows::{Kept, kept_rows};
+use attr_value::SharedItem;
 use base_types::Seq;
 use cell_model::{CatalogAnswer, CatalogTable, PageQuestion, PageRoom, PageRow, PageSource};
 use page_ranges::Span;
 use row_keys::{Position, RowKey};
-use shared_item::SharedItem;
 use std::alloc::{AllocError as NoMemory, Global};
 
 /// The rows of a source, in the order of their keys there.

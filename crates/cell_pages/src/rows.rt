@@ -4,10 +4,10 @@ ghost use Rattle.std.specs.Prelude.{◌≡◌, ◌++◌, map, option_map, filter
 ghost use Rattle.cell_model.specs.Pages.{page_row};
 ghost use Rattle.cell_pages.specs.Walked.{position_under, row_under};
 
+use attr_value::SharedItem;
 use base_types::Seq;
 use cell_model::{CellKey, IndexRowKey, ItemKey, PageRow, PageSource};
 use row_keys::Position;
-use shared_item::SharedItem;
 use std::alloc::{AllocError as NoMemory, Global};
 
 /// What a cell keeps, at one key.

@@ -7,14 +7,14 @@ use Rattle.item_store.specs.declared.slot.Slot.{Slot}
 use Rattle.item_store.specs.Slots.{row_of}
 use Rattle.local_index.specs.declared.claim.Claim.{Claim}
 use Rattle.local_index.specs.Entries.{is_among}
-use Rattle.planned_changes.specs.Entries.{entries_at}
+use Rattle.index_changes.specs.Entries.{entries_at}
 use Rattle.partition.specs.Pages.{AreEntriesOf}
 use Rattle.cell_model.specs.declared.key.CellKey.{CellKey}
 use Rattle.cell_model.specs.declared.catalog.Catalog.{Catalog}
 use Rattle.cell_model.specs.Keys.{key_order}
 use Rattle.cell_entries.specs.declared.entry.LocalEntry.{LocalEntry}
 use Rattle.cell_entries.specs.LocalEntries.{entry_order, item_of_entry}
-use Rattle.local_pages.specs.Met.{AreEntriesOf as AreOfShown, entries_if}
+use Rattle.cell_entries.specs.Met.{AreEntriesOf as AreOfShown, entries_if}
 use Rattle.cell_rules.specs.Entries.{table_entries}
 
 -- what is shown of what a cell keeps of an item: the committed one

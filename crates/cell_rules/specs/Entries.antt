@@ -1,8 +1,8 @@
 -- The local entries of real tables.
 use Rattle.std.specs.Prelude.{◌≡◌, ℕ, true}
 use Rattle.attr_value.specs.Tree.{Attributes}
-use Rattle.planned_changes.specs.Commands.{KeepsEntries, alters}
-use Rattle.planned_changes.specs.Entries.{AreEntriesLawful, LocalEntries}
+use Rattle.index_changes.specs.Commands.{KeepsEntries, alters}
+use Rattle.index_changes.specs.Entries.{AreEntriesLawful, LocalEntries}
 use Rattle.cell_model.specs.declared.key.CellKey.{CellKey}
 use Rattle.cell_model.specs.declared.catalog.Catalog.{Catalog}
 use Rattle.cell_model.specs.declared.command.CatalogCommand.{CatalogCommand}
@@ -10,8 +10,8 @@ use Rattle.cell_model.specs.declared.command.CatalogCommand.TheVariants.{Create,
 use Rattle.cell_model.specs.Commands.{catalog_after, number_named}
 use Rattle.cell_model.specs.Keys.{table_of}
 use Rattle.cell_model.specs.Service.{service}
-use Rattle.cell_commands.specs.TargetLaws.{none_altered}
-use Rattle.cell_commands.specs.Targets.{IsSound, target}
+use Rattle.cell_rules.specs.TargetLaws.{none_altered}
+use Rattle.cell_rules.specs.Targets.{IsSound, target}
 use Rattle.cell_entries.specs.declared.entry.LocalEntry.{LocalEntry}
 use Rattle.cell_entries.specs.LocalEntries.{entries_of, entry_order, item_of_entry}
 use Rattle.cell_entries.specs.EntryLaws.{named, spared, updates_keep}

@@ -9,13 +9,12 @@ ghost use Rattle.table_items.specs.Outcomes as items;
 ghost use Rattle.cell_model.specs.Actions.{Update};
 ghost use Rattle.expr_parse.specs.Update.{update_tree};
 
-use attr_value::{Item, Value};
+use attr_value::{Item, SharedItem, Value, kept, lent};
 use base_types::Seq;
 use cell_catalog::{table_numbered, table_of};
 use cell_model::{Catalog, KeyedAction};
 use expr_parse::Update as ItemUpdate;
 use expr_words::Condition;
-use shared_item::{SharedItem, kept, lent};
 use std::alloc::{AllocError as NoMemory, Global};
 use table_items::{Outcome as TableOutcome, is_met, put_outcome, update_outcome};
 use table_request::{Change, TransactAction};

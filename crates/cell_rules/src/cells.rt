@@ -2,22 +2,22 @@
 
 ghost use Rattle.std.specs.Prelude.{refl};
 ghost use Rattle.cell_model.specs.IndexRows.{numbers_at};
-ghost use Rattle.cell_commands.specs.Targets.{IsSound, target};
-ghost use Rattle.cell_commands.specs.TargetLaws.{commands_lawful};
+ghost use Rattle.cell_rules.specs.Targets.{IsSound, target};
+ghost use Rattle.cell_rules.specs.TargetLaws.{commands_lawful};
 ghost use Rattle.cell_rules.specs.Entries.{entries_lawful, entries_stay, table_entries};
 ghost use Rattle.cell_rules.specs.PageLaws.{own_rows, read_table};
 
 use crate::questions::page_table;
 use crate::rules::TableRules;
+use crate::targets::{on_table, subject_of};
 use crate::told::{told_of_items, told_of_rows};
+use attr_value::SharedItem;
 use cell_catalog::{numbers_at, table_of};
-use cell_commands::{on_table, subject_of};
 use cell_entries::{LocalEntry, entries_of};
 use cell_model::{Catalog, CatalogAnswer, CatalogCommand, CatalogQuestion, CellKey, KeyedAction};
 use item_store::Slot;
 use local_index::Claim;
 use partition::{CellRules, CommandRules, PageRules, TableChange};
-use shared_item::SharedItem;
 use std::alloc::{AllocError as NoMemory, Global};
 use std::collections::BTreeMap;
 

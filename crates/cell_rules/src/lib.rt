@@ -4,6 +4,9 @@
 //! TransactWriteItems with its key, and the catalog is that of `cell_model`. What each call answers is what the definitions
 //! there say, for every number of partitions, so that a history of the cells can be replayed. A cell of `partition` can keep
 //! them: keys are compared as the rules compare them.
+//!
+//! What a command makes, drops or alters, by number, keeps the laws of `partition` on commands over the catalogs that commands
+//! make (`specs/TargetLaws.antt`): of such a catalog no index is of two tables.
 #![tactic(auto)]
 
 mod act;
@@ -16,6 +19,7 @@ mod questions;
 mod removal;
 mod rows;
 mod rules;
+mod targets;
 mod told;
 
 pub use rules::TableRules;

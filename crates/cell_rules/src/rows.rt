@@ -3,12 +3,12 @@
 ghost use Rattle.std.specs.Prelude.{◌≡◌, IfOk};
 ghost use Rattle.cell_model.specs.IndexRows.{row_under, row_of};
 
+use attr_value::SharedItem;
 use cell_catalog::{index_numbered, table_numbered};
 use cell_model::{Catalog, CellKey, IndexRowKey, ItemKey};
 use index_feed::Row;
 use item_keys::project;
 use row_keys::position_of;
-use shared_item::SharedItem;
 use std::alloc::{AllocError as NoMemory, Global};
 use table_schema::{GlobalIndex, Schema};
 

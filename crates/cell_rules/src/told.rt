@@ -3,15 +3,14 @@
 ghost use Rattle.std.specs.Prelude.{◌≡◌, ℕ, IfOk, Some};
 ghost use Rattle.cell_model.specs.Pages.{index_number, page_index, page_part, told_of};
 ghost use Rattle.cell_pages.specs.Walked.{shown_among};
-ghost use Rattle.local_pages.specs.Met.{AreEntriesOf};
+ghost use Rattle.cell_entries.specs.Met.{AreEntriesOf};
 
+use attr_value::SharedItem;
 use cell_catalog::{table_numbered, told_named, told_names};
-use cell_entries::LocalEntry;
+use cell_entries::{LocalEntry, items_page};
 use cell_model::{Catalog, CatalogAnswer, CatalogQuestion, CellKey, PageQuestion};
 use cell_pages::{Keeps, map_page, page_part};
 use local_index::Claim;
-use local_pages::items_page;
-use shared_item::SharedItem;
 use std::alloc::{AllocError as NoMemory, Global};
 use std::collections::BTreeMap;
 

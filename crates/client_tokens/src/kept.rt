@@ -5,7 +5,7 @@ ghost use Rattle.client_tokens.specs.Kept.{has_expired, due};
 const TOKEN_LIFE: u64 = 600_000_000;
 
 /// What a token is kept with.
-#[derive(Debug, Drop, PartialEq)]
+#[derive(Debug, PartialEq)]
 pub struct Kept<A> {
     /// The number of the transaction that the token began.
     pub number: u64,
@@ -13,6 +13,17 @@ pub struct Kept<A> {
     pub actions: A,
     /// When the transaction was completed, in microseconds, if it was.
     pub completed: Option<u64>,
+}
+
+// By hand, so that no crate above proves it again.
+impl<A: Drop> Drop for Kept<A> {
+    fn drop(self) {
+        let Kept {
+            number: _,
+            actions: _,
+            completed: _,
+        } = self;
+    }
 }
 
 impl<A> Kept<A> {

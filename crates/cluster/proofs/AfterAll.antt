@@ -9,7 +9,7 @@ use Rattle.txn_core.specs.Service.{Service, History}
 use Rattle.txn_core.specs.Cells.{of_cell}
 use Rattle.txn_core.proofs.Exports.{of_cell_reversed}
 use Rattle.partition.specs.declared.cell.Partition.{Partition}
-use Rattle.planned_changes.specs.Entries.{LocalEntries}
+use Rattle.index_changes.specs.Entries.{LocalEntries}
 use Rattle.partition.specs.Says.{Stands}
 use Rattle.control_cell.specs.declared.cell.ControlCell.{ControlCell}
 use Rattle.control_cell.specs.Holding.{Holds}

@@ -18,7 +18,7 @@ use Rattle.txn_core.specs.Cells.{of_cell, IsRuledByCells}
 use Rattle.txn_core.specs.State.{State, step}
 use Rattle.txn_core.proofs.Exports.{cells_answer}
 use Rattle.partition.specs.declared.cell.Partition.{Partition}
-use Rattle.planned_changes.specs.Entries.{LocalEntries}
+use Rattle.index_changes.specs.Entries.{LocalEntries}
 use Rattle.partition.specs.Holds.{Holds as Keeps}
 use Rattle.control_cell.specs.declared.cell.ControlCell.{ControlCell}
 use Rattle.control_cell.specs.declared.commands.CatalogPlan.{CatalogPlan}
@@ -26,7 +26,7 @@ use Rattle.control_cell.specs.Plans.{IsPlan}
 use Rattle.control_cell.specs.Holding.{IsEntry, OthersLeaveIt, is_of_control}
 use Rattle.cluster.specs.declared.cell.ClusterCell.{ClusterCell}
 use Rattle.cluster.specs.Standing.{StandsFor}
-use Rattle.cluster.specs.Commanding.{AllStand, AllStandWith, TellsFirst, own}
+use Rattle.cluster.specs.Commanding.{AllStand, AllStandAfter, AllStandWith, TellsFirst, own}
 use Rattle.cluster.proofs.Commanded.{of_each}
 
 module _ {K V A F C D Q B : Type 0} (S : Service K V A F C D Q B) where
@@ -121,4 +121,15 @@ module _ {K V A F C D Q B : Type 0} (S : Service K V A F C D Q B) where
       pub all_left :
           {R : Type 0} → OthersLeaveIt R S → (cells : List (Box (ClusterCell (Partition K V C N O E P X Y Z) (ControlCell R K V A F C D Q B)) G))
           (es : History S) (moment : ℕ) (d : D) (a : Reply S) → is_changed a ≡ false → AllStand S L cells es → AllStandWith S L cells es d moment a
-      all_left leave cells es moment d a same stand e is legal k b at = command_leaves leave k b.value es e moment d a same is legal (stand k b at)
+      all_left leave cells es moment d a same stand = record {
+        after = λ e is legal. record { each = λ k b at. command_leaves leave k b.value es e moment d a same is legal (stand.each k b at) };
+      }
+
+      -- with one that was carried out they stand with its entry
+      pub all_changed :
+          {R : Type 0} (cells : List (Box (ClusterCell (Partition K V C N O E P X Y Z) (ControlCell R K V A F C D Q B)) G)) (es : History S)
+          (moment : ℕ) (d : D) (told : B) → AllStandAfter S L cells es d moment → AllStandWith S L cells es d moment (Answer.Changed told)
+      all_changed cells es moment d told stand = record {
+        after = λ e is legal.
+            stand.after e record { moment_is = is.moment_is; message = is.message_is; told = told; answer = is.answer_is } legal;
+      }

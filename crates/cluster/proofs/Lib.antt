@@ -1,3 +1,5 @@
+pub mod Lists
+pub mod Handed
 pub mod Counting
 pub mod Serving
 pub mod Turning
@@ -8,3 +10,4 @@ pub mod Commanded
 pub mod Places
 pub mod Ways
 pub mod Answered
+pub mod OwnEntries

@@ -13,7 +13,7 @@ use Rattle.txn_core.specs.Legal.{IsAnswer, Allowed, sent_to}
 use Rattle.txn_core.specs.Cells.{of_cell}
 use Rattle.txn_core.proofs.Exports.{of_cell_reversed}
 use Rattle.partition.specs.declared.cell.Partition.{Partition}
-use Rattle.planned_changes.specs.Entries.{LocalEntries}
+use Rattle.index_changes.specs.Entries.{LocalEntries}
 use Rattle.control_cell.specs.declared.cell.ControlCell.{ControlCell}
 use Rattle.cluster.specs.declared.cell.ClusterCell.{ClusterCell}
 use Rattle.cluster.specs.Commanding.{AllStand, AllStandWith}
@@ -47,10 +47,10 @@ module _
   turned law n i used moment p taken turns m a v w cells numbered within sent is legal trail may timely stands now says leaves k x cell same =
       let some : 1 ≤ S.control = omega arith in
       let all : S.control < n = omega arith in
-      let answer = subst (λ t. IsAnswer S (reverse taken.front) t m a) now (says i (reverse taken.front) sent legal stands) in
+      let answer = subst (λ t. IsAnswer S (reverse taken.front) t m a) now (says.answers i (reverse taken.front) sent legal stands) in
       let fit = fits S law n used (Some i) p taken turns m a some all (λ j at. let one : i ≡ j = cc in omega arith) sent is legal trail may timely answer in
       let after =
-      leaves i (reverse taken.front) (event_of taken (Some i) m a) sent legal (follows S n taken.front (event_of taken (Some i) m a) fit)
+      leaves.stands i (reverse taken.front) (event_of taken (Some i) m a) sent legal (follows S n taken.front (event_of taken (Some i) m a) fit)
       record { moment_is = sym now; message_is = refl; answer_is = refl } stands in
       subst
       (λ (z : ℕ × Asked S).
@@ -71,4 +71,4 @@ module _
       let some : 1 ≤ S.control = omega arith in
       let all : S.control < n = omega arith in
       let fit = fits S law n used None p taken turns (Message.Command d) a some all (λ i at. absurd (cc)) refl is legal trail tt timely answer in
-      (fit, stand e record { moment_is = refl; message_is = refl; answer_is = refl } (legal, follows S n taken.front e fit))
+      (fit, stand.after e record { moment_is = refl; message_is = refl; answer_is = refl } (legal, follows S n taken.front e fit))

@@ -9,8 +9,8 @@ use Rattle.txn_core.specs.State.{State}
 use Rattle.txn_core.specs.Legal.{state, IsLegal}
 use Rattle.txn_core.specs.Cells.{of_cell, IsClearThere, IsFirstHolder}
 use Rattle.partition.specs.declared.cell.Partition.{Partition}
-use Rattle.planned_changes.specs.Entries.{LocalEntries}
-use Rattle.planned_changes.specs.declared.command_rules.TableChange.{TableChange}
+use Rattle.index_changes.specs.Entries.{LocalEntries}
+use Rattle.index_changes.specs.declared.command_rules.TableChange.{TableChange}
 use Rattle.partition.specs.Carrying.{IsCarriedOut}
 use Rattle.partition.specs.Plans.{IsPlanned}
 use Rattle.control_cell.specs.declared.cell.ControlCell.{ControlCell}
@@ -43,28 +43,28 @@ module _
     {R K V A F C D Q B N : Type 0} (S : Service K V A F C D Q B) (L : LocalEntries K V C N)
     {O : ord.Ghosts K} {E : eq.Ghosts K} {P : partial.Ghosts K} {X : ord.Ghosts N} {Y : eq.Ghosts N} {Z : partial.Ghosts N} where
   -- of all entries for which the cell stands, the plan is what their catalog says of the command
-  abbrev pub TellsPlan : ClusterCell (Partition K V C N O E P X Y Z) (ControlCell R K V A F C D Q B) → D → ℕ → CatalogPlan B C → Type 0
-  TellsPlan c d moment plan = (i : ℕ) (es : History S) → StandsFor S L i c es → IsPlan S (state S es).catalog d moment plan
+  pub record TellsPlan
+      (c : ClusterCell (Partition K V C N O E P X Y Z) (ControlCell R K V A F C D Q B)) (d : D) (moment : ℕ) (plan : CatalogPlan B C)
+      : Type 0 where
+    pub tells : (i : ℕ) (es : History S) → StandsFor S L i c es → IsPlan S (state S es).catalog d moment plan
 
   -- of a partition: and this is the least number of those that hold an item of the command's table in the cell
-  abbrev pub TellsHolding : ClusterCell (Partition K V C N O E P X Y Z) (ControlCell R K V A F C D Q B) → D → Option ℕ → Type 0
-  TellsHolding c d holder =
-      (i : ℕ) (es : History S) → i < S.control → StandsFor S L i c es
-      → MatchOption holder (IsClearThere S (state S es) d i) (λ n. IsFirstHolder S (state S es) d i n)
+  pub record TellsHolding (c : ClusterCell (Partition K V C N O E P X Y Z) (ControlCell R K V A F C D Q B)) (d : D) (holder : Option ℕ) : Type 0 where
+    pub tells :
+        (i : ℕ) (es : History S) → i < S.control → StandsFor S L i c es
+        → MatchOption holder (IsClearThere S (state S es) d i) (λ n. IsFirstHolder S (state S es) d i n)
 
   -- the value stands for all that it stood for
-  abbrev pub KeepsAll :
-      ClusterCell (Partition K V C N O E P X Y Z) (ControlCell R K V A F C D Q B) → ClusterCell (Partition K V C N O E P X Y Z) (ControlCell R K V A F C D Q B)
-      → Type 0
-  KeepsAll c d = (i : ℕ) (es : History S) → StandsFor S L i c es → StandsFor S L i d es
+  pub record KeepsAll (c d : ClusterCell (Partition K V C N O E P X Y Z) (ControlCell R K V A F C D Q B)) : Type 0 where
+    pub keeps : (i : ℕ) (es : History S) → StandsFor S L i c es → StandsFor S L i d es
 
   -- with this catalog the control cell stands with the entry of the command that makes it
-  abbrev pub TakesCatalog :
-      ClusterCell (Partition K V C N O E P X Y Z) (ControlCell R K V A F C D Q B) → ClusterCell (Partition K V C N O E P X Y Z) (ControlCell R K V A F C D Q B)
-      → ℕ → C → Type 0
-  TakesCatalog old new moment next =
-      (i : ℕ) (es : History S) (e : Event S) (d : D) → i ≡ S.control → next ≡ S.core.change d moment (own S es i).catalog → IsCarriedOut S moment d e
-      → IsLegal S (e ∷ es) → StandsFor S L i old (of_cell i es) → StandsFor S L i new (of_cell i (e ∷ es))
+  pub record TakesCatalog
+      (old new : ClusterCell (Partition K V C N O E P X Y Z) (ControlCell R K V A F C D Q B)) (moment : ℕ) (next : C)
+      : Type 0 where
+    pub takes :
+        (i : ℕ) (es : History S) (e : Event S) (d : D) → i ≡ S.control → next ≡ S.core.change d moment (own S es i).catalog
+        → IsCarriedOut S moment d e → IsLegal S (e ∷ es) → StandsFor S L i old (of_cell i es) → StandsFor S L i new (of_cell i (e ∷ es))
 
   module _ (target : D → C → TableChange) (numbers : C → ℕ → List ℕ) where
     -- the cell i, where it is a partition, has planned the command
@@ -73,39 +73,41 @@ module _
     HasPlanned i (ClusterCell.Control c) d moment = Unit {0}
 
     -- a partition that had planned a command stands with the command's entry
-    abbrev pub CarriesPlanned :
-        ClusterCell (Partition K V C N O E P X Y Z) (ControlCell R K V A F C D Q B)
-        → ClusterCell (Partition K V C N O E P X Y Z) (ControlCell R K V A F C D Q B)
-        → ℕ → Type 0
-    CarriesPlanned old new moment =
-        (i : ℕ) (es : History S) (e : Event S) (d : D) → i < S.control → HasPlanned i old d moment → IsCarriedOut S moment d e
-        → IsLegal S (e ∷ es) → StandsFor S L i old (of_cell i es) → StandsFor S L i new (of_cell i (e ∷ es))
+    pub record CarriesPlanned (old new : ClusterCell (Partition K V C N O E P X Y Z) (ControlCell R K V A F C D Q B)) (moment : ℕ) : Type 0 where
+      pub carries :
+          (i : ℕ) (es : History S) (e : Event S) (d : D) → i < S.control → HasPlanned i old d moment → IsCarriedOut S moment d e
+          → IsLegal S (e ∷ es) → StandsFor S L i old (of_cell i es) → StandsFor S L i new (of_cell i (e ∷ es))
 
   module _ {G : Type 0} where
     -- each cell stands for its entries of the history
-    abbrev pub AllStand : List (Box (ClusterCell (Partition K V C N O E P X Y Z) (ControlCell R K V A F C D Q B)) G) → History S → Type 0
-    AllStand cells es = EachSo cells (λ i b. StandsFor S L i b.value (of_cell i es))
+    pub record AllStand (cells : List (Box (ClusterCell (Partition K V C N O E P X Y Z) (ControlCell R K V A F C D Q B)) G)) (es : History S) : Type 0 where
+      pub each : EachSo cells (λ i b. StandsFor S L i b.value (of_cell i es))
 
     -- each does so with each entry that carries the command out
-    abbrev pub AllStandAfter : List (Box (ClusterCell (Partition K V C N O E P X Y Z) (ControlCell R K V A F C D Q B)) G) → History S → D → ℕ → Type 0
-    AllStandAfter cells es d moment = (e : Event S) → IsCarriedOut S moment d e → IsLegal S (e ∷ es) → AllStand cells (e ∷ es)
+    pub record AllStandAfter
+        (cells : List (Box (ClusterCell (Partition K V C N O E P X Y Z) (ControlCell R K V A F C D Q B)) G)) (es : History S) (d : D) (moment : ℕ)
+        : Type 0 where
+      pub after : (e : Event S) → IsCarriedOut S moment d e → IsLegal S (e ∷ es) → AllStand cells (e ∷ es)
 
     -- each does so with the command's entry of this answer
-    abbrev pub AllStandWith : List (Box (ClusterCell (Partition K V C N O E P X Y Z) (ControlCell R K V A F C D Q B)) G) → History S → D → ℕ → Reply S → Type 0
-    AllStandWith cells es d moment a =
-        (e : Event S) → IsEntry S moment (Message.Command d) a e → IsLegal S (e ∷ es) → AllStand cells (e ∷ es)
+    pub record AllStandWith
+        (cells : List (Box (ClusterCell (Partition K V C N O E P X Y Z) (ControlCell R K V A F C D Q B)) G)) (es : History S) (d : D) (moment : ℕ)
+        (a : Reply S)
+        : Type 0 where
+      pub after : (e : Event S) → IsEntry S moment (Message.Command d) a e → IsLegal S (e ∷ es) → AllStand cells (e ∷ es)
 
     module _ (target : D → C → TableChange) (numbers : C → ℕ → List ℕ) where
       -- the cells before the k-th have planned the command
-      abbrev pub PlannedBefore : ℕ → List (Box (ClusterCell (Partition K V C N O E P X Y Z) (ControlCell R K V A F C D Q B)) G) → D → ℕ → Type 0
-      PlannedBefore k cells d moment = EachSo cells (λ i b. i < k → HasPlanned target numbers i b.value d moment)
+      pub record PlannedBefore
+          (k : ℕ) (cells : List (Box (ClusterCell (Partition K V C N O E P X Y Z) (ControlCell R K V A F C D Q B)) G)) (d : D) (moment : ℕ)
+          : Type 0 where
+        pub each : EachSo cells (λ i b. i < k → HasPlanned target numbers i b.value d moment)
 
       -- the cells before the k-th stand with each entry that carries the command out, the others for their entries before it,
       -- with the command planned
-      abbrev pub CarriedBefore :
-          ℕ → List (Box (ClusterCell (Partition K V C N O E P X Y Z) (ControlCell R K V A F C D Q B)) G) → History S → D → ℕ → Type 0
-      CarriedBefore k cells es d moment =
-          EachSo cells
-          (λ i b.
-          (i < k → (e : Event S) → IsCarriedOut S moment d e → IsLegal S (e ∷ es) → StandsFor S L i b.value (of_cell i (e ∷ es)))
-          × (k ≤ i → StandsFor S L i b.value (of_cell i es) × HasPlanned target numbers i b.value d moment))
+      pub record CarriedBefore
+          (k : ℕ) (cells : List (Box (ClusterCell (Partition K V C N O E P X Y Z) (ControlCell R K V A F C D Q B)) G)) (es : History S) (d : D) (moment : ℕ)
+          : Type 0 where
+        pub carried :
+            EachSo cells (λ i b. i < k → (e : Event S) → IsCarriedOut S moment d e → IsLegal S (e ∷ es) → StandsFor S L i b.value (of_cell i (e ∷ es)))
+        pub ready : EachSo cells (λ i b. k ≤ i → StandsFor S L i b.value (of_cell i es) × HasPlanned target numbers i b.value d moment)

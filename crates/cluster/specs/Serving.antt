@@ -7,7 +7,7 @@ use Rattle.txn_core.specs.Service.{Service, Asked, Reply, Event, History}
 use Rattle.txn_core.specs.Legal.{IsAnswer, sent_to, Follows, IsLegal}
 use Rattle.txn_core.specs.Cells.{of_cell}
 use Rattle.partition.specs.declared.cell.Partition.{Partition}
-use Rattle.planned_changes.specs.Entries.{LocalEntries}
+use Rattle.index_changes.specs.Entries.{LocalEntries}
 use Rattle.partition.specs.Steps.{is_served}
 use Rattle.control_cell.specs.declared.cell.ControlCell.{ControlCell}
 use Rattle.control_cell.specs.Holding.{IsEntry, goes_to_control}
@@ -32,20 +32,20 @@ module _
     {R K V A F C D Q B N : Type 0} (S : Service K V A F C D Q B) (L : LocalEntries K V C N)
     {O : ord.Ghosts K} {E : eq.Ghosts K} {P : partial.Ghosts K} {X : ord.Ghosts N} {Y : eq.Ghosts N} {Z : partial.Ghosts N} where
   -- of every legal history of whose entries at the cell the value is made, the answer is that history's
-  abbrev pub ServeAnswers : ClusterCell (Partition K V C N O E P X Y Z) (ControlCell R K V A F C D Q B) → Asked S → ℕ → Reply S → Type 0
-  ServeAnswers c m moment a =
-      (i : ℕ) (es : History S) → sent_to S m ≡ Some i → IsLegal S es → StandsFor S L i c (of_cell i es) → IsAnswer S es moment m a
+  pub record ServeAnswers
+      (c : ClusterCell (Partition K V C N O E P X Y Z) (ControlCell R K V A F C D Q B)) (m : Asked S) (moment : ℕ) (a : Reply S)
+      : Type 0 where
+    pub answers :
+        (i : ℕ) (es : History S) → sent_to S m ≡ Some i → IsLegal S es → StandsFor S L i c (of_cell i es) → IsAnswer S es moment m a
 
   -- and the value afterwards is made of these and the message's entry, where that may follow
-  abbrev pub ServeStands :
-      ClusterCell (Partition K V C N O E P X Y Z) (ControlCell R K V A F C D Q B) → ClusterCell (Partition K V C N O E P X Y Z) (ControlCell R K V A F C D Q B)
-      → Asked S → ℕ → Reply S → Type 0
-  ServeStands c d m moment a =
-      (i : ℕ) (es : History S) (e : Event S) → sent_to S m ≡ Some i → IsLegal S es → Follows S es e → IsEntry S moment m a e
-      → StandsFor S L i c (of_cell i es) → StandsFor S L i d (e ∷ of_cell i es)
+  pub record ServeStands
+      (c d : ClusterCell (Partition K V C N O E P X Y Z) (ControlCell R K V A F C D Q B)) (m : Asked S) (moment : ℕ) (a : Reply S)
+      : Type 0 where
+    pub stands :
+        (i : ℕ) (es : History S) (e : Event S) → sent_to S m ≡ Some i → IsLegal S es → Follows S es e → IsEntry S moment m a e
+        → StandsFor S L i c (of_cell i es) → StandsFor S L i d (e ∷ of_cell i es)
 
   -- the value afterwards is made of the same entries
-  abbrev pub ServeKeeps :
-      ClusterCell (Partition K V C N O E P X Y Z) (ControlCell R K V A F C D Q B) → ClusterCell (Partition K V C N O E P X Y Z) (ControlCell R K V A F C D Q B)
-      → Asked S → Type 0
-  ServeKeeps c d m = (i : ℕ) (es : History S) → sent_to S m ≡ Some i → StandsFor S L i c es → StandsFor S L i d es
+  pub record ServeKeeps (c d : ClusterCell (Partition K V C N O E P X Y Z) (ControlCell R K V A F C D Q B)) (m : Asked S) : Type 0 where
+    pub keeps : (i : ℕ) (es : History S) → sent_to S m ≡ Some i → StandsFor S L i c es → StandsFor S L i d es

@@ -5,7 +5,7 @@ use Rattle.std.specs.declared.cmp.PartialEq as eq
 use Rattle.std.specs.declared.cmp.PartialOrd as partial
 use Rattle.txn_core.specs.Service.{Service, History}
 use Rattle.partition.specs.declared.cell.Partition.{Partition}
-use Rattle.planned_changes.specs.Entries.{LocalEntries}
+use Rattle.index_changes.specs.Entries.{LocalEntries}
 use Rattle.partition.specs.InStep.{IsInStep}
 use Rattle.partition.specs.Says.{Stands}
 use Rattle.control_cell.specs.declared.cell.ControlCell.{ControlCell}

@@ -7,6 +7,9 @@
 //!   message and its answer at the pass's moment, at the end of a history that is legal by the protocol of transactions
 //!   (`txn_core`), and in which others' entries alone came in since the pass looked last. So the laws of `txn_core` hold of what
 //!   the pass has then seen. Where they answer an error they add nothing.
+//! - [`ask`] and [`ask_ledger`] say the same for calls of several messages: which entries the pass counted, in order, all of them at its
+//!   moment, and how many units they took (`specs/Counts.antt`). A message is not answered for want of a unit exactly where none is
+//!   left, and then nothing changes; one that takes no memory never for want of memory.
 //! - [`Cluster::meet`] lets two passes see what the other had seen, and [`Cluster::close`] gives the cells after the one history
 //!   that begins with what each pass has seen.
 //!
@@ -15,6 +18,7 @@
 
 mod all;
 mod answering;
+mod asking;
 mod cell;
 mod closing;
 mod cluster;
@@ -25,6 +29,7 @@ mod start;
 mod step;
 mod world;
 
+pub use asking::{ask, ask_ledger};
 pub use cell::{CellOf, ClusterCell};
 pub use closing::Cells;
 pub use cluster::Cluster;

@@ -1,8 +1,10 @@
-//! Tests of a cluster: threads on partitions of the shop, commands, and transactions.
+//! Tests of a cluster of the shop: threads, commands, transactions, and what was left of them.
 #![tactic(auto)]
 
 #[cfg(test)]
 mod commands;
+#[cfg(test)]
+mod ends;
 #[cfg(test)]
 mod gates;
 #[cfg(test)]
@@ -10,16 +12,8 @@ mod orders;
 #[cfg(test)]
 mod reads;
 #[cfg(test)]
-mod recorded;
-#[cfg(test)]
 mod stops;
-#[cfg(test)]
-mod tape;
-#[cfg(test)]
-mod told;
 #[cfg(test)]
 mod transactions;
 #[cfg(test)]
 mod transfers;
-#[cfg(test)]
-mod turns;

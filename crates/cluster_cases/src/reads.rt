@@ -2,7 +2,7 @@
 
 ghost use Rattle.std.specs.Prelude.{◌≡◌, [], ◌∷◌, IfOk};
 
-use crate::commands::{Said, command};
+use crate::commands::command;
 use base_types::Seq;
 use case_rules::{Action, Command, Condition, Deed, Item, Key, Name, Shop};
 use cluster::{Cluster, TableWorld};
@@ -89,10 +89,10 @@ fn key_of(item: (Name, u64)) -> Key {
 }
 
 /// What is told of a command.
-fn changed(said: Said) -> Became {
-    match said {
-        Said::Changed(_) => Became::Done,
-        _ => Became::Else,
+fn changed(number: Option<u64>) -> Became {
+    match number {
+        Some(_) => Became::Done,
+        None => Became::Else,
     }
 }
 

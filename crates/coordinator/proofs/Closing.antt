@@ -18,8 +18,8 @@ use Rattle.txn_core.specs.Serial.{begun_actions}
 use Rattle.txn_core.specs.Service.{Service, IsServiceLawful, Event, History}
 use Rattle.txn_core.proofs.Exports.{beginning_is_tail, begun_stays, had_stays, left, ended as course_ended, reasons_recalled}
 use Rattle.cluster.specs.declared.step.StepError.{StepError}
-use Rattle.own_entries.proofs.Counting.{counts_none}
-use Rattle.own_entries.proofs.Lists.{any_back, any_front, each_append}
+use Rattle.cluster.proofs.OwnEntries.{counts_none}
+use Rattle.cluster.proofs.Lists.{any_back, any_front, each_append}
 use Rattle.cluster.specs.Events.{event_of}
 use Rattle.coordinator.specs.declared.driver.Driver.{Driver}
 use Rattle.coordinator.specs.declared.drive_end.DriveEnd.{DriveEnd}

@@ -21,7 +21,7 @@ use Rattle.cluster.specs.Events.{pass_of, event_of}
 use Rattle.cluster.specs.Steps.{IsLater}
 use Rattle.coordinator.specs.Driving.{is_driving, is_done, finds_none, AllDrive, found_none, sent_done}
 use Rattle.coordinator.specs.Writes.{IsDrawn, IsOwn}
-use Rattle.own_entries.proofs.Lists.{any_back}
+use Rattle.cluster.proofs.Lists.{any_back}
 use Rattle.coordinator.proofs.Driven.{any_last, none_both}
 use Rattle.coordinator.proofs.Recalled.{never_gone}
 

@@ -15,9 +15,9 @@ use Rattle.txn_core.specs.Serial.{begun_actions}
 use Rattle.txn_core.specs.Legal.{prepares}
 use Rattle.txn_core.specs.Service.{Service, Event, History}
 use Rattle.cluster.specs.declared.step.StepError.{StepError}
-use Rattle.own_entries.specs.Counts.{Counts, CountsUntil}
-use Rattle.own_entries.proofs.Counting.{counts_none, counts_on, counts_until}
-use Rattle.own_entries.proofs.Lists.{any_back, any_front, each_append}
+use Rattle.cluster.specs.Counts.{Counts, CountsUntil}
+use Rattle.cluster.proofs.OwnEntries.{counts_none, counts_on, counts_until}
+use Rattle.cluster.proofs.Lists.{any_back, any_front, each_append}
 use Rattle.coordinator.specs.declared.driver.Driver.{Driver}
 use Rattle.coordinator.specs.Driving.{is_gone, is_driving, is_ending, is_done, finds_none, IsNext, AllDrive, found_none, ended, sent_done, FoundGone, IsDriver, DrivenBy, Advances, Fails}
 

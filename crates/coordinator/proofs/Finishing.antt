@@ -22,7 +22,7 @@ use Rattle.turnstile.specs.Passes.{PassView}
 use Rattle.partition.specs.Steps.{is_served}
 use Rattle.cluster.specs.Events.{event_of}
 use Rattle.cluster.specs.Steps.{IsLater}
-use Rattle.own_entries.specs.Counts.{Counts}
+use Rattle.cluster.specs.Counts.{Counts}
 use Rattle.coordinator.specs.declared.driver.Driver.{Driver}
 use Rattle.coordinator.specs.Driving.{is_gone, is_driving, is_done, finds_none, last_message, last_move, IsDriver, IsNext, DrivenBy, Advances}
 use Rattle.coordinator.proofs.Deciding.{last_within, no_cancel}

@@ -24,7 +24,7 @@ use Rattle.txn_core.proofs.Exports.{begun_stays, told_stays, reasons_stay, prepa
 use Rattle.txn_core.proofs.Drives.{prepare_next}
 use Rattle.turnstile.specs.Passes.{PassView}
 use Rattle.cluster.specs.declared.step.StepError.{StepError}
-use Rattle.own_entries.specs.Counts.{Counts}
+use Rattle.cluster.specs.Counts.{Counts}
 use Rattle.cluster.specs.Events.{event_of}
 use Rattle.cluster.specs.Steps.{IsLater}
 use Rattle.coordinator.specs.declared.driver.Driver.{Driver}

@@ -5,7 +5,7 @@ use Rattle.std.proofs.lemmas.List.Folds.{list_any-append}
 use Rattle.turnstile.specs.Passes.{PassView}
 use Rattle.txn_core.specs.declared.message.Message.{Message}
 use Rattle.txn_core.specs.Service.{Service, Asked, Event}
-use Rattle.own_entries.proofs.Lists.{any_back, any_front}
+use Rattle.cluster.proofs.Lists.{any_back, any_front}
 use Rattle.coordinator.specs.declared.drive_end.DriveEnd.{DriveEnd}
 use Rattle.coordinator.specs.Driving.{is_driving, is_ending, is_done, finds_none, AllDrive, found_none, ended, sent_done}
 use Rattle.coordinator.specs.Drives.{IsEnd, LeavesNoneDecided}

@@ -1,3 +1,4 @@
+pub mod Stopping
 pub mod Moving
 pub mod Driven
 pub mod Knowing

@@ -6,8 +6,8 @@ use Rattle.turnstile.proofs.Histories.{trail_on}
 use Rattle.txn_core.specs.Service.{Service, Event}
 use Rattle.cluster.specs.declared.step.StepError.{StepError}
 use Rattle.cluster.specs.Events.{pass_of}
-use Rattle.own_entries.specs.Counts.{Counts, CountsUntil}
-use Rattle.own_entries.proofs.Counting.{all_at_on}
+use Rattle.cluster.specs.Counts.{Counts, CountsUntil}
+use Rattle.cluster.proofs.OwnEntries.{all_at_on}
 use Rattle.coordinator.specs.Driving.{Added}
 
 module _ {K V A F C D Q B : Type 0} (S : Service K V A F C D Q B) where

@@ -16,9 +16,9 @@ use Rattle.cluster.specs.declared.step.StepError.{StepError}
 use Rattle.txn_core.proofs.Exports.{beginning_is_tail, had_more, repeats_are_done}
 use Rattle.cluster.specs.Steps.{IsLater}
 use Rattle.cluster.specs.Events.{pass_of, event_of}
-use Rattle.own_entries.specs.Counts.{Counts, CountsUntil}
-use Rattle.own_entries.proofs.Counting.{all_at_on, counts_none}
-use Rattle.own_entries.proofs.Lists.{any_back, any_front, each_append}
+use Rattle.cluster.specs.Counts.{Counts, CountsUntil}
+use Rattle.cluster.proofs.OwnEntries.{all_at_on, counts_none}
+use Rattle.cluster.proofs.Lists.{any_back, any_front, each_append}
 use Rattle.coordinator.specs.declared.drive_end.DriveEnd.{DriveEnd}
 use Rattle.coordinator.specs.declared.transact_end.TransactEnd.{TransactEnd}
 use Rattle.coordinator.specs.Driving.{is_driving, is_done, Added, AllDrive, ended}

@@ -21,7 +21,7 @@ use Rattle.txn_core.specs.Service.{Service, Event, History}
 use Rattle.cluster.specs.Events.{pass_of, event_of}
 use Rattle.cluster.specs.Steps.{IsLater}
 use Rattle.cluster.specs.declared.step.StepError.{StepError}
-use Rattle.own_entries.specs.Counts.{AllAt, Counts, CountsUntil}
+use Rattle.cluster.specs.Counts.{AllAt, Counts, CountsUntil}
 use Rattle.coordinator.specs.declared.driver.Driver.{Driver}
 use Rattle.coordinator.specs.declared.record.Record.{Record}
 

@@ -17,7 +17,7 @@ use Rattle.txn_core.specs.Service.{Service, Asked, Reply, Event, History}
 use Rattle.cluster.specs.declared.step.StepError.{StepError}
 use Rattle.cluster.specs.Events.{event_of}
 use Rattle.cluster.specs.Steps.{IsLater}
-use Rattle.own_entries.specs.Counts.{Counts, CountsUntil}
+use Rattle.cluster.specs.Counts.{Counts, CountsUntil}
 use Rattle.coordinator.specs.declared.driver.Driver.{Driver}
 use Rattle.coordinator.specs.declared.drive_end.DriveEnd.{DriveEnd}
 use Rattle.coordinator.specs.declared.transact_end.TransactEnd.{TransactEnd}
@@ -154,6 +154,10 @@ module _ {K V A F C D Q B : Type 0} (S : Service K V A F C D Q B) where
     -- such a Begin, and what came of it: the end, or none where the number that it named as running was found gone
     abbrev pub Turns : PassView (Event S) → Option (TransactEnd V F) → PassView (Event S) → Type 0
     Turns p end q = Answered p end q ⊎ ((why : StepError) × CountsUntil S p [] why q × (end ≡ Some (unanswered why)))
+
+    -- so, under a name that does not unfold
+    pub record TakesTurn (p : PassView (Event S)) (end : Option (TransactEnd V F)) (q : PassView (Event S)) : Type 0 where
+      pub turn : Turns p end q
 
     -- so many times it was found gone
     abbrev pub TurnsAgain : PassView (Event S) → ℕ → PassView (Event S) → Type 0

@@ -13,8 +13,7 @@ ghost use Rattle.coordinator.specs.Driving.{Advances, Fails, IsDriver, IsNext};
 
 use crate::driver::DriverOf;
 use base_types::Seq;
-use cluster::{Cluster, StepError, TableWorld};
-use own_entries::ask_ledger;
+use cluster::{Cluster, StepError, TableWorld, ask_ledger};
 use partition::PageRules;
 use std::alloc::Global;
 use std::mem;

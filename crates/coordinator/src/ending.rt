@@ -9,8 +9,7 @@ ghost use Rattle.cluster.specs.declared.step.StepError.{StepError};
 ghost use Rattle.coordinator.specs.Driving.{Advances, Fails, IsDriver, IsNext, last_message, last_move};
 
 use crate::driver::DriverOf;
-use cluster::{Cluster, StepError, TableWorld};
-use own_entries::{ask, ask_ledger};
+use cluster::{Cluster, StepError, TableWorld, ask, ask_ledger};
 use partition::PageRules;
 use std::alloc::Global;
 use std::sync::Wait;

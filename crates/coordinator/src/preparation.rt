@@ -1,6 +1,6 @@
 //! The step that asks for the acceptance of an action.
 
-ghost use Rattle.std.specs.Prelude.{◌≡◌, ◌↔◌, ◌<◌, Some, [], length, reverse, slice_get, IfErr, IfOk, OnOk, Err};
+ghost use Rattle.std.specs.Prelude.{◌≡◌, ◌≢◌, ◌↔◌, ◌<◌, Some, [], length, reverse, slice_get, IfErr, IfOk, OnOk, Err};
 ghost use Rattle.turnstile.specs.Passes.{most_units};
 ghost use Rattle.txn_core.specs.declared.course.Move.{Move};
 ghost use Rattle.txn_core.specs.Driver.{course_left};
@@ -11,8 +11,7 @@ ghost use Rattle.coordinator.specs.Driving.{Advances, Fails, IsDriver, IsNext};
 use crate::driver::DriverOf;
 use crate::reasons::make_ready;
 use crate::verdict::note;
-use cluster::{Cluster, StepError, TableWorld};
-use own_entries::ask;
+use cluster::{Cluster, StepError, TableWorld, ask};
 use partition::PageRules;
 use std::alloc::{AllocError as NoMemory, Global};
 use std::sync::Wait;
@@ -32,6 +31,43 @@ fn copy_of_action<R: Rules>(
         unreachable!()
     };
     R::copy_of_action(alloc, action)
+}
+
+// Asks for the acceptance, where a unit is left for it.
+fn ask_acceptance<R: PageRules, T: Wait>(
+    cluster: &Cluster<R>,
+    rt: &T,
+    alloc: Global,
+    pass: &mut Pass<TableWorld<R>>,
+    driver: &mut DriverOf<R>,
+    place: u32,
+) -> Result<(), StepError>
+where
+    R::Fault: Copy,
+    requires of { pass.old.turnstile ≡ cluster.now.id }
+    requires free { pass.old.turns ≡ [] }
+    requires unit { pass.old.used < most_units }
+    requires driver { IsDriver (R.protocol (partitions_of cluster.now)) (reverse pass.old.front) driver.old }
+    requires next { IsNext driver.old.course (Move.Prepare place) }
+    ensures ok { OnOk result (Advances (R.protocol (partitions_of cluster.now)) pass.old driver.old pass.new driver.new) }
+    ensures less { OnOk result (course_left driver.new.course < course_left driver.old.course) }
+    ensures err { IfErr result (λ error. Fails (R.protocol (partitions_of cluster.now)) pass.old driver.old error pass.new) }
+    ensures not_spent { result ≢ Err StepError.Spent }
+{
+    cluster.facts(pass);
+    let action = copy_of_action::<R>(alloc, driver, place)?;
+    let cell = cluster.cell_of(R::key_of(&action));
+    let number = driver.number;
+    let stamp = driver.stamp;
+    let message = Message::Prepare {
+        number,
+        stamp,
+        action,
+    };
+    let answer = ask(cluster, rt, alloc, pass, cell, message)?;
+    note::<R>(driver, place, answer)?;
+    make_ready::<R>(alloc, driver)?;
+    Ok(())
 }
 
 /// Asks the cell of the item of the action at a place to accept the action, where that comes next. After the last one that was
@@ -55,21 +91,8 @@ where
     ensures err { IfErr result (λ error. Fails (R.protocol (partitions_of cluster.now)) pass.old driver.old error pass.new) }
     ensures spent { result ≡ Err StepError.Spent ↔ (pass.old.used ≡ most_units) }
 {
-    cluster.facts(pass);
     if pass.left() == 0 {
         return Err(StepError::Spent);
     }
-    let action = copy_of_action::<R>(alloc, driver, place)?;
-    let cell = cluster.cell_of(R::key_of(&action));
-    let number = driver.number;
-    let stamp = driver.stamp;
-    let message = Message::Prepare {
-        number,
-        stamp,
-        action,
-    };
-    let answer = ask(cluster, rt, alloc, pass, cell, message)?;
-    note::<R>(driver, place, answer)?;
-    make_ready::<R>(alloc, driver)?;
-    Ok(())
+    ask_acceptance(cluster, rt, alloc, pass, driver, place)
 }

@@ -9,8 +9,7 @@ ghost use Rattle.coordinator.specs.Driving.{Begins, FindsNone, Misses, Recalls};
 
 use crate::driver::{Driver, DriverOf};
 use base_types::Seq;
-use cluster::{Cluster, StepError, TableWorld};
-use own_entries::ask_ledger;
+use cluster::{Cluster, StepError, TableWorld, ask_ledger};
 use partition::PageRules;
 use std::alloc::Global;
 use std::collections::VecDeque;

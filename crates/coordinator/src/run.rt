@@ -9,6 +9,7 @@ ghost use Rattle.txn_core.specs.Driver.{course_left};
 ghost use Rattle.cluster.specs.Steps.{partitions_of};
 ghost use Rattle.coordinator.specs.Driving.{Advances, Fails, IsDriver, IsNext, is_gone};
 ghost use Rattle.coordinator.specs.Drives.{Drives, Ends};
+ghost use Rattle.coordinator.specs.Stops.{Stops};
 ghost use Rattle.coordinator.specs.declared.drive_end.DriveEnd.{DriveEnd};
 
 use crate::course::advance;
@@ -27,9 +28,7 @@ use txn_core::Fate;
 fn pace_at<A, V, F, G: Gate>(driver: &Driver<A, V, F>, gate: &mut G, point: Point) -> Pace
     ensures asked { is_gone driver.now.fate ≡ false → G.passes gate.old point result gate.new }
     ensures gone { is_gone driver.now.fate ≡ true → (result ≡ Pace.Go) × (gate.new ≡ gate.old) }
-    ensures stopped { result ≡ Pace.Stop → Rose (G.stops gate.old) (G.stops gate.new) }
-    ensures later { G.stops gate.old ≤ G.stops gate.new }
-    ensures obeyed { result ≢ Pace.Stop → G.stops gate.new ≡ G.stops gate.old }
+    ensures gate { Stops (result ≡ Pace.Stop) (G.stops gate.old) (G.stops gate.new) }
 {
     if matches!(driver.fate, Fate::Gone) {
         return Pace::Go;
@@ -53,10 +52,8 @@ where
     requires driver { IsDriver (R.protocol (partitions_of cluster.now)) (reverse pass.old.front) driver.old }
     ensures ok { OnOk result (Advances (R.protocol (partitions_of cluster.now)) pass.old driver.old pass.new driver.new) }
     ensures ended { IfOk result (λ pace. pace ≡ Pace.Go → IsNext driver.new.course Move.End) }
-    ensures stopped { IfOk result (λ pace. pace ≡ Pace.Stop → Rose (G.stops gate.old) (G.stops gate.new)) }
     ensures there { IfOk result (λ pace. pace ≡ Pace.Stop → is_gone driver.new.fate ≡ false) }
-    ensures later { G.stops gate.old ≤ G.stops gate.new }
-    ensures obeyed { result ≢ Ok Pace.Stop → G.stops gate.new ≡ G.stops gate.old }
+    ensures gate { Stops (result ≡ Ok Pace.Stop) (G.stops gate.old) (G.stops gate.new) }
     ensures err { IfErr result (λ error. Fails (R.protocol (partitions_of cluster.now)) pass.old driver.old error pass.new) }
 {
     while let Some(point) = advance(cluster, rt, alloc, pass, driver)? {
@@ -157,9 +154,7 @@ where
     requires free { pass.old.turns ≡ [] }
     requires driver { IsDriver (R.protocol (partitions_of cluster.now)) (reverse pass.old.front) driver }
     ensures ends { Ends (R.protocol (partitions_of cluster.now)) (course_left driver.course + 1) pass.old driver pass.new result }
-    ensures stopped { result ≡ DriveEnd.Stopped → Rose (G.stops gate.old) (G.stops gate.new) }
-    ensures later { G.stops gate.old ≤ G.stops gate.new }
-    ensures obeyed { result ≢ DriveEnd.Stopped → G.stops gate.new ≡ G.stops gate.old }
+    ensures gate { Stops (result ≡ DriveEnd.Stopped) (G.stops gate.old) (G.stops gate.new) }
 {
     let pace = match take_steps(cluster, rt, alloc, pass, &mut driver, gate) {
         Ok(pace) => pace,

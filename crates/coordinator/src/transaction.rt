@@ -9,7 +9,8 @@ ghost use Rattle.txn_core.specs.declared.stamp.Stamp.{Stamp};
 ghost use Rattle.txn_core.specs.History.{Had, finishes};
 ghost use Rattle.txn_core.specs.Replay.{are_apart};
 ghost use Rattle.cluster.specs.Steps.{partitions_of};
-ghost use Rattle.coordinator.specs.Writes.{AddsWriting, answers_begin, AreWritable, Follows, Forgets, IsDrawn, IsOwn, RunsDrawn, Turns, Writes};
+ghost use Rattle.coordinator.specs.Stops.{Stops};
+ghost use Rattle.coordinator.specs.Writes.{AddsWriting, answers_begin, AreWritable, Follows, Forgets, IsDrawn, IsOwn, RunsDrawn, TakesTurn, Writes};
 ghost use Rattle.coordinator.specs.declared.drive_end.DriveEnd.{DriveEnd};
 ghost use Rattle.coordinator.specs.declared.transact_end.TransactEnd.{TransactEnd};
 
@@ -20,9 +21,8 @@ use crate::parameters::begin_message;
 use crate::run::{drive, drive_on};
 use crate::transact_end::{TransactEnd, TransactEndOf, ended_by, is_over, unanswered};
 use base_types::{Seq, Text};
-use cluster::{Cluster, TableWorld};
+use cluster::{Cluster, TableWorld, ask_ledger};
 use ddb_outside::{Gate, Pace, Point};
-use own_entries::ask_ledger;
 use partition::PageRules;
 use std::alloc::Global;
 use std::sync::Wait;
@@ -68,9 +68,7 @@ where
     requires few { length actions ≤ 100 }
     requires drawn { IsDrawn (R.protocol (partitions_of cluster.now)) pass.old number stamp actions }
     ensures runs { RunsDrawn (R.protocol (partitions_of cluster.now)) number stamp actions pass.old result pass.new }
-    ensures stopped { result ≡ DriveEnd.Stopped → Rose (G.stops gate.old) (G.stops gate.new) }
-    ensures later { G.stops gate.old ≤ G.stops gate.new }
-    ensures obeyed { result ≢ DriveEnd.Stopped → G.stops gate.new ≡ G.stops gate.old }
+    ensures gate { Stops (result ≡ DriveEnd.Stopped) (G.stops gate.old) (G.stops gate.new) }
 {
     match gate.pass_point(Point::AfterBegin) {
         Pace::Go => {}
@@ -106,9 +104,7 @@ where
     requires drawn { (number : ℕ) (stamp : Stamp) → answer ≡ Answer.Begun number stamp
         → IsDrawn (R.protocol (partitions_of cluster.now)) pass.old number stamp actions }
     ensures follows { Follows (R.protocol (partitions_of cluster.now)) actions answer pass.old result pass.new }
-    ensures stopped { result ≡ Some TransactEnd.Stopped → Rose (G.stops gate.old) (G.stops gate.new) }
-    ensures later { G.stops gate.old ≤ G.stops gate.new }
-    ensures obeyed { result ≢ Some TransactEnd.Stopped → G.stops gate.new ≡ G.stops gate.old }
+    ensures gate { Stops (result ≡ Some TransactEnd.Stopped) (G.stops gate.old) (G.stops gate.new) }
 {
     match answer {
         Answer::Begun { number, stamp } => ended_by(run_drawn(
@@ -137,10 +133,8 @@ where
     requires of { pass.old.turnstile ≡ cluster.now.id }
     requires free { pass.old.turns ≡ [] }
     requires actions { AreWritable (R.protocol (partitions_of cluster.now)) actions.now }
-    ensures turns { Turns (R.protocol (partitions_of cluster.now)) (option_copied token.entry) actions.now pass.old result pass.new }
-    ensures stopped { result ≡ Some TransactEnd.Stopped → Rose (G.stops gate.old) (G.stops gate.new) }
-    ensures later { G.stops gate.old ≤ G.stops gate.new }
-    ensures obeyed { result ≢ Some TransactEnd.Stopped → G.stops gate.new ≡ G.stops gate.old }
+    ensures turns { TakesTurn (R.protocol (partitions_of cluster.now)) (option_copied token.entry) actions.now pass.old result pass.new }
+    ensures gate { Stops (result ≡ Some TransactEnd.Stopped) (G.stops gate.old) (G.stops gate.new) }
 {
     // Both copies are made before anything is begun.
     let Ok(own) = copy_of_actions::<R>(alloc, actions) else {
@@ -170,11 +164,9 @@ where
     requires of { pass.old.turnstile ≡ cluster.now.id }
     requires free { pass.old.turns ≡ [] }
     requires actions { AreWritable (R.protocol (partitions_of cluster.now)) actions.now }
-    ensures turns { Turns (R.protocol (partitions_of cluster.now)) (option_copied token.entry) actions.now pass.old result pass.new }
+    ensures turns { TakesTurn (R.protocol (partitions_of cluster.now)) (option_copied token.entry) actions.now pass.old result pass.new }
     ensures budget { pass.new.used ≤ most_units }
-    ensures stopped { result ≡ Some TransactEnd.Stopped → Rose (G.stops gate.old) (G.stops gate.new) }
-    ensures later { G.stops gate.old ≤ G.stops gate.new }
-    ensures obeyed { result ≢ Some TransactEnd.Stopped → G.stops gate.new ≡ G.stops gate.old }
+    ensures gate { Stops (result ≡ Some TransactEnd.Stopped) (G.stops gate.old) (G.stops gate.new) }
 {
     let end = begin(cluster, rt, alloc, pass, token, actions, gate);
     cluster.facts(pass);
@@ -197,8 +189,7 @@ where
     requires free { pass.old.turns ≡ [] }
     requires actions { AreWritable (R.protocol (partitions_of cluster.now)) actions.now }
     ensures writes { Writes (R.protocol (partitions_of cluster.now)) (option_copied token.entry) actions.now pass.old result pass.new }
-    ensures stopped { result ≡ TransactEnd.Stopped → Rose (G.stops gate.old) (G.stops gate.new) }
-    ensures obeyed { result ≢ TransactEnd.Stopped → G.stops gate.new ≡ G.stops gate.old }
+    ensures gate { Stops (result ≡ TransactEnd.Stopped) (G.stops gate.old) (G.stops gate.new) }
 {
     'begins: loop {
         match take_turn(cluster, rt, alloc, pass, token, actions, gate) {

@@ -1,4 +1,4 @@
-//! A listener that says on standard error where it listens.
+//! A listener that says on standard error where it listens, and what of it fails.
 
 ghost use Rattle.std.specs.Prelude.{◌≡◌, ◌≤◌};
 ghost use Rattle.ddb_outside.specs.Listeners.{HangsUp, HasOut};
@@ -6,7 +6,7 @@ ghost use Rattle.ddb_outside.specs.Listeners.{HangsUp, HasOut};
 use ddb_outside::{Failed, Joined, Listener, Sink};
 use socket_listener::Interfaces;
 
-/// A listener, and where its `bind` says what came of it.
+/// A listener, and where its calls say what came of them.
 #[derive(Drop)]
 pub struct Announced<L> {
     rt: HostRuntime,
@@ -24,6 +24,12 @@ impl<L> Announced<L> {
             listener,
             interfaces,
         }
+    }
+
+    // A line on what failed. Where standard error fails too, the exit status alone tells.
+    fn complain(&self, what: &str) {
+        let rt = self.rt;
+        drop(eprintln!(rt; "ddb_server: {what}"));
     }
 
     // One line on what came of binding the port. Where standard error fails, the exit status alone tells.
@@ -62,12 +68,23 @@ impl<L: Listener> Listener for Announced<L> {
     }
 
     fn share(&mut self) -> Result<Announced<L>, Failed> {
-        let listener = self.listener.share()?;
-        Ok(Announced::new(self.rt, listener, self.interfaces))
+        match self.listener.share() {
+            Ok(listener) => Ok(Announced::new(self.rt, listener, self.interfaces)),
+            Err(Failed) => {
+                self.complain(
+                    "the port could not be shared with a worker; are too many files open?",
+                );
+                Err(Failed)
+            }
+        }
     }
 
     fn accept(&mut self) -> Result<Option<Joined<L::S, L::K>>, Failed> {
-        self.listener.accept()
+        let accepted = self.listener.accept();
+        if accepted.is_err() {
+            self.complain("a connection could not be accepted; are too many files open?");
+        }
+        accepted
     }
 
     fn hang_up(&mut self, joined: Joined<L::S, L::K>)

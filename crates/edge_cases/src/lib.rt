@@ -2,11 +2,7 @@
 #![tactic(auto)]
 
 #[cfg(test)]
-mod listeners;
-#[cfg(test)]
 mod messages;
-#[cfg(test)]
-mod outside;
 #[cfg(test)]
 mod replies;
 #[cfg(test)]
@@ -14,6 +10,6 @@ mod sessions;
 #[cfg(test)]
 mod sockets;
 #[cfg(test)]
-mod words;
+mod streams;
 #[cfg(test)]
 mod workers;

@@ -4,7 +4,7 @@ use base_types::{Bytes, Seq};
 use ddb_outside::{Clock, ListClock, MemSink, MemSource, StepClock};
 use http_front::{HttpFault, Message, Reader};
 use http_session::{Answer, Body, Service, SessionEnd, serve_session};
-use std::alloc::Global;
+use std::alloc::{AllocError as NoMemory, Global};
 use std::test::Fail;
 
 /// How many messages were answered, and the moment of the last one.
@@ -63,30 +63,58 @@ const LAST_REPLY: &str =
     "HTTP/1.1 200 OK\r\nContent-Type: application/x-amz-json-1.0\r\nContent-Length: 2\r\n\
     x-amzn-RequestId: 00000000000000000000000000000002\r\nConnection: close\r\n\r\n{}";
 
-/// Messages in pieces, the first reply, the end, how many messages were answered and the last moment, where a clock begins
-/// at 7 and goes on by 5.
-static SESSIONS: [(&str, &str, usize, &str, SessionEnd, u64, u64); 5] = [
-    ("", "", 1, "", SessionEnd::Ended, 0, 0),
-    (MESSAGE, "", 1, FIRST_REPLY, SessionEnd::Ended, 1, 7),
-    (MESSAGE, LAST, 3, FIRST_REPLY, SessionEnd::Asked, 2, 12),
-    (
-        MESSAGE,
-        "GET / HTTP/1.1\r\n\r\n",
-        4_096,
-        FIRST_REPLY,
-        SessionEnd::Refused(HttpFault::Method),
-        1,
-        7,
-    ),
-    (
-        MESSAGE,
-        "POST / HT",
-        5,
-        FIRST_REPLY,
-        SessionEnd::Cut { got: 9 },
-        1,
-        7,
-    ),
+/// Messages in pieces of a length, and how it goes with them, where a clock begins at 7 and goes on by 5.
+#[derive(Clone, Copy)]
+struct Session {
+    input: (&'static str, &'static str),
+    piece: usize,
+    first_reply: &'static str,
+    end: SessionEnd,
+    answered: u64,
+    last_moment: u64,
+}
+
+static SESSIONS: [Session; 5] = [
+    Session {
+        input: ("", ""),
+        piece: 1,
+        first_reply: "",
+        end: SessionEnd::Ended,
+        answered: 0,
+        last_moment: 0,
+    },
+    Session {
+        input: (MESSAGE, ""),
+        piece: 1,
+        first_reply: FIRST_REPLY,
+        end: SessionEnd::Ended,
+        answered: 1,
+        last_moment: 7,
+    },
+    Session {
+        input: (MESSAGE, LAST),
+        piece: 3,
+        first_reply: FIRST_REPLY,
+        end: SessionEnd::Asked,
+        answered: 2,
+        last_moment: 12,
+    },
+    Session {
+        input: (MESSAGE, "GET / HTTP/1.1\r\n\r\n"),
+        piece: 4_096,
+        first_reply: FIRST_REPLY,
+        end: SessionEnd::Refused(HttpFault::Method),
+        answered: 1,
+        last_moment: 7,
+    },
+    Session {
+        input: (MESSAGE, "POST / HT"),
+        piece: 5,
+        first_reply: FIRST_REPLY,
+        end: SessionEnd::Cut { got: 9 },
+        answered: 1,
+        last_moment: 7,
+    },
 ];
 
 /// What is written behind the first reply.
@@ -100,16 +128,15 @@ fn second(end: SessionEnd) -> &'static str {
     }
 }
 
-/// The end of a session, what was written, and the state afterwards.
+/// The end of a session with this input, what was written, and the state afterwards.
 fn served<C: Clock>(
     rt: &HostRuntime,
-    input: &str,
+    input: Bytes,
     piece: usize,
     clock: &mut C,
 ) -> Result<(SessionEnd, Bytes, Count), Fail> {
     let alloc = rt.alloc();
-    let content = Bytes::copied(alloc, input.as_bytes())?;
-    let mut source = MemSource::make(content, piece.max(1), Seq::new(alloc));
+    let mut source = MemSource::make(input, piece.max(1), Seq::new(alloc));
     let mut sink = MemSink::make(alloc, piece.max(1), Seq::new(alloc));
     let mut state = Count {
         count: 0,
@@ -129,16 +156,26 @@ fn served<C: Clock>(
     Ok((end, sink.into_parts().0, state))
 }
 
+fn joined(alloc: Global, first: &str, behind: &str) -> Result<Bytes, NoMemory> {
+    let mut text = Vec::from_slice(alloc, first.as_bytes())?;
+    text.extend_from_slice(behind.as_bytes())?;
+    Ok(Bytes::from(text))
+}
+
+/// Whether a session goes as it is written.
+fn goes(rt: &HostRuntime, session: Session) -> Result<bool, Fail> {
+    let (first, behind) = session.input;
+    let input = joined(rt.alloc(), first, behind)?;
+    let expected = joined(rt.alloc(), session.first_reply, second(session.end))?;
+    let (end, written, state) = served(rt, input, session.piece, &mut StepClock::make(7, 5))?;
+    let is_answered = state.count == session.answered && state.moment == session.last_moment;
+    Ok(end == session.end && written == expected && is_answered)
+}
+
 #[test]
 fn sessions(rt: HostRuntime) -> Result<(), Fail> {
-    let alloc = rt.alloc();
-    for (first, behind, piece, reply, end, count, moment) in SESSIONS {
-        let input = format!(in alloc; "{first}{behind}")?;
-        let expected = format!(in alloc; "{reply}{}", second(end))?;
-        let mut clock = StepClock::make(7, 5);
-        let (ended, written, state) = served(&rt, input.as_str(), piece, &mut clock)?;
-        assert!(rt; ended == end && written.as_slice() == expected.as_bytes());
-        assert!(rt; state.count == count && state.moment == moment);
+    for session in SESSIONS {
+        assert!(rt; goes(&rt, session)?);
     }
     Ok(())
 }
@@ -154,7 +191,8 @@ fn clock_goes_back(rt: HostRuntime) -> Result<(), Fail> {
         input.push_str(MESSAGE)?;
         let told = Vec::from_slice(alloc, &[7_999_999, 5_000_000, 8_000_000])?;
         let mut clock = ListClock::make(Seq::from(told));
-        let (end, _, state) = served(&rt, input.as_str(), 4_096, &mut clock)?;
+        let content = Bytes::copied(alloc, input.as_bytes())?;
+        let (end, _, state) = served(&rt, content, 4_096, &mut clock)?;
         assert!(rt; end == SessionEnd::Ended && state.moment == moment);
     }
     Ok(())

@@ -4,7 +4,6 @@ use ddb_outside::{Failed, Joined, Listener, Sink, Source};
 use socket_listener::{Interfaces, SocketListener, SocketSink, SocketSource};
 use std::io::{Read, Write};
 use std::net::{Ipv4Addr, TcpStream};
-use std::test::Fail;
 
 // A share of a listener, the connection that is served, and two clients.
 #[derive(Drop)]
@@ -155,50 +154,72 @@ fn reads(source: &mut SocketSource<HostRuntime>, text: &str) -> bool {
     }
 }
 
-// A share at any free port, and two clients that have said nothing.
-fn opened(rt: HostRuntime) -> Result<Scene, Fail> {
+// A listener at any free port.
+fn listening(rt: HostRuntime) -> Option<SocketListener<HostRuntime>> {
     let mut listener = SocketListener::new(rt.alloc(), rt, Interfaces::Loopback);
-    listener.bind(0)?;
-    let share = listener.share()?;
-    let at = (Ipv4Addr::LOCALHOST, listener.port().unwrap_or(0));
-    Ok(Scene {
-        share,
-        served: None,
-        clients: [TcpStream::connect(&rt, at)?, TcpStream::connect(&rt, at)?],
-    })
+    match listener.bind(0) {
+        Ok(()) => Some(listener),
+        Err(Failed) => None,
+    }
 }
 
-// Whether all acts go as they are written.
-fn all_go(scene: &mut Scene, acts: &[Act]) -> bool {
+// Two clients that have said nothing.
+fn callers(rt: HostRuntime, port: Option<u16>) -> Option<[TcpStream; 2]> {
+    let at = (Ipv4Addr::LOCALHOST, port?);
+    let first = TcpStream::connect(&rt, at).ok()?;
+    let second = TcpStream::connect(&rt, at).ok()?;
+    Some([first, second])
+}
+
+// A share of a listener, and two clients.
+fn opened(rt: HostRuntime) -> Option<Scene> {
+    let mut listener = listening(rt)?;
+    match (listener.share(), callers(rt, listener.port())) {
+        (Ok(share), Some(clients)) => Some(Scene {
+            share,
+            served: None,
+            clients,
+        }),
+        _ => None,
+    }
+}
+
+// Whether all acts go as they are written, from the opening on.
+fn all_go(rt: HostRuntime, acts: &[Act]) -> bool {
+    let Some(mut scene) = opened(rt) else {
+        return false;
+    };
     for act in acts {
-        if !goes(scene, *act) {
+        if !goes(&mut scene, *act) {
             return false;
         }
     }
     true
 }
 
-#[test]
-fn port_in_use(rt: HostRuntime) -> Result<(), Fail> {
-    let mut first = SocketListener::new(rt.alloc(), rt, Interfaces::Loopback);
-    assert!(rt; first.port().is_none());
-    first.bind(0)?;
-    let port = first.port().unwrap_or(0);
+// Whether no second listener listens at the port of a first one.
+fn is_port_kept(rt: HostRuntime) -> bool {
+    let Some(first) = listening(rt) else {
+        return false;
+    };
+    let Some(port) = first.port() else {
+        return false;
+    };
     let mut second = SocketListener::new(rt.alloc(), rt, Interfaces::Loopback);
-    assert!(rt; second.bind(port) == Err(Failed));
-    Ok(())
+    second.port().is_none() && second.bind(port) == Err(Failed)
 }
 
 #[test]
-fn gives_way_at_rest(rt: HostRuntime) -> Result<(), Fail> {
-    let mut scene = opened(rt)?;
-    assert!(rt; all_go(&mut scene, &GIVES_WAY_AT_REST));
-    Ok(())
+fn port_in_use(rt: HostRuntime) {
+    assert!(rt; is_port_kept(rt));
 }
 
 #[test]
-fn gives_way_after_its_turn(rt: HostRuntime) -> Result<(), Fail> {
-    let mut scene = opened(rt)?;
-    assert!(rt; all_go(&mut scene, &GIVES_WAY_AFTER_ITS_TURN));
-    Ok(())
+fn gives_way_at_rest(rt: HostRuntime) {
+    assert!(rt; all_go(rt, &GIVES_WAY_AT_REST));
+}
+
+#[test]
+fn gives_way_after_its_turn(rt: HostRuntime) {
+    assert!(rt; all_go(rt, &GIVES_WAY_AFTER_ITS_TURN));
 }

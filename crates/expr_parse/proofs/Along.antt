@@ -6,7 +6,7 @@ use Rattle.expr_words.specs.Words.{Word}
 use Rattle.expr_words.specs.Grammar.{IsCondition, ArePaths, IsUpdate}
 use Rattle.expr_words.specs.Faults.{IsFault}
 use Rattle.expr_parse.specs.Reading.{IsSentence}
-use Rattle.expr_words.specs.Machine.{Kept, Whole, Listed, Sections, an_update, ASection, MoreSections, NoSections, ACondition, APath, MorePaths, Do, FirstPath, path_of, reads}
+use Rattle.expr_words.specs.Machine.{Kept, Whole, Listed, Sections, an_update, ACondition, APath, MorePaths, Do, FirstPath, path_of, reads}
 use Rattle.expr_words.proofs.Owing.{AllAfter}
 use Rattle.expr_words.proofs.Viability.{ok_right, is_fault}
 use Rattle.expr_words.proofs.Complete.{condition_reads, paths_read, update_reads, kept_tree, kept_paths, kept_sections}

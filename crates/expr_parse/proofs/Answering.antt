@@ -1,19 +1,18 @@
 -- From what the steps of a call answer to what the call says of the text.
-use Rattle.std.proofs.Common.{◌≡◌, ◌≤◌, ℕ, List, [], ◌∷◌, length, option_map, map, Option, None, Some, Result, Ok, Err, IfOk, IfErr, refl, sym, ◌∙◌, ap, subst, inl, inr}
+use Rattle.std.proofs.Common.{◌≡◌, ℕ, List, [], ◌∷◌, option_map, map, Option, None, Some, Result, Ok, Err, IfOk, IfErr, refl, sym, ◌∙◌, ap, subst, inl, inr}
 use Rattle.expr_lexer.specs.declared.token.Token.{Token}
-use Rattle.expr_lexer.specs.Lexes.{Lexes}
 use Rattle.expr_words.specs.declared.given.Given.{Given}
 use Rattle.expr_words.specs.declared.parse_end.ParseEnd.{ParseEnd}
 use Rattle.expr_words.specs.declared.parse_end.ParseEnd.TheVariants.{Syntax, TooLong, Overlap, NoMemory}
 use Rattle.expr_words.specs.declared.stop.Stop.{Stop}
 use Rattle.expr_words.specs.declared.stop.Stop.TheVariants as stop
 use Rattle.expr_words.specs.Words.{Word, words, undefined, fault_of}
-use Rattle.expr_parse.specs.Reading.{IsVerdict, not_given, late, fit, Reads, ReadsTokens, ReadsCondition, ReadsPaths, ReadsUpdate, AsUpdate, IsSentence, NoFault, PathsFault, TwiceFault, UpdateFault, ClausesFault, no_sentence, spelled, too_long, no_token, lexed, most_bytes, IsTold, IsTreeOr}
+use Rattle.expr_parse.specs.Reading.{IsVerdict, not_given, late, fit, Reads, ReadsTokens, ReadsCondition, ReadsPaths, ReadsUpdate, AsUpdate, IsSentence, NoFault, PathsFault, TwiceFault, UpdateFault, ClausesFault, no_sentence, spelled, too_long, no_token, IsTold, IsTreeOr}
 use Rattle.expr_parse.specs.Judged.{IsTokens, IsFaultOr, IsGivenOr, AreFit, ReadsWhole, end_of, IsAnswer}
 use Rattle.expr_words.specs.Faults.{IsFault}
 use Rattle.expr_words.specs.Trees.{tree, SectionTree, section_tree}
 use Rattle.expr_words.specs.Grammar.{IsCondition, ArePaths, IsUpdate, most_levels}
-use Rattle.expr_words.specs.Machine.{Whole, Listed, Sections, an_update, ACondition, APath, Do, FirstPath, MorePaths}
+use Rattle.expr_words.specs.Machine.{Whole, Listed, an_update, ACondition, APath, Do, FirstPath, MorePaths}
 use Rattle.expr_words.specs.Parses.{sectioned}
 use Rattle.expr_words.specs.declared.tree.Condition.{Condition}
 use Rattle.expr_words.specs.declared.tree.Section.{Section}

@@ -7,7 +7,7 @@ use Rattle.std.specs.Borrow.{Bor}
 use Rattle.expr_words.specs.declared.tree.SetTo.{SetTo}
 use Rattle.expr_words.specs.Trees.{SetTree, SectionTree, Sets, Removes, Adds, Deletes, set_tree, section_tree}
 use Rattle.expr_parse.specs.Overlaps.{pointees}
-use Rattle.expr_parse.specs.UpdateTree.{UpdateTree, sets_or, removes_or, adds_or, deletes_or, update_of, written, tree_of}
+use Rattle.expr_parse.specs.UpdateTree.{UpdateTree, sets_or, removes_or, adds_or, deletes_or, written, tree_of}
 use Rattle.expr_parse.specs.Draft.{clauses_before, before_draft}
 use Rattle.expr_parse.proofs.Sections.{section_pushed}
 

@@ -1,10 +1,10 @@
 -- The pass over clauses that looks for a kind that stands twice.
-use Rattle.std.proofs.Common.{◌≡◌, ◌+◌, ◌<◌, ◌≤◌, ℕ, Bool, true, false, List, [], ◌∷◌, length, map, drop, get_or, drop-cons, add-one, drop_of_length-le, if◌then◌else◌, ◌||◌, Option, Some, None, refl, sym, ap, subst, ◌∙◌}
+use Rattle.std.proofs.Common.{◌≡◌, ◌+◌, ◌<◌, ◌≤◌, ℕ, true, false, List, [], ◌∷◌, length, map, drop, get_or, drop-cons, add-one, drop_of_length-le, if◌then◌else◌, ◌||◌, Some, None, refl, sym, ap, ◌∙◌}
 use Rattle.std.specs.List.{list_any}
 use Rattle.expr_words.specs.declared.parse_end.Clause.{Clause}
 use Rattle.expr_words.specs.declared.parse_end.Clause.TheVariants as clause
 use Rattle.expr_words.specs.declared.tree.Section.{Section}
-use Rattle.expr_words.specs.Trees.{SectionTree, section_tree}
+use Rattle.expr_words.specs.Trees.{section_tree}
 use Rattle.expr_parse.specs.declared.gather.Met.{Met}
 use Rattle.expr_parse.specs.Met.{has, with_kind}
 use Rattle.expr_parse.specs.UpdateTree.{kind_of, same_clause, first_twice}

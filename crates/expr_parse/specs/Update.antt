@@ -1,5 +1,5 @@
 -- The tree of an update, and what is answered of one.
-use Rattle.std.specs.Prelude.{◌≡◌, List, [], Option, None, Some, Result, Ok, Err}
+use Rattle.std.specs.Prelude.{◌≡◌, None, Some, Result, Ok, Err}
 use Rattle.expr_words.specs.declared.parse_end.ParseEnd.{ParseEnd}
 use Rattle.expr_words.specs.declared.parse_end.ParseEnd.TheVariants.{NoMemory}
 use Rattle.expr_parse.specs.declared.tree.Update.{Update}

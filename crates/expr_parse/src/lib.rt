@@ -5,6 +5,8 @@
 //! in the order of [`ParseEnd`]'s page.
 #![tactic(auto)]
 
+mod argument;
+mod boxes;
 mod choice;
 mod expression;
 mod gather;

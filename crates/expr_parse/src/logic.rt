@@ -9,6 +9,7 @@ ghost use Rattle.expr_words.specs.Parses.{Parses, whole};
 ghost use Rattle.expr_lexer.specs.declared.token.TokenKind.TheVariants as sign;
 ghost use Rattle.expr_words.specs.Machine.{Whole, ACondition, AConjunction, APart, ASign, Do, Joins, Negates};
 
+use crate::boxes::boxed_pair;
 use crate::predicate::flat;
 use expr_lexer::TokenKind;
 use expr_words::{Condition, Stop, Word, close_parenthesis, fewer, stuck};
@@ -97,8 +98,8 @@ fn and_part<'t, 'a>(
     ensures shorter { IfOk result (λ x. length x.1.now < length words.now) }
 {
     let (right, rest) = part(alloc, words, levels)?;
-    let joined = Condition::And(Box::new(alloc, left)?, Box::new(alloc, right)?);
-    Ok((joined, rest))
+    let (left, right) = boxed_pair(alloc, left, right)?;
+    Ok((Condition::And(left, right), rest))
 }
 
 /// Parts joined by AND, from the left.
@@ -136,8 +137,8 @@ fn or_part<'t, 'a>(
     ensures shorter { IfOk result (λ x. length x.1.now < length words.now) }
 {
     let (right, rest) = conjunction(alloc, words, levels)?;
-    let joined = Condition::Or(Box::new(alloc, left)?, Box::new(alloc, right)?);
-    Ok((joined, rest))
+    let (left, right) = boxed_pair(alloc, left, right)?;
+    Ok((Condition::Or(left, right), rest))
 }
 
 /// Conjunctions joined by OR, from the left.

@@ -8,10 +8,10 @@ ghost use Rattle.expr_words.specs.Parses.{Parses};
 ghost use Rattle.expr_lexer.specs.declared.token.TokenKind.TheVariants as sign;
 ghost use Rattle.expr_words.specs.Machine.{Side, APath, AnOperand, NamedOperand, ASign, Do, MakePath, MakeSize};
 
+use crate::argument::path_argument;
 use expr_lexer::TokenKind;
 use expr_words::{
-    Function, Operand, Stop, Word, called, close_parenthesis, document_path, fewer, function_of,
-    held, open_parenthesis, stuck,
+    Function, Operand, Stop, Word, called, document_path, fewer, function_of, held, stuck,
 };
 use std::alloc::Global;
 
@@ -24,9 +24,7 @@ pub(crate) fn size_of<'t, 'a>(
     ensures goes { Parses Side (ASign sign.OpenParenthesis ∷ APath ∷ ASign sign.CloseParenthesis ∷ Do MakeSize ∷ []) [] words.now result }
     ensures shorter { IfOk result (λ x. length x.1.now < length words.now) }
 {
-    let rest = open_parenthesis(words)?;
-    let (path, rest) = document_path(alloc, rest)?;
-    let rest = close_parenthesis(rest)?;
+    let (path, rest) = path_argument(alloc, words)?;
     Ok((Operand::Size(path), rest))
 }
 

@@ -7,15 +7,15 @@ ghost use Rattle.expr_words.specs.Words.{meanings};
 ghost use Rattle.expr_words.specs.Fronts.{opens, calls, compares, is_deeper, IsComparing};
 ghost use Rattle.expr_words.specs.Parses.{Parses, whole};
 ghost use Rattle.expr_lexer.specs.declared.token.TokenKind.TheVariants as sign;
-ghost use Rattle.expr_words.specs.Machine.{Goes, reads, Side, Steps, Place, APart, NamedPart, ARest, AnOperand, APath, AValue, ASign, Do, OfSides, OfPath, MakeRange, MakeSize, MakeKindTest};
+ghost use Rattle.expr_words.specs.Machine.{Goes, reads, Side, Place, APart, NamedPart, ARest, AnOperand, APath, AValue, ASign, Do, OfSides, OfPath, MakeRange, MakeSize, MakeKindTest};
 
+use crate::argument::{first_path, path_argument};
 use crate::choice::choice;
 use crate::operand::{operand, plain_operand, size_of};
-use base_types::DocPath;
 use expr_lexer::TokenKind;
 use expr_words::{
     Comparison, Condition, Function, Operand, Stop, Word, and, called, close_parenthesis, comma,
-    document_path, fewer, function_of, open_parenthesis, stuck, value,
+    fewer, function_of, open_parenthesis, stuck, value,
 };
 use std::alloc::Global;
 
@@ -107,21 +107,6 @@ pub(crate) fn predicate<'t, 'a>(
     }
 }
 
-/// A path in parentheses.
-fn path_argument<'t, 'a>(
-    alloc: Global,
-    words: &'t [Word<'a>],
-) -> Result<(DocPath, &'t [Word<'a>]), Stop>
-    ensures goes { Parses (λ path. Steps path.steps) (ASign sign.OpenParenthesis ∷ APath ∷ ASign sign.CloseParenthesis ∷ [])
-        [] words.now result }
-    ensures shorter { IfOk result (λ x. length x.1.now < length words.now) }
-{
-    let rest = open_parenthesis(words)?;
-    let (path, rest) = document_path(alloc, rest)?;
-    let rest = close_parenthesis(rest)?;
-    Ok((path, rest))
-}
-
 /// The argument of `attribute_exists`.
 fn exists<'t, 'a>(alloc: Global, words: &'t [Word<'a>]) -> Result<(Condition, &'t [Word<'a>]), Stop>
     ensures goes { Parses whole (ASign sign.OpenParenthesis ∷ APath ∷ ASign sign.CloseParenthesis ∷ Do (OfPath Presence) ∷ [])
@@ -151,9 +136,7 @@ fn of_kind<'t, 'a>(
         [] words.now result }
     ensures shorter { IfOk result (λ x. length x.1.now < length words.now) }
 {
-    let rest = open_parenthesis(words)?;
-    let (path, rest) = document_path(alloc, rest)?;
-    let rest = comma(rest)?;
+    let (path, rest) = first_path(alloc, words)?;
     let (value, rest) = value(rest)?;
     let rest = close_parenthesis(rest)?;
     Ok((Condition::OfKind { path, value }, rest))

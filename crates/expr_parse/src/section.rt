@@ -3,11 +3,11 @@
 
 ghost use Rattle.std.specs.Prelude.{◌≡◌, ◌<◌, ◌∷◌, ◌++◌, length, IfOk, []};
 ghost use Rattle.expr_lexer.specs.declared.token.TokenKind.TheVariants as sign;
-ghost use Rattle.expr_words.specs.Trees.{sum_tree, section_tree, Adds, Deletes};
+ghost use Rattle.expr_words.specs.Trees.{section_tree, Adds, Deletes};
 ghost use Rattle.expr_words.specs.Words.{meanings};
 ghost use Rattle.expr_words.specs.Fronts.{begins_section};
 ghost use Rattle.expr_words.specs.Parses.{Parses, Extends, EndsSection, assigned, sectioned};
-ghost use Rattle.expr_words.specs.Machine.{Goes, reads, Summed, Steps, Paired, Assigned, APath, AValue, ASum, ASection, MorePaths, ASign, Do, FirstPath, NextSet, NextPair, EndSets, EndRemoves, EndPairs, a_set, a_pair, an_update};
+ghost use Rattle.expr_words.specs.Machine.{Paired, Assigned, APath, AValue, ASum, ASection, MorePaths, ASign, Do, FirstPath, NextSet, NextPair, EndSets, EndRemoves, EndPairs, a_set, a_pair, an_update};
 
 use crate::term::sum;
 use base_types::Seq;
@@ -17,27 +17,9 @@ use expr_words::{
 };
 use std::alloc::Global;
 
-/// What a path is set to.
-fn assignment<'t, 'a>(
-    alloc: Global,
-    words: &'t [Word<'a>],
-    levels: usize,
-) -> Result<(SetTo, &'t [Word<'a>]), Stop>
-    ensures goes { Goes
-        (λ os ks. reads (meanings words.now) (APath ∷ ASign sign.Equal ∷ ASum levels ∷ os) ks)
-        (λ x ks. Summed (sum_tree x.0.sum) ∷ Steps x.0.path.steps ∷ ks)
-        (λ x. meanings x.1.now) result }
-    ensures shorter { IfOk result (λ x. length x.1.now < length words.now) }
-{
-    let (path, rest) = document_path(alloc, words)?;
-    let rest = equal(rest)?;
-    let (sum, rest) = sum(alloc, rest, levels)?;
-    Ok((SetTo { path, sum }, rest))
-}
-
-/// Adds what a further path is set to.
+/// Adds a path and what it is set to.
 #[tactic(auto, using(crate::proofs::Sections::set_steps))]
-fn further_assignment<'t, 'a>(
+fn assignment<'t, 'a>(
     alloc: Global,
     sets: &mut Seq<SetTo>,
     words: &'t [Word<'a>],
@@ -47,8 +29,10 @@ fn further_assignment<'t, 'a>(
         (assigned sets.old) (assigned sets.new) words.now result }
     ensures shorter { IfOk result (λ x. length x.now < length words.now) }
 {
-    let (set, rest) = assignment(alloc, words, levels)?;
-    sets.push(set)?;
+    let (path, rest) = document_path(alloc, words)?;
+    let rest = equal(rest)?;
+    let (sum, rest) = sum(alloc, rest, levels)?;
+    sets.push(SetTo { path, sum })?;
     Ok(rest)
 }
 
@@ -61,12 +45,10 @@ fn assignments<'t, 'a>(
     ensures goes { Parses assigned (a_set levels) (Assigned [] ∷ []) words.now result }
     ensures shorter { IfOk result (λ x. length x.1.now < length words.now) }
 {
-    let (first, after) = assignment(alloc, words, levels)?;
     let mut sets = Seq::new(alloc);
-    sets.push(first)?;
-    let mut rest = after;
+    let mut rest = assignment(alloc, &mut sets, words, levels)?;
     while let [Word::Sign(TokenKind::Comma), after @ ..] = rest {
-        rest = further_assignment(alloc, &mut sets, after, levels)?;
+        rest = assignment(alloc, &mut sets, after, levels)?;
     }
     Ok((sets, rest))
 }

@@ -9,6 +9,8 @@ ghost use Rattle.expr_words.specs.Fronts.{opens, calls};
 ghost use Rattle.expr_words.specs.Parses.{Parses, termed, summed};
 ghost use Rattle.expr_words.specs.Machine.{Steps, Termed, APath, ATerm, NamedTerm, ASum, MoreSum, ASign, Do, MakeTerm, MakeOrElse, MakeAppended, OfTerms};
 
+use crate::argument::first_path;
+use crate::boxes::boxed_pair;
 use base_types::DocPath;
 use expr_lexer::TokenKind;
 use expr_words::{
@@ -69,9 +71,7 @@ fn if_not_exists<'t, 'a>(
         [] words.now result }
     ensures shorter { IfOk result (λ x. length x.1.now < length words.now) }
 {
-    let rest = open_parenthesis(words)?;
-    let (path, rest) = document_path(alloc, rest)?;
-    let rest = comma(rest)?;
+    let (path, rest) = first_path(alloc, words)?;
     default_term(alloc, path, rest, levels)
 }
 
@@ -90,8 +90,8 @@ fn back_term<'t, 'a>(
 {
     let (back, rest) = term(alloc, words, levels)?;
     let rest = close_parenthesis(rest)?;
-    let joined = Term::Append(Box::new(alloc, front)?, Box::new(alloc, back)?);
-    Ok((joined, rest))
+    let (front, back) = boxed_pair(alloc, front, back)?;
+    Ok((Term::Append(front, back), rest))
 }
 
 /// The first argument of `list_append`, and the comma behind it.

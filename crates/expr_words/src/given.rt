@@ -10,17 +10,37 @@ use std::alloc::{AllocError as NoMemory, Global};
 
 /// The placeholders that a request gives, each with its sign: `#name` of names, `:name` of values.
 /// Where one is given twice, the first counts.
-#[derive(Debug, Drop)]
+#[derive(Debug)]
 pub struct Given {
     pub names: Seq<NamePair>,
     pub value_names: Seq<Text>,
 }
 
+// By hand, so that no crate above proves it again.
+impl Drop for Given {
+    fn drop(self) {
+        let Given {
+            names: _,
+            value_names: _,
+        } = self;
+    }
+}
+
 /// A placeholder of an attribute's name, and the name that it stands for.
-#[derive(Debug, Drop)]
+#[derive(Debug)]
 pub struct NamePair {
     pub placeholder: Text,
     pub name: Text,
+}
+
+// By hand, so that no crate above proves it again.
+impl Drop for NamePair {
+    fn drop(self) {
+        let NamePair {
+            placeholder: _,
+            name: _,
+        } = self;
+    }
 }
 
 /// Whether the placeholders of names, and those of values, ascend in the order of their bytes, as
@@ -110,10 +130,20 @@ impl Given {
 }
 
 /// Which placeholders of a [`Given`] were used by the expressions read so far.
-#[derive(Debug, Drop)]
+#[derive(Debug)]
 pub struct Used {
     pub(crate) names: Vec<bool>,
     pub(crate) values: Vec<bool>,
+}
+
+// By hand, so that no crate above proves it again.
+impl Drop for Used {
+    fn drop(self) {
+        let Used {
+            names: _,
+            values: _,
+        } = self;
+    }
 }
 
 impl Used {

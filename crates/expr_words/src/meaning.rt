@@ -23,11 +23,20 @@ pub enum Missing<'a> {
 }
 
 /// The words of a text, as far as they are given.
-#[derive(Drop)]
 pub struct Reading<'a> {
     pub words: Vec<Word<'a>>,
     /// The first placeholder that is not given.
     pub undefined: Option<Missing<'a>>,
+}
+
+// By hand, so that no crate above proves it again.
+impl Drop for Reading<'_> {
+    fn drop(self) {
+        let Reading {
+            words: _,
+            undefined: _,
+        } = self;
+    }
 }
 
 /// The number of an index.

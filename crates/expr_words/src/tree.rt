@@ -15,7 +15,7 @@ pub enum Comparison {
 }
 
 /// What a condition compares.
-#[derive(Debug, PartialEq, Eq, Drop)]
+#[derive(Debug, PartialEq, Eq)]
 pub enum Operand {
     /// What stands at a path of the item.
     Path(DocPath),
@@ -25,8 +25,17 @@ pub enum Operand {
     Size(DocPath),
 }
 
+// By hand, so that no crate above proves it again.
+impl Drop for Operand {
+    fn drop(self) {
+        match self {
+            Operand::Path(_) | Operand::Value(_) | Operand::Size(_) => {}
+        }
+    }
+}
+
 /// A condition on an item. Parentheses leave no trace: they only decide which tree it is.
-#[derive(Debug, Drop)]
+#[derive(Debug)]
 pub enum Condition {
     /// `left OR right`.
     Or(Box<Condition>, Box<Condition>),
@@ -66,14 +75,51 @@ pub enum Condition {
     Contains(Operand, Operand),
 }
 
+// By hand, so that no crate above proves it again.
+impl Drop for Condition {
+    fn drop(self) {
+        match self {
+            Condition::Or(_, _)
+            | Condition::And(_, _)
+            | Condition::Not(_)
+            | Condition::Compare {
+                op: _,
+                left: _,
+                right: _,
+            }
+            | Condition::Between {
+                operand: _,
+                low: _,
+                high: _,
+            }
+            | Condition::Among {
+                operand: _,
+                choices: _,
+            }
+            | Condition::Exists(_)
+            | Condition::Absent(_)
+            | Condition::OfKind { path: _, value: _ }
+            | Condition::Begins(_, _)
+            | Condition::Contains(_, _) => {}
+        }
+    }
+}
+
 /// The paths of a projection, in the order of the text.
-#[derive(Debug, PartialEq, Eq, Drop)]
+#[derive(Debug, PartialEq, Eq)]
 pub struct Paths {
     pub paths: Seq<DocPath>,
 }
 
+// By hand, so that no crate above proves it again.
+impl Drop for Paths {
+    fn drop(self) {
+        let Paths { paths: _ } = self;
+    }
+}
+
 /// A term of an update.
-#[derive(Debug, Drop)]
+#[derive(Debug)]
 pub enum Term {
     /// What stands at a path of the item.
     Path(DocPath),
@@ -85,8 +131,17 @@ pub enum Term {
     Append(Box<Term>, Box<Term>),
 }
 
+// By hand, so that no crate above proves it again.
+impl Drop for Term {
+    fn drop(self) {
+        match self {
+            Term::Path(_) | Term::Value(_) | Term::IfNotExists(_, _) | Term::Append(_, _) => {}
+        }
+    }
+}
+
 /// What a path is set to.
-#[derive(Debug, PartialEq, Eq, Drop)]
+#[derive(Debug, PartialEq, Eq)]
 pub enum Sum {
     One(Term),
     /// `left + right`.
@@ -95,18 +150,41 @@ pub enum Sum {
     Minus(Term, Term),
 }
 
+// By hand, so that no crate above proves it again.
+impl Drop for Sum {
+    fn drop(self) {
+        match self {
+            Sum::One(_) | Sum::Plus(_, _) | Sum::Minus(_, _) => {}
+        }
+    }
+}
+
 /// `path = sum`, of a SET.
-#[derive(Debug, PartialEq, Eq, Drop)]
+#[derive(Debug, PartialEq, Eq)]
 pub struct SetTo {
     pub path: DocPath,
     pub sum: Sum,
 }
 
+// By hand, so that no crate above proves it again.
+impl Drop for SetTo {
+    fn drop(self) {
+        let SetTo { path: _, sum: _ } = self;
+    }
+}
+
 /// `path :value`, of an ADD or a DELETE, the value by its place.
-#[derive(Debug, PartialEq, Eq, Drop)]
+#[derive(Debug, PartialEq, Eq)]
 pub struct PathValue {
     pub path: DocPath,
     pub value: u32,
+}
+
+// By hand, so that no crate above proves it again.
+impl Drop for PathValue {
+    fn drop(self) {
+        let PathValue { path: _, value: _ } = self;
+    }
 }
 
 /// A clause of an update, as it is written.

@@ -25,11 +25,21 @@ const PIECE: usize = 4_096;
 
 /// Reads messages from a source, one after the other. A contract sees a reader as the bytes that it
 /// holds: those that were read and not yet handed out.
-#[derive(Drop)]
 pub struct Reader {
     alloc: Global,
     held: BytesMut,
     spans: Vec<HeaderSpan>,
+}
+
+// By hand, so that no crate above proves it again.
+impl Drop for Reader {
+    fn drop(self) {
+        let Reader {
+            alloc: _,
+            held: _,
+            spans: _,
+        } = self;
+    }
 }
 
 impl Model for Reader {

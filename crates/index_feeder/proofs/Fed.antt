@@ -12,8 +12,8 @@ use Rattle.txn_core.specs.Service.{Service, Reply, Event, History}
 use Rattle.cluster.specs.declared.step.StepError.{StepError}
 use Rattle.cluster.specs.Events.{event_of}
 use Rattle.cluster.specs.Steps.{IsLater}
-use Rattle.own_entries.specs.Counts.{Counts, CountsUntil}
-use Rattle.own_entries.proofs.Counting.{counts_on, counts_until, same_event}
+use Rattle.cluster.specs.Counts.{Counts, CountsUntil}
+use Rattle.cluster.proofs.OwnEntries.{counts_on, counts_until, same_event}
 use Rattle.index_feeder.specs.declared.feeding.Feed.{Feed}
 use Rattle.index_feeder.specs.Feeds.{shows, applies, acknowledges, Feeds, FeedsPartly}
 use Rattle.index_feeder.proofs.Refused.{had_none, had_on}

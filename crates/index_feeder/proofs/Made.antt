@@ -6,8 +6,8 @@ use Rattle.std.proofs.lemmas.List.FromFn.{length-map-range_with_len, map-range_w
 use Rattle.turnstile.specs.Passes.{PassView}
 use Rattle.txn_core.specs.Service.{Service, Event}
 use Rattle.cluster.specs.declared.step.StepError.{StepError}
-use Rattle.own_entries.specs.Counts.{Counts, CountsUntil}
-use Rattle.own_entries.proofs.Counting.{counts_none, counts_on, counts_until}
+use Rattle.cluster.specs.Counts.{Counts, CountsUntil}
+use Rattle.cluster.proofs.OwnEntries.{counts_none, counts_on, counts_until}
 use Rattle.index_feeder.specs.declared.feeding.Feed.{Feed}
 use Rattle.index_feeder.specs.Feeds.{Feeding, Found, Fed, fed_in, all_empty, entries_of, entries, IsCutOff, Feeds, FeedsPartly, Makes, MakesPartly, Empties, GoesRound, Drains, HadUnit}
 use Rattle.index_feeder.proofs.Refused.{had_on}

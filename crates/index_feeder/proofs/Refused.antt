@@ -3,7 +3,7 @@ use Rattle.std.proofs.Common.{◌≡◌, List, [], ◌++◌, arith, length-appen
 use Rattle.turnstile.specs.Passes.{PassView, most_units}
 use Rattle.txn_core.specs.Service.{Service, Event}
 use Rattle.cluster.specs.declared.step.StepError.{StepError}
-use Rattle.own_entries.specs.Counts.{Counts}
+use Rattle.cluster.specs.Counts.{Counts}
 use Rattle.index_feeder.specs.Feeds.{HadUnit}
 
 module _ {K V A F C D Q B : Type 0} (S : Service K V A F C D Q B) where

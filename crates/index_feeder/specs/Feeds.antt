@@ -12,7 +12,7 @@ use Rattle.txn_core.specs.Serial.{waiting}
 use Rattle.txn_core.specs.Service.{Service, Event}
 use Rattle.cluster.specs.declared.step.StepError.{StepError}
 use Rattle.cluster.specs.Events.{event_of}
-use Rattle.own_entries.specs.Counts.{Counts, CountsUntil}
+use Rattle.cluster.specs.Counts.{Counts, CountsUntil}
 use Rattle.index_feeder.specs.declared.feeding.Feed.{Feed}
 
 -- one feed of a partition: its outbox was found empty; or its first change was shown, was applied, now or before, and was

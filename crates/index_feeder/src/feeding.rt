@@ -6,8 +6,7 @@ ghost use Rattle.cluster.specs.Steps.{partitions_of};
 ghost use Rattle.cluster.specs.declared.step.StepError.{StepError};
 ghost use Rattle.index_feeder.specs.Feeds.{Feeds, FeedsPartly};
 
-use cluster::{Cluster, StepError, TableWorld};
-use own_entries::ask;
+use cluster::{Cluster, StepError, TableWorld, ask};
 use partition::PageRules;
 use std::alloc::Global;
 use std::sync::Wait;

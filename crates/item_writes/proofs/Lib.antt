@@ -5,4 +5,10 @@ pub mod ByName
 pub mod Extents
 pub mod Limits
 pub mod Steps
-pub mod WholePaths
+pub mod Counts
+pub mod ListSteps
+pub mod Places
+pub mod Origins
+pub mod Paths
+pub mod Ends
+pub mod Examples

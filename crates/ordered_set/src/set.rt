@@ -23,9 +23,16 @@ pub enum SetFault {
 }
 
 /// A set: at least one element, and each below the next.
-#[derive(Debug, Drop)]
+#[derive(Debug)]
 pub struct OrderedSet<T: Ord> {
     elements: Seq<T>,
+}
+
+// By hand, so that no crate above proves it again.
+impl<T: Ord + Drop> Drop for OrderedSet<T> {
+    fn drop(self) {
+        let OrderedSet { elements: _ } = self;
+    }
 }
 
 impl<T: Ord> Model for OrderedSet<T> {
@@ -61,6 +68,15 @@ impl<T: Ord> OrderedSet<T> {
         Ok(OrderedSet {
             elements: Seq::from(sorted),
         })
+    }
+
+    fn into_elements(self) -> Seq<T>
+        ensures value { result ≡ self }
+        ensures some { 0 < length result }
+        ensures in_order { IsStrictlySortedBy T.cmp result }
+    {
+        let OrderedSet { elements } = self;
+        elements
     }
 
     /// The elements, in order: at least one, and each below the next.
@@ -101,7 +117,7 @@ impl<T: Ord> OrderedSet<T> {
         T: Drop,
         ensures { elements_of result ≡ filter (λ x. not (has T.cmp x other.now)) self }
     {
-        let mut left = Vec::from(self.elements);
+        let mut left = Vec::from(self.into_elements());
         left.retain(|element| !other.contains(element));
         let elements = Seq::from(left);
         if elements.is_empty() {
@@ -121,8 +137,8 @@ impl<T: Ord> OrderedSet<T> {
         let Some(added) = other.difference(&self) else {
             return Ok(self);
         };
-        let mut both = Vec::from(self.elements);
-        both.append(&mut Vec::from(added.elements))?;
+        let mut both = Vec::from(self.into_elements());
+        both.append(&mut Vec::from(added.into_elements()))?;
         both.sort()?;
         Ok(OrderedSet {
             elements: Seq::from(both),
@@ -167,7 +183,7 @@ impl<T: Ord> From<OrderedSet<T>> for Seq<T> {
     ghost from_gives = { λ set seq. seq ≡ set };
 
     fn from(set: OrderedSet<T>) -> Seq<T> {
-        set.elements
+        set.into_elements()
     }
 }
 

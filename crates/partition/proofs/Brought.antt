@@ -7,12 +7,12 @@ use Rattle.txn_core.specs.Stamps.{later, single}
 use Rattle.txn_core.specs.State.{Pending as Held, Spot, State, spot_changed}
 use Rattle.item_store.specs.declared.slot.Slot.{Slot}
 use Rattle.item_store.specs.Slots.{committed_at, slot_of}
-use Rattle.planned_changes.specs.declared.command_rules.TableChange.{TableChange}
-use Rattle.planned_changes.specs.declared.command_rules.TableChange.TheVariants.{Makes, Drops, Alters, Nothing}
-use Rattle.planned_changes.specs.Commands.{AreCommandsLawful, alters, drops, is_number, makes, subject}
+use Rattle.index_changes.specs.declared.command_rules.TableChange.{TableChange}
+use Rattle.index_changes.specs.declared.command_rules.TableChange.TheVariants.{Makes, Drops, Alters, Nothing}
+use Rattle.index_changes.specs.Commands.{AreCommandsLawful, alters, drops, is_number, makes, subject}
 use Rattle.partition.specs.Holds.{pending_for, queued_by, slot_for}
-use Rattle.planned_changes.specs.Plans.{brought}
-use Rattle.planned_changes.proofs.Basics.{no_both, not_true, not_false}
+use Rattle.index_changes.specs.Plans.{brought}
+use Rattle.index_changes.proofs.Basics.{no_both, not_true, not_false}
 use Rattle.partition.proofs.Spared.{next, not_made, others, same_changes, stays_there}
 
 -- the slot of an item without a row that nobody holds

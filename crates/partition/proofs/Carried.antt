@@ -22,19 +22,19 @@ use Rattle.item_store.specs.Slots.{committed_at, row_of, slot_of}
 use Rattle.item_store.specs.Tables.{slot_in}
 use Rattle.item_store.specs.Changes.{slot_at}
 use Rattle.global_index.specs.Marks.{mark_in}
-use Rattle.prepared_changes.specs.Prepared.{prepared_in}
+use Rattle.index_changes.specs.Prepared.{prepared_in}
 use Rattle.partition.specs.declared.cell.Partition.{Partition}
-use Rattle.planned_changes.specs.declared.command_rules.TableChange.{TableChange}
-use Rattle.planned_changes.specs.declared.command_rules.TableChange.TheVariants.{Makes, Drops, Alters, Nothing}
-use Rattle.planned_changes.specs.declared.plan.CatalogPlan.{CatalogPlan}
-use Rattle.planned_changes.specs.declared.plan.MadeTable.{MadeTable}
-use Rattle.planned_changes.specs.Commands.{AreCommandsLawful, dropped_by, drops, is_in, is_number, makes, subject}
+use Rattle.index_changes.specs.declared.command_rules.TableChange.{TableChange}
+use Rattle.index_changes.specs.declared.command_rules.TableChange.TheVariants.{Makes, Drops, Alters, Nothing}
+use Rattle.index_changes.specs.declared.plan.CatalogPlan.{CatalogPlan}
+use Rattle.index_changes.specs.declared.plan.MadeTable.{MadeTable}
+use Rattle.index_changes.specs.Commands.{AreCommandsLawful, dropped_by, drops, is_in, is_number, makes, subject}
 use Rattle.partition.specs.Holds.{Holds, lives, queued_by, slot_for}
-use Rattle.planned_changes.specs.Plans.{IsMade, IsOrderedFor, IsPlan, IsRising, brought, closed_by, founding_in, has_new, queued_for, slots_of}
+use Rattle.index_changes.specs.Plans.{IsMade, IsOrderedFor, IsPlan, IsRising, brought, closed_by, founding_in, has_new, queued_for, slots_of}
 use Rattle.partition.specs.Plans.{filled, LeftByPlan}
-use Rattle.planned_changes.proofs.Basics.{and_both, no_both, not_true}
+use Rattle.index_changes.proofs.Basics.{and_both, no_both, not_true}
 use Rattle.partition.proofs.Brought.{IsClean, after, gone, is_brought, is_dropped, is_not_brought, left_alone, queues_same, spot}
-use Rattle.planned_changes.proofs.Keys.{at_is}
+use Rattle.index_changes.proofs.Keys.{at_is}
 use Rattle.partition.proofs.Changing.{same_here}
 use Rattle.partition.proofs.Keeping.{row_back}
 use Rattle.partition.proofs.Lists.{ascend}

@@ -17,8 +17,8 @@ use Rattle.item_store.specs.Slots.{committed_at, slot_of}
 use Rattle.item_store.specs.Changes.{slot_at}
 use Rattle.global_index.specs.Marks.{mark_in}
 use Rattle.global_index.specs.Rows.{row_under}
-use Rattle.prepared_changes.specs.Prepared.{prepared_in}
-use Rattle.planned_changes.proofs.Keys.{at_is, number_at, one_key}
+use Rattle.index_changes.specs.Prepared.{prepared_in}
+use Rattle.index_changes.proofs.Keys.{at_is, number_at, one_key}
 use Rattle.partition.specs.declared.cell.Partition.{Partition}
 use Rattle.partition.specs.Holds.{Holds, lives, pending_for, queued_by, slot_for}
 use Rattle.partition.specs.Changes.{Changes, Unchanged, set_at}

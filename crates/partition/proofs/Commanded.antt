@@ -21,23 +21,23 @@ use Rattle.txn_core.specs.Service.{Asked, Event, History, Reply, Service, IsServ
 use Rattle.txn_core.specs.State.{Pending as Held, State, step}
 use Rattle.txn_core.proofs.Exports.{agrees, alike_turned, good, legal_events, legal_run, own_entries_tell}
 use Rattle.partition.specs.declared.cell.Partition.{Partition}
-use Rattle.planned_changes.specs.declared.command_rules.TableChange.{TableChange}
-use Rattle.planned_changes.specs.declared.command_rules.TableChange.TheVariants.{Makes, Drops, Alters, Nothing}
-use Rattle.planned_changes.specs.declared.plan.CatalogPlan.{CatalogPlan}
-use Rattle.planned_changes.specs.declared.plan.MadeTable.{MadeTable}
+use Rattle.index_changes.specs.declared.command_rules.TableChange.{TableChange}
+use Rattle.index_changes.specs.declared.command_rules.TableChange.TheVariants.{Makes, Drops, Alters, Nothing}
+use Rattle.index_changes.specs.declared.plan.CatalogPlan.{CatalogPlan}
+use Rattle.index_changes.specs.declared.plan.MadeTable.{MadeTable}
 use Rattle.item_store.specs.declared.slot.Slot.{Slot}
 use Rattle.std.specs.Ordering.{nat_cmp}
 use Rattle.std.specs.BTreeMap.{BTreeMap, get}
 use Rattle.partition.specs.Carrying.{IsCarriedOut}
-use Rattle.planned_changes.specs.Commands.{AreCommandsLawful, KeepsEntries}
-use Rattle.planned_changes.specs.Entering.{AreEntered}
-use Rattle.planned_changes.specs.Entries.{AreEntriesLawful, LocalEntries}
+use Rattle.index_changes.specs.Commands.{AreCommandsLawful, KeepsEntries}
+use Rattle.index_changes.specs.Entering.{AreEntered}
+use Rattle.index_changes.specs.Entries.{AreEntriesLawful, LocalEntries}
 use Rattle.partition.specs.Holds.{Holds}
 use Rattle.partition.specs.InStep.{StaysInStep}
-use Rattle.planned_changes.specs.Plans.{IsMade, IsPlan}
+use Rattle.index_changes.specs.Plans.{IsMade, IsPlan}
 use Rattle.partition.specs.Plans.{HasPlace, HasRoom, IsPlaced, LeftByPlan}
 use Rattle.partition.specs.Says.{Stands}
-use Rattle.planned_changes.proofs.Basics.{no_both}
+use Rattle.index_changes.proofs.Basics.{no_both}
 use Rattle.partition.proofs.Brought.{IsClean, after}
 use Rattle.partition.proofs.Carried.{carried, now}
 use Rattle.partition.proofs.Changing.{moved_to}

@@ -17,17 +17,17 @@ use Rattle.local_index.specs.declared.claim.Claim.{Claim}
 use Rattle.local_index.specs.Claims.{claim_of, is_committed, is_held}
 use Rattle.local_index.specs.Entries.{is_among}
 use Rattle.local_index.specs.Tables.{claim_under}
-use Rattle.prepared_changes.specs.Prepared.{moves_in}
-use Rattle.planned_changes.specs.declared.command_rules.TableChange.{TableChange}
-use Rattle.planned_changes.specs.declared.command_rules.TableChange.TheVariants.{Makes, Drops, Alters, Nothing}
-use Rattle.planned_changes.specs.declared.plan.CatalogPlan.{CatalogPlan}
-use Rattle.planned_changes.specs.declared.plan.MadeTable.{MadeTable}
-use Rattle.planned_changes.specs.Commands.{AreCommandsLawful, KeepsEntries, dropped_by, drops, is_number, makes, subject}
-use Rattle.planned_changes.specs.Entering.{AreEntered}
-use Rattle.planned_changes.specs.Entries.{AreEntriesLawful, LocalEntries, entries_at}
-use Rattle.planned_changes.specs.Plans.{IsMade, IsPlan, brought}
-use Rattle.planned_changes.proofs.Basics.{and_both, no_both, not_false, not_true}
-use Rattle.planned_changes.proofs.BroughtOver.{none_pending}
+use Rattle.index_changes.specs.Prepared.{moves_in}
+use Rattle.index_changes.specs.declared.command_rules.TableChange.{TableChange}
+use Rattle.index_changes.specs.declared.command_rules.TableChange.TheVariants.{Makes, Drops, Alters, Nothing}
+use Rattle.index_changes.specs.declared.plan.CatalogPlan.{CatalogPlan}
+use Rattle.index_changes.specs.declared.plan.MadeTable.{MadeTable}
+use Rattle.index_changes.specs.Commands.{AreCommandsLawful, KeepsEntries, dropped_by, drops, is_number, makes, subject}
+use Rattle.index_changes.specs.Entering.{AreEntered}
+use Rattle.index_changes.specs.Entries.{AreEntriesLawful, LocalEntries, entries_at}
+use Rattle.index_changes.specs.Plans.{IsMade, IsPlan, brought}
+use Rattle.index_changes.proofs.Basics.{and_both, no_both, not_false, not_true}
+use Rattle.index_changes.proofs.BroughtOver.{none_pending}
 use Rattle.partition.specs.declared.cell.Partition.{Partition}
 use Rattle.partition.specs.Holds.{Holds, lives, pending_for, slot_for}
 use Rattle.partition.specs.InStep.{IsInStep, moves_for, moves_kept}

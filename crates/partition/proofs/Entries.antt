@@ -12,7 +12,7 @@ use Rattle.txn_core.specs.History.{effect_of}
 use Rattle.txn_core.specs.Feeding.{event_of, feed_after}
 use Rattle.txn_core.specs.Legal.{IsAnswer, sent_to, state}
 use Rattle.partition.specs.declared.cell.Partition.{Partition}
-use Rattle.planned_changes.specs.Entries.{LocalEntries}
+use Rattle.index_changes.specs.Entries.{LocalEntries}
 use Rattle.partition.specs.Holds.{Holds}
 use Rattle.partition.specs.InStep.{IsInStep}
 use Rattle.partition.specs.Says.{Keeps, Leaves, Stands}

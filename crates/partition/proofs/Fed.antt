@@ -18,12 +18,12 @@ use Rattle.item_store.specs.Counts.{tally}
 use Rattle.global_index.specs.Marks.{mark_in}
 use Rattle.global_index.specs.Outboxes.{has_first}
 use Rattle.global_index.specs.Rows.{row_under}
-use Rattle.prepared_changes.specs.Prepared.{prepared_in}
+use Rattle.index_changes.specs.Prepared.{prepared_in}
 use Rattle.partition.specs.declared.cell.Partition.{Partition}
 use Rattle.partition.specs.Holds.{Holds}
 use Rattle.partition.specs.Knows.{KeepsRows, LeftByAck, LeftByFeed, acked_by, fed_by, shown_by}
 use Rattle.partition.specs.Says.{ack_says, feed_says, out_says}
-use Rattle.planned_changes.proofs.Keys.{at_is, number_at, one_key}
+use Rattle.index_changes.proofs.Keys.{at_is, number_at, one_key}
 use Rattle.partition.proofs.Changing.{unchanged}
 
 first_is : {K V : Type 0} (n : ℕ) (xs : List (Change K V)) (s : ℕ) → has_first n xs s ≡ has_sequence (peek n xs) s

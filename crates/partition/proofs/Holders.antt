@@ -26,8 +26,8 @@ use Rattle.item_store.specs.Changes.{slot_at}
 use Rattle.partition.specs.declared.cell.Partition.{Partition}
 use Rattle.partition.specs.Holds.{Holds, lives, slot_for}
 use Rattle.partition.specs.Pendings.{AreOrdered, held_in_table, held_at, held_items}
-use Rattle.planned_changes.proofs.Basics.{some_is, and_both}
-use Rattle.planned_changes.proofs.Keys.{at_is, one_key}
+use Rattle.index_changes.proofs.Basics.{some_is, and_both}
+use Rattle.index_changes.proofs.Keys.{at_is, one_key}
 use Rattle.partition.proofs.Keeping.{holder_back}
 use Rattle.partition.proofs.Lists.{Apart, Ascend, all_from_each, any_filter_map, any_flat_map, apart_append, ascend, each_both, each_filter_map, each_flat_map, found, pairs_from_apart}
 

@@ -14,8 +14,8 @@ use Rattle.txn_core.specs.State.{Tally}
 use Rattle.item_store.specs.declared.slot.Pending.{Pending}
 use Rattle.item_store.specs.Slots.{counted}
 use Rattle.item_store.specs.Changes.{slot_at}
-use Rattle.prepared_changes.specs.declared.change.IndexChanges.{IndexChanges}
-use Rattle.prepared_changes.specs.Prepared.{Moves, moves_in, no_moves, prepared_in}
+use Rattle.index_changes.specs.declared.change.IndexChanges.{IndexChanges}
+use Rattle.index_changes.specs.Prepared.{Moves, moves_in, no_moves, prepared_in}
 use Rattle.partition.specs.declared.cell.Partition.{Partition}
 use Rattle.partition.specs.Stores.{slot_held, slot_written}
 use Rattle.partition.specs.Changes.{Changes, IsUnprepared, set_at}

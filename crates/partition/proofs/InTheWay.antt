@@ -21,11 +21,11 @@ use Rattle.item_store.specs.Slots.{held_in, holder_of, number_of}
 use Rattle.item_store.specs.Tables.{slot_in}
 use Rattle.item_store.specs.Changes.{slot_at}
 use Rattle.partition.specs.declared.cell.Partition.{Partition}
-use Rattle.planned_changes.specs.declared.command_rules.TableChange.{TableChange}
-use Rattle.planned_changes.specs.Commands.{AreCommandsLawful, is_number, subject}
+use Rattle.index_changes.specs.declared.command_rules.TableChange.{TableChange}
+use Rattle.index_changes.specs.Commands.{AreCommandsLawful, is_number, subject}
 use Rattle.partition.specs.Holds.{Holds, lives, slot_for}
 use Rattle.partition.specs.Holders.{TellsHolder, least_in, lesser}
-use Rattle.planned_changes.proofs.Basics.{some_is, and_both}
+use Rattle.index_changes.proofs.Basics.{some_is, and_both}
 use Rattle.partition.proofs.Holders.{told}
 use Rattle.partition.proofs.Keeping.{holder_back}
 use Rattle.partition.proofs.Lists.{ascend, found, looked}

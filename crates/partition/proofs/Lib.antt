@@ -1,5 +1,6 @@
 pub mod Holding
 pub mod Moved
+pub mod Evaluated
 pub mod Keeping
 pub mod Changing
 pub mod Stepping

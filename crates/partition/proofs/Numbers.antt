@@ -2,8 +2,8 @@
 use Rattle.std.proofs.Common.{◌≡◌, ℕ, ◌∷◌, ◌++◌, nat_eq, not, ◌&&◌, ◌||◌, Bool, true, false, if◌then◌else◌, List, [], refl, sym, ap, ◌∙◌}
 use Rattle.std.specs.List.{flat_map, list_any}
 use Rattle.std.proofs.lemmas.Bool.{eq-eqb, eqb-true}
-use Rattle.planned_changes.specs.Commands.{is_in, without}
-use Rattle.planned_changes.proofs.Basics.{or_left, or_right}
+use Rattle.index_changes.specs.Commands.{is_in, without}
+use Rattle.index_changes.proofs.Basics.{or_left, or_right}
 
 -- a number is among those that are not among others where it is among those and not among the others
 pub in_without : (others xs : List ℕ) (g : ℕ) → is_in (without others xs) g ≡ (is_in xs g && not (is_in others g))

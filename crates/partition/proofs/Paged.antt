@@ -26,7 +26,7 @@ use Rattle.item_store.specs.Tables.{slot_in}
 use Rattle.global_index.specs.Rows.{row_in}
 use Rattle.partition.specs.declared.cell.Partition.{Partition}
 use Rattle.local_index.specs.Entries.{is_among}
-use Rattle.planned_changes.specs.Entries.{LocalEntries, entries_at}
+use Rattle.index_changes.specs.Entries.{LocalEntries, entries_at}
 use Rattle.partition.specs.Holds.{Holds, slot_for}
 use Rattle.partition.specs.InStep.{IsInStep}
 use Rattle.partition.specs.Listed.{ListsAll}

@@ -15,14 +15,14 @@ use Rattle.global_index.specs.Marks.{mark_in}
 use Rattle.global_index.specs.Rows.{row_under}
 use Rattle.local_index.specs.declared.indexes.LocalIndexes.{LocalIndexes}
 use Rattle.local_index.specs.Tables.{claim_under}
-use Rattle.prepared_changes.specs.Prepared.{moves_in, prepared_in}
+use Rattle.index_changes.specs.Prepared.{moves_in, prepared_in}
 use Rattle.partition.specs.declared.cell.Partition.{Partition}
-use Rattle.planned_changes.specs.declared.command_rules.TableChange.{TableChange}
-use Rattle.planned_changes.specs.declared.plan.CatalogPlan.{CatalogPlan}
-use Rattle.planned_changes.specs.Commands.{dropped_by, subject}
+use Rattle.index_changes.specs.declared.command_rules.TableChange.{TableChange}
+use Rattle.index_changes.specs.declared.plan.CatalogPlan.{CatalogPlan}
+use Rattle.index_changes.specs.Commands.{dropped_by, subject}
 use Rattle.partition.specs.Holds.{Holds}
-use Rattle.planned_changes.specs.Plans.{IsMade, IsOrderedFor, IsPlan, brought, closed_by, queued_for}
-use Rattle.planned_changes.specs.Entries.{AreEntriesLawful, LocalEntries}
+use Rattle.index_changes.specs.Plans.{IsMade, IsOrderedFor, IsPlan, brought, closed_by, queued_for}
+use Rattle.index_changes.specs.Entries.{AreEntriesLawful, LocalEntries}
 use Rattle.partition.specs.InStep.{StaysInStep}
 use Rattle.partition.specs.Plans.{IsPlaced, SameButPlan}
 use Rattle.partition.proofs.Staying.{same_stays}

@@ -14,8 +14,8 @@ use Rattle.index_feed.specs.Laws.{AreInOrder, IsListOf}
 use Rattle.item_store.specs.declared.slot.Committed.{Committed}
 use Rattle.item_store.specs.declared.slot.Slot.{Slot}
 use Rattle.item_store.specs.Slots.{item_of, row_of}
-use Rattle.planned_changes.proofs.Basics.{no_both}
-use Rattle.planned_changes.proofs.Foundings.{founding_none}
+use Rattle.index_changes.proofs.Basics.{no_both}
+use Rattle.index_changes.proofs.Foundings.{founding_none}
 use Rattle.partition.proofs.Lists.{Ascend, looked}
 use Rattle.partition.proofs.Unique.{filtered, item_looked, items_at, items_rise, unique}
 

@@ -20,12 +20,12 @@ use Rattle.local_index.specs.Entries.{held_too, is_among, let_go, noted, settled
 use Rattle.local_index.specs.Tables.{ClaimsUnder}
 use Rattle.local_index.specs.Items.{AreOf, AreShares, Belong, KeepsToItems, with_share}
 use Rattle.local_index.proofs.Kept.{kept}
-use Rattle.prepared_changes.specs.declared.change.IndexChanges.{IndexChanges}
-use Rattle.prepared_changes.specs.Prepared.{Moves, moves_in, no_moves}
-use Rattle.planned_changes.specs.Entries.{AreEntriesLawful, LocalEntries, entries_at, moves_by}
+use Rattle.index_changes.specs.declared.change.IndexChanges.{IndexChanges}
+use Rattle.index_changes.specs.Prepared.{Moves, moves_in, no_moves}
+use Rattle.index_changes.specs.Entries.{AreEntriesLawful, LocalEntries, entries_at, moves_by}
 use Rattle.partition.specs.Moves.{AreUnheld, SameClaims}
 use Rattle.partition.specs.InStep.{AreInStep, moves_for, moves_kept}
-use Rattle.planned_changes.proofs.Keys.{at_is, number_at, one_key}
+use Rattle.index_changes.proofs.Keys.{at_is, number_at, one_key}
 
 -- a slot's image
 abbrev image_in : {V : Type 0} → Option (Slot V) → Option V

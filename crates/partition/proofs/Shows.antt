@@ -15,7 +15,7 @@ use Rattle.local_index.specs.Claims.{is_committed, is_held}
 use Rattle.local_index.specs.Entries.{claim_between, is_among}
 use Rattle.local_index.specs.Tables.{claim_under}
 use Rattle.partition.specs.declared.cell.Partition.{Partition}
-use Rattle.planned_changes.specs.Entries.{LocalEntries, entries_at}
+use Rattle.index_changes.specs.Entries.{LocalEntries, entries_at}
 use Rattle.partition.specs.Holds.{lives, pending_for, slot_for}
 use Rattle.partition.specs.Shown.{ShowsEntries, image_held}
 use Rattle.partition.proofs.Keeping.{pending_back, row_back}

@@ -5,11 +5,11 @@ use Rattle.std.proofs.lemmas.Bool.{eq-eqb, eqb-true}
 use Rattle.index_feed.specs.Feed.{change_of, changes, founding, row_in, served}
 use Rattle.txn_core.specs.Indexing.{indexed}
 use Rattle.txn_core.specs.Service.{Service, IsServiceLawful}
-use Rattle.planned_changes.specs.declared.command_rules.TableChange.{TableChange}
-use Rattle.planned_changes.specs.declared.command_rules.TableChange.TheVariants.{Makes, Drops, Alters, Nothing}
-use Rattle.planned_changes.specs.Commands.{AreCommandsLawful, alters, drops, is_in, is_number, makes, subject}
-use Rattle.planned_changes.specs.Plans.{closed_by, has_new}
-use Rattle.planned_changes.proofs.Basics.{no_both, not_true, not_is}
+use Rattle.index_changes.specs.declared.command_rules.TableChange.{TableChange}
+use Rattle.index_changes.specs.declared.command_rules.TableChange.TheVariants.{Makes, Drops, Alters, Nothing}
+use Rattle.index_changes.specs.Commands.{AreCommandsLawful, alters, drops, is_in, is_number, makes, subject}
+use Rattle.index_changes.specs.Plans.{closed_by, has_new}
+use Rattle.index_changes.proofs.Basics.{no_both, not_true, not_is}
 use Rattle.partition.proofs.Numbers.{in_without, none_passes, nothing_at_all, same_at_each}
 
 module _

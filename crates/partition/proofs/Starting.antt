@@ -18,11 +18,11 @@ use Rattle.local_index.specs.Tables.{claim_in, has_table as has_entries}
 use Rattle.item_store.specs.Counts.{fresh, tally}
 use Rattle.global_index.specs.Marks.{mark_in}
 use Rattle.global_index.specs.Rows.{has_index, row_in}
-use Rattle.prepared_changes.specs.declared.change.IndexChanges.{IndexChanges}
-use Rattle.prepared_changes.specs.Prepared.{moves_in, no_moves, prepared_in}
+use Rattle.index_changes.specs.declared.change.IndexChanges.{IndexChanges}
+use Rattle.index_changes.specs.Prepared.{moves_in, no_moves, prepared_in}
 use Rattle.partition.specs.declared.cell.Partition.{Partition}
 use Rattle.partition.specs.Holds.{Holds, lives}
-use Rattle.planned_changes.specs.Entries.{LocalEntries, entries_at}
+use Rattle.index_changes.specs.Entries.{LocalEntries, entries_at}
 use Rattle.partition.specs.InStep.{AreInStep, moves_kept}
 use Rattle.partition.specs.Says.{first_feed, first_state}
 

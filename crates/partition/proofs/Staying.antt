@@ -18,9 +18,9 @@ use Rattle.local_index.specs.declared.claim.Claim.TheVariants.{Committed as IsCo
 use Rattle.local_index.specs.Claims.{claim_of, is_committed, is_held}
 use Rattle.local_index.specs.Entries.{held_too, let_go, noted, settled}
 use Rattle.local_index.specs.Tables.{ClaimsUnder, claim_under}
-use Rattle.prepared_changes.specs.Prepared.{Moves, moves_in, no_moves}
+use Rattle.index_changes.specs.Prepared.{Moves, moves_in, no_moves}
 use Rattle.partition.specs.declared.cell.Partition.{Partition}
-use Rattle.planned_changes.specs.Entries.{AreEntriesLawful, LocalEntries, entries_at, moves_by}
+use Rattle.index_changes.specs.Entries.{AreEntriesLawful, LocalEntries, entries_at, moves_by}
 use Rattle.partition.specs.Stores.{slot_held, slot_let_go, slot_settled, slot_written}
 use Rattle.partition.specs.Moves.{AreUnheld, HasNoMoves, MovesEntries, SameEntries, moves_at}
 use Rattle.partition.specs.InStep.{AreInStep, StaysInStep}

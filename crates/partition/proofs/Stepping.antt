@@ -21,14 +21,14 @@ use Rattle.txn_core.specs.State.{Pending as Held, Spot, State, Tally, hold, hold
 use Rattle.item_store.specs.declared.slot.Pending.{Pending}
 use Rattle.item_store.specs.Slots.{committed_at, committed_of, counted, holder_of, image_of, number_of, pending_of, row_of, slot_of, stamp_of}
 use Rattle.item_store.specs.Counts.{tally}
-use Rattle.prepared_changes.specs.Prepared.{prepared_in}
+use Rattle.index_changes.specs.Prepared.{prepared_in}
 use Rattle.partition.specs.declared.cell.Partition.{Partition}
 use Rattle.partition.specs.Holds.{Holds, pending_for, queued_by}
 use Rattle.partition.specs.Stores.{slot_held, slot_let_go, slot_settled, slot_written}
 use Rattle.partition.specs.Changes.{IsUnprepared, set_at}
-use Rattle.partition.specs.Knows.{HeldFor, HeldOrSame, LeftByApply, LeftByPrepare, LeftByRelease, LeftByWrite, kept_at, outcome_at}
+use Rattle.partition.specs.Knows.{HeldFor, HeldOrSame, IsClean, LeftByApply, LeftByPrepare, LeftByRelease, LeftByWrite, kept_at, outcome_at}
 use Rattle.partition.proofs.Keeping.{committed_back, counted_is, holder_is, kept_is, last_is, pending_back, row_is}
-use Rattle.planned_changes.proofs.Keys.{at_is, one_key}
+use Rattle.index_changes.proofs.Keys.{at_is, one_key}
 use Rattle.partition.proofs.Changing.{FeedFollows, changed, moved_to, same_ready, set_ready, unchanged}
 
 module _ {V : Type 0} where
@@ -210,11 +210,14 @@ module _
   held_by n stamp = record { number = n; stamp = stamp; image = made }
 
   -- nothing is set aside for an item that nobody holds
-  pub none_ready : holder_of (kept_at S c k) ≡ None → IsUnprepared c k
+  none_ready : holder_of (kept_at S c k) ≡ None → IsUnprepared c k
   none_ready none q e =
       subst (λ z. prepared_in O.cmp c.prepared.lists z ≡ []) (one_key S law k q (sym (at_is S law ordered k q) ∙ e))
       (ready_is S law ordered k c d w f here
       ∙ (λ j. queued_by S w.catalog k spot.row (none_held spot.pend (sym (holder_is S k c w f here) ∙ none) j)))
+
+  pub is_clean : IsClean S c k
+  is_clean = record { unprepared = none_ready }
 
   again :
       (n m : ℕ) (stamp : Stamp) → holder_of (kept_at S c k) ≡ Some m

@@ -13,7 +13,7 @@ use Rattle.index_feed.proofs.Overlays.{each_weaker}
 use Rattle.item_store.specs.declared.slot.Committed.{Committed}
 use Rattle.item_store.specs.declared.slot.Slot.{Slot}
 use Rattle.item_store.specs.Slots.{item_of, row_of}
-use Rattle.planned_changes.proofs.Basics.{some_is}
+use Rattle.index_changes.proofs.Basics.{some_is}
 use Rattle.partition.proofs.Lists.{Ascend, at_itself}
 
 module _ {K : Type 0} (cmp : K → K → Ordering) (exact : (x y : K) → is_at (cmp x) y ≡ true → x ≡ y) where

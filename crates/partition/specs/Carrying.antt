@@ -9,8 +9,8 @@ use Rattle.txn_core.specs.Service.{Service, Event, History}
 use Rattle.txn_core.specs.Cells.{of_cell}
 use Rattle.txn_core.specs.Legal.{IsLegal}
 use Rattle.partition.specs.declared.cell.Partition.{Partition}
-use Rattle.planned_changes.specs.declared.command_rules.TableChange.{TableChange}
-use Rattle.planned_changes.specs.Entries.{LocalEntries}
+use Rattle.index_changes.specs.declared.command_rules.TableChange.{TableChange}
+use Rattle.index_changes.specs.Entries.{LocalEntries}
 use Rattle.partition.specs.InStep.{StaysInStep}
 use Rattle.partition.specs.Plans.{IsPlanned}
 use Rattle.partition.specs.Says.{Stands}

@@ -6,12 +6,16 @@ use Rattle.std.specs.declared.cmp.Ord as ord
 use Rattle.std.specs.declared.cmp.PartialEq as eq
 use Rattle.std.specs.declared.cmp.PartialOrd as partial
 use Rattle.index_feed.specs.declared.change.Change.{Change}
+use Rattle.txn_core.specs.declared.stamp.Stamp.{Stamp}
 use Rattle.txn_core.specs.State.{Tally}
+use Rattle.item_store.specs.declared.slot.Pending.{Pending}
 use Rattle.item_store.specs.declared.slot.Slot.{Slot}
+use Rattle.item_store.specs.Slots.{counted, image_of, pending_of, stamp_of}
 use Rattle.item_store.specs.Changes.{slot_at}
 use Rattle.item_store.specs.Counts.{tally}
-use Rattle.prepared_changes.specs.Prepared.{Moves, moves_in, prepared_in}
+use Rattle.index_changes.specs.Prepared.{Moves, moves_in, prepared_in}
 use Rattle.partition.specs.declared.cell.Partition.{Partition}
+use Rattle.partition.specs.Stores.{slot_held, slot_let_go, slot_settled, slot_written}
 
 module _
     {K V C : Type 0} {O : ord.Ghosts K} {E : eq.Ghosts K} {P : partial.Ghosts K}
@@ -43,6 +47,31 @@ module _
     pub prepared_are : (q : K) → prepared_in O.cmp d.prepared.lists q ≡ ready q
     pub waiting : d.outbox.waiting.items ≡ c.outbox.waiting.items ++ queued
     pub beside : SameBeside c d
+
+  -- a write at a stamp made an item this, and queued these changes
+  abbrev pub WritesItem :
+      Partition K V C N O E P X Y Z → Partition K V C N O E P X Y Z → ℕ → K → Option V → Stamp → List (Change K V) → Type 0
+  WritesItem c d u k row own queued =
+      let old = slot_at c.items u k in
+      let numbers = tally c.items.counts in
+      Changes c d u k (slot_written numbers old row own) (counted numbers old row own) (λ q. prepared_in O.cmp c.prepared.lists q) queued
+
+  -- a transaction holds an item, and this is set aside for each
+  abbrev pub HoldsItem :
+      Partition K V C N O E P X Y Z → Partition K V C N O E P X Y Z → ℕ → K → Pending V → (K → List (Change K V)) → Type 0
+  HoldsItem c d u k p ready = Changes c d u k (slot_held (slot_at c.items u k) p) (tally c.items.counts) ready []
+
+  -- the end of the transaction that held an item made it what it was to be, and queued what was set aside for it
+  abbrev pub SettlesItem : Partition K V C N O E P X Y Z → Partition K V C N O E P X Y Z → ℕ → K → Type 0
+  SettlesItem c d u k =
+      let old = slot_at c.items u k in
+      let numbers = tally c.items.counts in
+      Changes c d u k (slot_settled numbers old) (counted numbers old (image_of (pending_of old)) (stamp_of (pending_of old)))
+      (set_at c k []) (prepared_in O.cmp c.prepared.lists k)
+
+  -- or let it go
+  abbrev pub ReleasesItem : Partition K V C N O E P X Y Z → Partition K V C N O E P X Y Z → ℕ → K → Type 0
+  ReleasesItem c d u k = Changes c d u k (slot_let_go (slot_at c.items u k)) (tally c.items.counts) (set_at c k []) []
 
   -- these changes are what the end of the transaction that holds an item will queue, these entries it will move, and all else is
   -- as it was

@@ -15,7 +15,7 @@ use Rattle.item_store.specs.Changes.{slot_at}
 use Rattle.item_store.specs.Counts.{tally}
 use Rattle.global_index.specs.Marks.{mark_in}
 use Rattle.global_index.specs.Rows.{row_under}
-use Rattle.prepared_changes.specs.Prepared.{prepared_in}
+use Rattle.index_changes.specs.Prepared.{prepared_in}
 use Rattle.partition.specs.declared.cell.Partition.{Partition}
 
 module _ {V : Type 0} where

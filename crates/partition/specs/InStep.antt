@@ -13,10 +13,10 @@ use Rattle.item_store.specs.Slots.{image_of, pending_of, row_of}
 use Rattle.item_store.specs.Changes.{slot_at}
 use Rattle.local_index.specs.declared.claim.Claim.{Claim}
 use Rattle.local_index.specs.Items.{AreOf}
-use Rattle.prepared_changes.specs.declared.change.IndexChanges.{IndexChanges}
-use Rattle.prepared_changes.specs.Prepared.{Moves, moves_in, no_moves}
+use Rattle.index_changes.specs.declared.change.IndexChanges.{IndexChanges}
+use Rattle.index_changes.specs.Prepared.{Moves, moves_in, no_moves}
 use Rattle.partition.specs.declared.cell.Partition.{Partition}
-use Rattle.planned_changes.specs.Entries.{LocalEntries, entries_at, moves_by}
+use Rattle.index_changes.specs.Entries.{LocalEntries, entries_at, moves_by}
 
 module _ {K V C N : Type 0} (L : LocalEntries K V C N) where
   -- the moves of entries that the end of the transaction that holds an item makes, which is this now: none where nobody holds it

@@ -1,5 +1,5 @@
 -- What a cell answers to a message on an item, and what it leaves, by what it keeps of the item.
-use Rattle.std.specs.Prelude.{◌≡◌, ℕ, ◌+◌, ◌&&◌, nat_eq, nat_lt, Bool, true, false, if◌then◌else◌, [], drop, Option, None, Some, IsSome}
+use Rattle.std.specs.Prelude.{◌≡◌, ℕ, ◌+◌, ◌&&◌, nat_eq, nat_lt, Bool, true, false, if◌then◌else◌, drop, Option, None, Some, IsSome}
 use Rattle.std.specs.Ordering.{nat_cmp}
 use Rattle.std.specs.BTreeMap.{is_at}
 use Rattle.std.specs.declared.cmp.Ord as ord
@@ -15,16 +15,13 @@ use Rattle.txn_core.specs.Protocol.{after}
 use Rattle.txn_core.specs.declared.outcome.Outcome.{Outcome}
 use Rattle.txn_core.specs.Answers.{ack_answer, apply_answer, get_answer, out_answer, prepare_answer, release_answer, version_answer, write_answer}
 use Rattle.item_store.specs.declared.slot.Slot.{Slot}
-use Rattle.item_store.specs.Slots.{counted, holder_of, image_of, last_of, pending_of, row_of, stamp_of, version_of}
+use Rattle.item_store.specs.Slots.{holder_of, last_of, pending_of, row_of, version_of}
 use Rattle.item_store.specs.Changes.{slot_at}
-use Rattle.item_store.specs.Counts.{tally}
 use Rattle.global_index.specs.Marks.{mark_in}
 use Rattle.global_index.specs.Outboxes.{has_first}
 use Rattle.global_index.specs.Rows.{row_under}
-use Rattle.prepared_changes.specs.Prepared.{prepared_in}
 use Rattle.partition.specs.declared.cell.Partition.{Partition}
-use Rattle.partition.specs.Stores.{slot_held, slot_let_go, slot_settled, slot_written}
-use Rattle.partition.specs.Changes.{Changes, Unchanged, set_at}
+use Rattle.partition.specs.Changes.{HoldsItem, IsUnprepared, ReleasesItem, SettlesItem, Unchanged, WritesItem, set_at}
 
 module _
     {K V A F C D Q B : Type 0} (S : Service K V A F C D Q B) {O : ord.Ghosts K} {E : eq.Ghosts K} {P : partial.Ghosts K}
@@ -69,10 +66,7 @@ module _
   -- what is left of the cell: after a write that made the item this
   abbrev pub Written : Partition K V C N O E P X Y Z → Partition K V C N O E P X Y Z → K → Option V → ℕ → Type 0
   Written c d k row moment =
-      let s = kept_at c k in
-      let t = tally c.items.counts in
-      Changes c d (S.core.table k) k (slot_written t s row (single moment)) (counted t s row (single moment))
-      (λ q. prepared_in O.cmp c.prepared.lists q) (changes (indexed S.core S.index) c.catalog k (row_of s) row)
+      WritesItem c d (S.core.table k) k row (single moment) (changes (indexed S.core S.index) c.catalog k (row_of (kept_at c k)) row)
 
   -- after a Write, where it was carried out or not
   abbrev pub LeftByWrite : Partition K V C N O E P X Y Z → Partition K V C N O E P X Y Z → A → ℕ → Bool → Type 0
@@ -82,12 +76,15 @@ module _
       (pending_of s ≡ None) × Written c d k (after (outcome_at c action) (row_of s)) moment
   LeftByWrite c d action moment false = Unchanged c d
 
+  -- where nobody holds a key's item, nothing is set aside for it
+  pub record IsClean (c : Partition K V C N O E P X Y Z) (k : K) : Type 0 where
+    pub unprepared : holder_of (kept_at c k) ≡ None → IsUnprepared c k
+
   -- after a Prepare that held the item, which will be this
   abbrev pub HeldFor : Partition K V C N O E P X Y Z → Partition K V C N O E P X Y Z → K → ℕ → Stamp → Option V → Type 0
   HeldFor c d k n stamp image =
-      let s = kept_at c k in
-      Changes c d (S.core.table k) k (slot_held s (record { number = n; stamp = stamp; image = image })) (tally c.items.counts)
-      (set_at c k (changes (indexed S.core S.index) c.catalog k (row_of s) image)) []
+      HoldsItem c d (S.core.table k) k (record { number = n; stamp = stamp; image = image })
+      (set_at c k (changes (indexed S.core S.index) c.catalog k (row_of (kept_at c k)) image))
 
   -- by who held it before
   abbrev pub HeldOrSame : Partition K V C N O E P X Y Z → Partition K V C N O E P X Y Z → A → ℕ → Stamp → Option ℕ → Type 0
@@ -102,17 +99,11 @@ module _
 
   -- after an Apply and a Release, where they were carried out or not
   abbrev pub LeftByApply : Partition K V C N O E P X Y Z → Partition K V C N O E P X Y Z → K → Bool → Type 0
-  LeftByApply c d k true =
-      let s = kept_at c k in
-      let t = tally c.items.counts in
-      IsSome (pending_of s)
-      × Changes c d (S.core.table k) k (slot_settled t s) (counted t s (image_of (pending_of s)) (stamp_of (pending_of s)))
-      (set_at c k []) (prepared_in O.cmp c.prepared.lists k)
+  LeftByApply c d k true = IsSome (pending_of (kept_at c k)) × SettlesItem c d (S.core.table k) k
   LeftByApply c d k false = Unchanged c d
 
   abbrev pub LeftByRelease : Partition K V C N O E P X Y Z → Partition K V C N O E P X Y Z → K → Bool → Type 0
-  LeftByRelease c d k true =
-      Changes c d (S.core.table k) k (slot_let_go (kept_at c k)) (tally c.items.counts) (set_at c k []) []
+  LeftByRelease c d k true = ReleasesItem c d (S.core.table k) k
   LeftByRelease c d k false = Unchanged c d
 
   -- the first change that waits, as it is shown; whether it has this number

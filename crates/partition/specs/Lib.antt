@@ -7,6 +7,7 @@ pub mod InStep
 pub mod Shown
 pub mod Knows
 pub mod Makes
+pub mod Evaluations
 pub mod Steps
 pub mod Listed
 pub mod Pages

@@ -10,7 +10,7 @@ use Rattle.local_index.specs.declared.claim.Claim.{Claim}
 use Rattle.local_index.specs.Claims.{is_held}
 use Rattle.local_index.specs.Entries.{is_among}
 use Rattle.local_index.specs.Tables.{ClaimsUnder, claim_under}
-use Rattle.prepared_changes.specs.Prepared.{Moves, moves_in, no_moves}
+use Rattle.index_changes.specs.Prepared.{Moves, moves_in, no_moves}
 use Rattle.partition.specs.declared.cell.Partition.{Partition}
 
 module _ {N : Type 0} (cmp : N → N → Ordering) where

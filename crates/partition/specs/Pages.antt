@@ -21,7 +21,7 @@ use Rattle.local_index.specs.Claims.{is_committed}
 use Rattle.local_index.specs.Entries.{is_among}
 use Rattle.local_index.specs.Tables.{claim_in}
 use Rattle.partition.specs.declared.cell.Partition.{Partition}
-use Rattle.planned_changes.specs.Entries.{LocalEntries, entries_at}
+use Rattle.index_changes.specs.Entries.{LocalEntries, entries_at}
 use Rattle.partition.specs.Holds.{Holds}
 use Rattle.partition.specs.InStep.{IsInStep}
 use Rattle.partition.specs.Listed.{ListsAll}

@@ -13,14 +13,14 @@ use Rattle.item_store.specs.Counts.{tally}
 use Rattle.global_index.specs.Rows.{row_under}
 use Rattle.local_index.specs.declared.claim.Claim.{Claim}
 use Rattle.local_index.specs.Tables.{claim_under}
-use Rattle.planned_changes.specs.declared.command_rules.TableChange.{TableChange}
-use Rattle.planned_changes.specs.declared.command_rules.TableChange.TheVariants.{Makes}
-use Rattle.planned_changes.specs.declared.plan.CatalogPlan.{CatalogPlan}
-use Rattle.planned_changes.specs.declared.plan.MadeTable.{MadeTable}
-use Rattle.planned_changes.specs.Commands.{is_in, is_number}
-use Rattle.planned_changes.specs.Entering.{AreEntered}
-use Rattle.planned_changes.specs.Entries.{LocalEntries}
-use Rattle.planned_changes.specs.Plans.{IsPlan}
+use Rattle.index_changes.specs.declared.command_rules.TableChange.{TableChange}
+use Rattle.index_changes.specs.declared.command_rules.TableChange.TheVariants.{Makes}
+use Rattle.index_changes.specs.declared.plan.CatalogPlan.{CatalogPlan}
+use Rattle.index_changes.specs.declared.plan.MadeTable.{MadeTable}
+use Rattle.index_changes.specs.Commands.{is_in, is_number}
+use Rattle.index_changes.specs.Entering.{AreEntered}
+use Rattle.index_changes.specs.Entries.{LocalEntries}
+use Rattle.index_changes.specs.Plans.{IsPlan}
 use Rattle.partition.specs.declared.cell.Partition.{Partition}
 
 -- a table that a change makes has a place among these

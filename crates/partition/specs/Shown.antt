@@ -14,7 +14,7 @@ use Rattle.local_index.specs.declared.claim.Claim.{Claim}
 use Rattle.local_index.specs.Claims.{is_committed, is_held}
 use Rattle.local_index.specs.Entries.{is_among}
 use Rattle.partition.specs.declared.cell.Partition.{Partition}
-use Rattle.planned_changes.specs.Entries.{LocalEntries, entries_at}
+use Rattle.index_changes.specs.Entries.{LocalEntries, entries_at}
 use Rattle.partition.specs.Holds.{Holds, lives}
 use Rattle.partition.specs.InStep.{IsInStep}
 

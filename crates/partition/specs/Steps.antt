@@ -7,7 +7,7 @@ use Rattle.txn_core.specs.declared.message.Message.{Message}
 use Rattle.txn_core.specs.Service.{Service, Asked, Reply, Event, History}
 use Rattle.txn_core.specs.Legal.{IsAnswer, sent_to}
 use Rattle.partition.specs.declared.cell.Partition.{Partition}
-use Rattle.planned_changes.specs.Entries.{LocalEntries}
+use Rattle.index_changes.specs.Entries.{LocalEntries}
 use Rattle.partition.specs.InStep.{IsInStep}
 use Rattle.partition.specs.Says.{Stands}
 

@@ -11,7 +11,7 @@ use Rattle.txn_core.specs.State.{Tally}
 use Rattle.item_store.specs.declared.slot.Slot.{Slot}
 use Rattle.item_store.specs.declared.slot.Pending.{Pending}
 use Rattle.item_store.specs.declared.store.ItemStore.{ItemStore}
-use Rattle.item_store.specs.Slots.{committed_at, committed_of, image_of, last_of, pending_of, slot_of, stamp_of}
+use Rattle.item_store.specs.Slots.{committed_at, committed_of, counted, image_of, last_of, pending_of, slot_of, stamp_of}
 use Rattle.item_store.specs.Changes.{slot_at}
 use Rattle.item_store.specs.Counts.{tally}
 
@@ -36,6 +36,17 @@ module _ {K V : Type 0} {O : ord.Ghosts K} {E : eq.Ghosts K} {P : partial.Ghosts
   pub record ChangesItem (s t : ItemStore K V O E P) (u : ℕ) (k : K) (new : Option (Slot V)) (numbers : Tally) : Type 0 where
     pub slots : (v : ℕ) (q : K) → slot_at t v q ≡ (if is_at (nat_cmp u) v && is_at (O.cmp k) q then new else slot_at s v q)
     pub numbers_are : tally t.counts ≡ numbers
+
+  -- a write at a stamp made the item this
+  abbrev pub WritesIn : ItemStore K V O E P → ItemStore K V O E P → ℕ → K → Option V → Stamp → Type 0
+  WritesIn s t u k row own =
+      let old = slot_at s u k in
+      let numbers = tally s.counts in
+      ChangesItem s t u k (slot_written numbers old row own) (counted numbers old row own)
+
+  -- a transaction holds the item
+  abbrev pub HoldsIn : ItemStore K V O E P → ItemStore K V O E P → ℕ → K → Pending V → Type 0
+  HoldsIn s t u k p = ChangesItem s t u k (slot_held (slot_at s u k) p) (tally s.counts)
 
   -- each item has its own slot, and floor and numbers are as they were
   pub record SameItems (s t : ItemStore K V O E P) : Type 0 where

@@ -5,15 +5,14 @@ ghost use Rattle.global_index.specs.Rows.{row_under};
 ghost use Rattle.item_store.specs.Counts.{tally};
 ghost use Rattle.item_store.specs.Changes.{slot_at};
 ghost use Rattle.local_index.specs.Tables.{claim_under};
-ghost use Rattle.planned_changes.specs.Commands.{is_in, is_number};
+ghost use Rattle.index_changes.specs.Commands.{is_in, is_number};
 ghost use Rattle.partition.specs.Plans.{HasPlace, entered, filled, HasRoom, LeftByPlan, SameButPlan};
 
 use crate::cell::Partition;
 use global_index::IndexRows;
+use index_changes::{CatalogPlan, MadeTable, queue_all};
 use item_store::ItemStore;
 use local_index::LocalIndexes;
-use planned_changes::{CatalogPlan, MadeTable};
-use prepared_changes::queue_all;
 use std::alloc::AllocError as NoMemory;
 
 /// Drops indexes with their rows.

@@ -1,14 +1,13 @@
 //! What a cell keeps.
 
 ghost use Rattle.std.specs.Prelude.{◌≡◌, ◌+◌, ◌≤◌, length};
-ghost use Rattle.prepared_changes.specs.Prepared.{places_in};
-ghost use Rattle.planned_changes.specs.Places.{places_of};
+ghost use Rattle.index_changes.specs.Prepared.{places_in};
+ghost use Rattle.index_changes.specs.Places.{places_of};
 
 use global_index::{IndexRows, Marks, Outbox};
+use index_changes::{CatalogPlan, CellRules, PreparedChanges};
 use item_store::ItemStore;
 use local_index::LocalIndexes;
-use planned_changes::{CatalogPlan, CellRules};
-use prepared_changes::PreparedChanges;
 use txn_core::Rules;
 
 /// A cell of tables. `K` is which item or which row of an index, `V` what it holds, `C` the catalog, and `N` an entry of a local

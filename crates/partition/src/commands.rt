@@ -5,14 +5,14 @@ ghost use Rattle.partition.specs.Carrying.{CarriesEntries, CarriesOut, CarriesOw
 ghost use Rattle.partition.specs.Changes.{Unchanged};
 ghost use Rattle.partition.specs.InStep.{StaysInStep};
 ghost use Rattle.partition.specs.Moves.{SameEntries};
-ghost use Rattle.planned_changes.specs.Entering.{AreEntered};
-ghost use Rattle.planned_changes.specs.Plans.{IsPlan};
+ghost use Rattle.index_changes.specs.Entering.{AreEntered};
+ghost use Rattle.index_changes.specs.Plans.{IsPlan};
 ghost use Rattle.partition.specs.Plans.{IsPlaced, IsPlanned};
 ghost use Rattle.partition.specs.Says.{Keeps};
 
 use crate::cell::PartitionOf;
 use crate::store::{open_entries, open_table};
-use planned_changes::{CatalogPlan, CellRules, CommandRules, TableChange, plan_of};
+use index_changes::{CatalogPlan, CellRules, CommandRules, TableChange, plan_of};
 use std::alloc::{AllocError as NoMemory, Global};
 
 /// Makes the places of a table that a command makes: one for its items, and one for their local entries.

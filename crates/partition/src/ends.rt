@@ -8,7 +8,7 @@ ghost use Rattle.partition.specs.Knows.{LeftByApply, LeftByRelease, applied, rel
 ghost use Rattle.partition.specs.Says.{Leaves, Says, apply_says, release_says};
 
 use crate::cell::PartitionOf;
-use planned_changes::CellRules;
+use index_changes::CellRules;
 use txn_core::{Answer, Reply};
 
 /// Makes an item what it is to be, if the transaction of this number holds it.

@@ -14,7 +14,7 @@ ghost use Rattle.partition.specs.Says.{Keeps, Leaves, Says, ack_says, feed_says,
 use crate::cell::PartitionOf;
 use crate::reads::copy_of_row;
 use global_index::IndexRows;
-use planned_changes::{CellRules, is_served};
+use index_changes::{CellRules, is_served};
 use std::alloc::{AllocError as NoMemory, Global};
 use txn_core::{Answer, Reply};
 

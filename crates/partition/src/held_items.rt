@@ -8,8 +8,8 @@ ghost use Rattle.partition.specs.Says.{SaysPendings};
 
 use crate::cell::PartitionOf;
 use base_types::Seq;
+use index_changes::CellRules;
 use item_store::{ItemStore, TableItems};
-use planned_changes::CellRules;
 use std::alloc::{AllocError as NoMemory, Global};
 use txn_core::{Answer, HeldItem, Reply};
 

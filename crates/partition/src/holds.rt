@@ -1,25 +1,21 @@
 //! Changes of one item of a cell.
 
-ghost use Rattle.std.specs.Prelude.{◌≡◌, ◌+◌, ◌≤◌, None, Some, [], IsTrue, false, IfOk, OnOk, OnErr, length};
+ghost use Rattle.std.specs.Prelude.{◌≡◌, ◌+◌, None, Some, [], IsTrue, false, IfOk, OnOk, OnErr};
 ghost use Rattle.txn_core.specs.Answers.{is_holder};
-ghost use Rattle.txn_core.specs.Stamps.{later};
-ghost use Rattle.item_store.specs.Slots.{counted, holder_of, image_of, pending_of, row_of, stamp_of};
-ghost use Rattle.item_store.specs.Tables.{has_table};
+ghost use Rattle.item_store.specs.Slots.{holder_of, pending_of, row_of};
 ghost use Rattle.local_index.specs.Entries.{held_too, let_go, noted, settled};
-ghost use Rattle.prepared_changes.specs.Prepared.{moves_in, moves_of, no_moves, places_in, prepared_in};
-ghost use Rattle.partition.specs.Stores.{slot_held, slot_let_go, slot_settled, slot_written};
+ghost use Rattle.index_changes.specs.Prepared.{moves_in, moves_of, no_moves, prepared_in};
 
 use crate::cell::Partition;
 use crate::store::{commit_with, hold, hold_with};
+use index_changes::{IndexChanges, queue_all};
 use item_store::Pending;
-use prepared_changes::{IndexChanges, queue_all};
 use std::alloc::{AllocError as NoMemory, Global};
 use txn_core::Stamp;
 
 impl<K: Ord, V, C, N: Ord> Partition<K, V, C, N> {
     ghost use Rattle.item_store.specs.Changes.{slot_at};
-    ghost use Rattle.item_store.specs.Counts.{tally};
-    ghost use Rattle.partition.specs.Changes.{Changes, IsUnprepared, SetsAside, Unchanged, set_at};
+    ghost use Rattle.partition.specs.Changes.{HoldsItem, IsUnprepared, ReleasesItem, SetsAside, SettlesItem, Unchanged, WritesItem, set_at};
     ghost use Rattle.partition.specs.Moves.{AreUnheld, HasNoMoves, KeepsItems, MovesEntries, SameEntries, moves_at};
 
     /// Puts an item that no transaction holds in its place, or takes it out, with these changes of indexes, and hands out the
@@ -40,10 +36,7 @@ impl<K: Ord, V, C, N: Ord> Partition<K, V, C, N> {
         requires copies { (entry copy : N) → N.is_clone entry copy → copy ≡ entry }
         requires free { pending_of (slot_at self.old.items table key) ≡ None }
         ensures old { IfOk result (λ old. old ≡ row_of (slot_at self.old.items table key)) }
-        ensures ok { OnOk result (Changes self.old self.new table key
-            (slot_written (tally self.old.items.counts) (slot_at self.old.items table key) item stamp)
-            (counted (tally self.old.items.counts) (slot_at self.old.items table key) item stamp)
-            (prepared_in K.cmp self.old.prepared.lists) changes.rows.items) }
+        ensures ok { OnOk result (WritesItem self.old self.new table key item stamp changes.rows.items) }
         ensures err { OnErr result (Unchanged self.old self.new) }
         ensures noted { OnOk result (AreUnheld N.cmp self.old.locals.tables table changes.new.items
             → MovesEntries self.old self.new table (noted N.cmp changes.old.items changes.new.items)
@@ -86,8 +79,7 @@ impl<K: Ord, V, C, N: Ord> Partition<K, V, C, N> {
         K: Drop,
         V: Drop,
         requires free { pending_of (slot_at self.old.items table key) ≡ None }
-        ensures ok { OnOk result (Changes self.old self.new table key (slot_held (slot_at self.old.items table key) pending)
-            (tally self.old.items.counts) (prepared_in K.cmp self.old.prepared.lists) []) }
+        ensures ok { OnOk result (HoldsItem self.old self.new table key pending (prepared_in K.cmp self.old.prepared.lists)) }
         ensures err { OnErr result (Unchanged self.old self.new) }
         ensures entries { SameEntries self.old self.new }
     {
@@ -150,8 +142,7 @@ impl<K: Ord, V, C, N: Ord> Partition<K, V, C, N> {
         requires copies { (entry copy : N) → N.is_clone entry copy → copy ≡ entry }
         requires one { held ≡ key.now }
         requires free { pending_of (slot_at self.old.items table key.now) ≡ None }
-        ensures ok { OnOk result (Changes self.old self.new table key.now (slot_held (slot_at self.old.items table key.now) pending)
-            (tally self.old.items.counts) (prepared_in K.cmp self.old.prepared.lists) []) }
+        ensures ok { OnOk result (HoldsItem self.old self.new table key.now pending (prepared_in K.cmp self.old.prepared.lists)) }
         ensures err { OnErr result (Unchanged self.old self.new) }
         ensures held { OnOk result (MovesEntries self.old self.new table
             (held_too N.cmp (moves_in K.cmp self.old.prepared.lists key.now).new) (moves_in K.cmp self.old.prepared.lists)) }
@@ -190,8 +181,7 @@ impl<K: Ord, V, C, N: Ord> Partition<K, V, C, N> {
         requires copies { (entry copy : N) → N.is_clone entry copy → copy ≡ entry }
         requires one { (held ≡ key.now) × (kept ≡ key.now) }
         requires free { pending_of (slot_at self.old.items table key.now) ≡ None }
-        ensures ok { OnOk result (Changes self.old self.new table key.now (slot_held (slot_at self.old.items table key.now) pending)
-            (tally self.old.items.counts) (set_at self.old key.now changes.rows.items) []) }
+        ensures ok { OnOk result (HoldsItem self.old self.new table key.now pending (set_at self.old key.now changes.rows.items)) }
         ensures err { OnErr result (IsUnprepared self.old key.now → Unchanged self.old self.new) }
         ensures held { OnOk result (MovesEntries self.old self.new table (held_too N.cmp changes.new.items)
             (moves_at self.old key.now (moves_of (Some changes)))) }
@@ -217,12 +207,7 @@ impl<K: Ord, V, C, N: Ord> Partition<K, V, C, N> {
         V: Drop,
         N: Drop,
         ensures answer { result ≡ is_holder (holder_of (slot_at self.old.items table key.now)) number }
-        ensures changed { IsTrue result → Changes self.old self.new table key.now
-            (slot_settled (tally self.old.items.counts) (slot_at self.old.items table key.now))
-            (counted (tally self.old.items.counts) (slot_at self.old.items table key.now)
-            (image_of (pending_of (slot_at self.old.items table key.now)))
-            (stamp_of (pending_of (slot_at self.old.items table key.now))))
-            (set_at self.old key.now []) (prepared_in K.cmp self.old.prepared.lists key.now) }
+        ensures changed { IsTrue result → SettlesItem self.old self.new table key.now }
         ensures settled { IsTrue result → let m = moves_in K.cmp self.old.prepared.lists key.now in
             MovesEntries self.old self.new table (settled N.cmp m.old m.new) (moves_at self.old key.now no_moves) }
         ensures same { result ≡ false → Unchanged self.old self.new }
@@ -247,8 +232,7 @@ impl<K: Ord, V, C, N: Ord> Partition<K, V, C, N> {
         V: Drop,
         N: Drop,
         ensures answer { result ≡ is_holder (holder_of (slot_at self.old.items table key.now)) number }
-        ensures changed { IsTrue result → Changes self.old self.new table key.now
-            (slot_let_go (slot_at self.old.items table key.now)) (tally self.old.items.counts) (set_at self.old key.now []) [] }
+        ensures changed { IsTrue result → ReleasesItem self.old self.new table key.now }
         ensures released { IsTrue result → MovesEntries self.old self.new table
             (let_go N.cmp (moves_in K.cmp self.old.prepared.lists key.now).new) (moves_at self.old key.now no_moves) }
         ensures same { result ≡ false → Unchanged self.old self.new }

@@ -5,8 +5,8 @@ ghost use Rattle.std.specs.BTreeMap.{IsOrdered};
 ghost use Rattle.partition.specs.Holders.{TellsHolder, least_in, lesser};
 
 use crate::cell::PartitionOf;
+use index_changes::{CellRules, CommandRules};
 use item_store::TableItems;
-use planned_changes::{CellRules, CommandRules};
 
 /// The lesser of two numbers, where there are any.
 fn lesser(left: Option<u64>, right: Option<u64>) -> Option<u64>

@@ -9,9 +9,9 @@ ghost use Rattle.local_index.specs.Entries.{end_of};
 ghost use Rattle.partition.specs.Shown.{ShowsEntries};
 
 use crate::cell::PartitionOf;
+use index_changes::CellRules;
 use local_index::Claim;
 use paging::MapRange;
-use planned_changes::CellRules;
 use std::ops::Bound;
 
 /// The local entries of a table between two ends, in their order, each with what it stands for: `None` where the table has had

@@ -1,9 +1,9 @@
 ghost use Rattle.std.specs.Prelude.{◌≡◌, ℕ, List, nat_eq, filter, IfOk, Some};
 ghost use Rattle.partition.specs.Pages.{AreEntriesOf, committed_among};
 
+use index_changes::CellRules;
 use item_store::Slot;
 use local_index::Claim;
-use planned_changes::CellRules;
 use std::alloc::{AllocError as NoMemory, Global};
 use std::collections::BTreeMap;
 

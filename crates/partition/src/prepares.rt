@@ -1,23 +1,58 @@
 //! A transaction's action on an item.
 
-ghost use Rattle.std.specs.Prelude.{◌≡◌, ℕ, None, IfOk, OnOk, OnErr};
-ghost use Rattle.std.specs.Option.{option_copied};
+ghost use Rattle.std.specs.Prelude.{◌≡◌, ℕ, IfOk, OnOk, OnErr};
 ghost use Rattle.txn_core.specs.History.{is_accepted};
 ghost use Rattle.txn_core.specs.declared.message.Message.{Message};
-ghost use Rattle.txn_core.specs.declared.outcome.Outcome.TheVariants.{New};
-ghost use Rattle.item_store.specs.Slots.{holder_of};
 ghost use Rattle.partition.specs.Changes.{IsUnprepared, Unchanged};
+ghost use Rattle.partition.specs.Evaluations.{EvaluatesPrepare};
 ghost use Rattle.partition.specs.InStep.{StaysInStep};
-ghost use Rattle.partition.specs.Knows.{HeldFor, LeftByPrepare, kept_at, outcome_at, prepared};
-ghost use Rattle.partition.specs.Makes.{Makes};
+ghost use Rattle.partition.specs.Knows.{HeldFor, IsClean, LeftByPrepare, prepared};
+ghost use Rattle.partition.specs.Makes.{MakesItem};
 ghost use Rattle.partition.specs.Says.{Keeps, Leaves, Says, prepare_says};
 
 use crate::cell::PartitionOf;
-use crate::reads::copy_of_row;
+use crate::evaluation::{Evaluation, EvaluationOf, evaluate};
+use index_changes::{CellRules, IndexChangesOf};
 use item_store::{Pending, holder_of, row_of};
-use planned_changes::{CellRules, IndexChangesOf, index_changes};
 use std::alloc::{AllocError as NoMemory, Global};
-use txn_core::{Answer, Outcome, Reply, Stamp};
+use txn_core::{Answer, Reply, Stamp};
+
+/// What a Prepare comes to, by what the cell keeps of its item.
+fn evaluate_prepare<R: CellRules>(
+    alloc: Global,
+    cell: &PartitionOf<R>,
+    number: u64,
+    stamp: Stamp,
+    action: &R::Action,
+) -> Result<EvaluationOf<R>, NoMemory>
+    ensures { IfOk result (λ made. (n : ℕ) →
+        EvaluatesPrepare (R.protocol n) R.locals cell.now number stamp action.now made) }
+{
+    let key = R::key_of(action);
+    if !R::is_there(&cell.catalog, key) {
+        return Ok(Evaluation::Answered {
+            answer: Answer::Stale,
+        });
+    }
+    let slot = cell.items.slot(R::table_of(key), key);
+    if let Some(holder) = holder_of(slot) {
+        if holder == number {
+            return Ok(Evaluation::Answered {
+                answer: Answer::Accepted,
+            });
+        }
+        return Ok(Evaluation::Answered {
+            answer: Answer::Held { number: holder },
+        });
+    }
+    let last = cell.items.last_change(slot);
+    if !last.is_earlier(stamp) {
+        return Ok(Evaluation::Answered {
+            answer: Answer::Late { stamp: last },
+        });
+    }
+    evaluate::<R>(alloc, &cell.catalog, action, row_of(slot))
+}
 
 /// Holds an item that no transaction holds, with what its image makes of indexes, and takes all that the end of this one needs.
 fn hold<R: CellRules>(
@@ -27,9 +62,7 @@ fn hold<R: CellRules>(
     pending: Pending<R::Value>,
     changes: IndexChangesOf<R>,
 ) -> Result<(), NoMemory>
-    requires free { (n : ℕ) → holder_of (kept_at (R.protocol n) cell.old ((R.protocol n).core.key_of action)) ≡ None }
-    requires made { (n : ℕ) →
-        Makes (R.protocol n) R.locals cell.old ((R.protocol n).core.key_of action) pending.image changes }
+    requires { (n : ℕ) → MakesItem (R.protocol n) R.locals cell.old action pending.image changes }
     ensures left { OnOk result ((n : ℕ) →
         IsUnprepared cell.old ((R.protocol n).core.key_of action)
         → HeldFor (R.protocol n) cell.old cell.new ((R.protocol n).core.key_of action) pending.number pending.stamp pending.image) }
@@ -56,34 +89,15 @@ fn attempt<R: CellRules>(
     action: R::Action,
 ) -> Result<Reply<R>, NoMemory>
     ensures says { IfOk result (λ a. (n : ℕ) → a ≡ prepared (R.protocol n) cell.old number stamp action) }
-    ensures left { IfOk result (λ a. (n : ℕ) →
-        (holder_of (kept_at (R.protocol n) cell.old ((R.protocol n).core.key_of action)) ≡ None
-        → IsUnprepared cell.old ((R.protocol n).core.key_of action))
+    ensures left { IfOk result (λ a. (n : ℕ) → IsClean (R.protocol n) cell.old ((R.protocol n).core.key_of action)
         → LeftByPrepare (R.protocol n) cell.old cell.new action number stamp (is_accepted a)) }
-    ensures err { OnErr result ((n : ℕ) →
-        (holder_of (kept_at (R.protocol n) cell.old ((R.protocol n).core.key_of action)) ≡ None
-        → IsUnprepared cell.old ((R.protocol n).core.key_of action)) → Unchanged cell.old cell.new) }
+    ensures err { OnErr result ((n : ℕ) → IsClean (R.protocol n) cell.old ((R.protocol n).core.key_of action)
+        → Unchanged cell.old cell.new) }
     ensures in_step { (n : ℕ) → StaysInStep (R.protocol n) R.locals cell.old cell.new }
 {
-    let key = R::key_of(&action);
-    if !R::is_there(&cell.catalog, key) {
-        return Ok(Answer::Stale);
-    }
-    let slot = cell.items.slot(R::table_of(key), key);
-    if let Some(holder) = holder_of(slot) {
-        if holder == number {
-            return Ok(Answer::Accepted);
-        }
-        return Ok(Answer::Held { number: holder });
-    }
-    let last = cell.items.last_change(slot);
-    if !last.is_earlier(stamp) {
-        return Ok(Answer::Late { stamp: last });
-    }
-    let old = row_of(slot);
-    match R::act(alloc, &cell.catalog, &action, old)? {
-        Outcome::New { item } => {
-            let changes = index_changes::<R>(alloc, &cell.catalog, key, old, item.as_ref())?;
+    match evaluate_prepare::<R>(alloc, cell, number, stamp, &action)? {
+        Evaluation::Answered { answer } => Ok(answer),
+        Evaluation::Made { item, changes } => {
             let pending = Pending {
                 number,
                 stamp,
@@ -92,10 +106,6 @@ fn attempt<R: CellRules>(
             hold::<R>(alloc, cell, action, pending, changes)?;
             Ok(Answer::Accepted)
         }
-        Outcome::Unmet => Ok(Answer::CondFalse {
-            old: copy_of_row::<R>(alloc, old)?,
-        }),
-        Outcome::Fails { fault } => Ok(Answer::Invalid { fault }),
     }
 }
 

@@ -6,8 +6,8 @@ ghost use Rattle.partition.specs.Knows.{got, versioned};
 ghost use Rattle.partition.specs.Says.{Says, get_says, version_says};
 
 use crate::cell::PartitionOf;
+use index_changes::CellRules;
 use item_store::{holder_of, row_of};
-use planned_changes::CellRules;
 use std::alloc::{AllocError as NoMemory, Global};
 use txn_core::{Answer, Reply, Rules};
 

@@ -7,10 +7,9 @@ ghost use Rattle.partition.specs.Says.{Stands, first_feed, first_state};
 
 use crate::cell::{Partition, PartitionOf};
 use global_index::{IndexRows, Marks, Outbox};
+use index_changes::{CellRules, PreparedChanges};
 use item_store::ItemStore;
 use local_index::LocalIndexes;
-use planned_changes::CellRules;
-use prepared_changes::PreparedChanges;
 use std::alloc::{AllocError as NoMemory, Global};
 
 /// A cell without items under a catalog, of so many partitions.

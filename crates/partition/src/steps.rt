@@ -14,7 +14,7 @@ use crate::pages::page;
 use crate::prepares::prepare;
 use crate::reads::{get, read_version};
 use crate::writes::write;
-use planned_changes::CellRules;
+use index_changes::CellRules;
 use std::alloc::{AllocError as NoMemory, Global};
 use txn_core::{Asked, Message, Reply};
 

@@ -1,18 +1,17 @@
 //! Items and their local entries, in tables that have a place or get one.
 
 ghost use Rattle.std.specs.Prelude.{◌≡◌, None, IsTrue, IfOk, OnOk, OnErr};
-ghost use Rattle.item_store.specs.Slots.{counted, pending_of, row_of};
+ghost use Rattle.item_store.specs.Slots.{pending_of, row_of};
 ghost use Rattle.item_store.specs.Tables.{has_table};
 ghost use Rattle.item_store.specs.Changes.{slot_at};
-ghost use Rattle.item_store.specs.Counts.{tally};
 ghost use Rattle.local_index.specs.Entries.{held_too, noted};
 ghost use Rattle.local_index.specs.Tables.{ClaimsUnder, has_table as has_entries};
 ghost use Rattle.partition.specs.Moves.{AreUnheld, SameClaims};
-ghost use Rattle.partition.specs.Stores.{ChangesItem, SameItems, slot_held, slot_written};
+ghost use Rattle.partition.specs.Stores.{HoldsIn, SameItems, WritesIn};
 
+use index_changes::IndexChanges;
 use item_store::{ItemStore, Pending};
 use local_index::LocalIndexes;
-use prepared_changes::IndexChanges;
 use std::alloc::{AllocError as NoMemory, Global};
 use txn_core::Stamp;
 
@@ -42,9 +41,7 @@ pub(crate) fn commit<K: Ord + Drop, V: Drop>(
 ) -> Result<Option<V>, NoMemory>
     requires free { pending_of (slot_at items.old table key) ≡ None }
     ensures old { IfOk result (λ old. old ≡ row_of (slot_at items.old table key)) }
-    ensures ok { OnOk result (ChangesItem items.old items.new table key
-        (slot_written (tally items.old.counts) (slot_at items.old table key) item stamp)
-        (counted (tally items.old.counts) (slot_at items.old table key) item stamp)) }
+    ensures ok { OnOk result (WritesIn items.old items.new table key item stamp) }
     ensures err { OnErr result (SameItems items.old items.new) }
 {
     open_table(alloc, items, table)?;
@@ -63,8 +60,7 @@ pub(crate) fn hold<K: Ord + Drop, V: Drop>(
     pending: Pending<V>,
 ) -> Result<(), NoMemory>
     requires free { pending_of (slot_at items.old table key) ≡ None }
-    ensures ok { OnOk result (ChangesItem items.old items.new table key (slot_held (slot_at items.old table key) pending)
-        (tally items.old.counts)) }
+    ensures ok { OnOk result (HoldsIn items.old items.new table key pending) }
     ensures err { OnErr result (SameItems items.old items.new) }
 {
     open_table(alloc, items, table)?;
@@ -116,9 +112,7 @@ pub(crate) fn commit_with<K: Ord + Drop, V: Drop, N: Ord + Clone + Drop>(
     requires copies { (entry copy : N) → N.is_clone entry copy → copy ≡ entry }
     requires free { pending_of (slot_at items.old table key) ≡ None }
     ensures old { IfOk result (λ old. old ≡ row_of (slot_at items.old table key)) }
-    ensures ok { OnOk result (ChangesItem items.old items.new table key
-        (slot_written (tally items.old.counts) (slot_at items.old table key) item stamp)
-        (counted (tally items.old.counts) (slot_at items.old table key) item stamp)) }
+    ensures ok { OnOk result (WritesIn items.old items.new table key item stamp) }
     ensures err { OnErr result (SameItems items.old items.new) }
     ensures noted { OnOk result (AreUnheld N.cmp locals.old.tables table changes.now.new.items
         → ClaimsUnder N.cmp (noted N.cmp changes.now.old.items changes.now.new.items) locals.old.tables locals.new.tables table) }
@@ -150,8 +144,7 @@ pub(crate) fn hold_with<K: Ord + Drop, V: Drop, N: Ord + Clone + Drop>(
 ) -> Result<(), NoMemory>
     requires copies { (entry copy : N) → N.is_clone entry copy → copy ≡ entry }
     requires free { pending_of (slot_at items.old table key) ≡ None }
-    ensures ok { OnOk result (ChangesItem items.old items.new table key (slot_held (slot_at items.old table key) pending)
-        (tally items.old.counts)) }
+    ensures ok { OnOk result (HoldsIn items.old items.new table key pending) }
     ensures err { OnErr result (SameItems items.old items.new) }
     ensures held { OnOk result (ClaimsUnder N.cmp (held_too N.cmp image.now) locals.old.tables locals.new.tables table) }
     ensures refused { OnErr result (AreUnheld N.cmp locals.old.tables table image.now

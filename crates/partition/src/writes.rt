@@ -1,23 +1,45 @@
 //! A single write.
 
-ghost use Rattle.std.specs.Prelude.{◌≡◌, ℕ, true, None, IfOk, OnErr};
-ghost use Rattle.std.specs.Option.{option_copied};
+ghost use Rattle.std.specs.Prelude.{◌≡◌, ℕ, true, IfOk, OnErr};
 ghost use Rattle.txn_core.specs.History.{is_written};
 ghost use Rattle.txn_core.specs.declared.message.Message.{Message};
-ghost use Rattle.txn_core.specs.declared.outcome.Outcome.TheVariants.{New};
-ghost use Rattle.item_store.specs.Slots.{holder_of};
 ghost use Rattle.partition.specs.Changes.{Unchanged};
+ghost use Rattle.partition.specs.Evaluations.{EvaluatesWrite};
 ghost use Rattle.partition.specs.InStep.{StaysInStep};
-ghost use Rattle.partition.specs.Knows.{LeftByWrite, kept_at, outcome_at, wrote};
-ghost use Rattle.partition.specs.Makes.{Makes};
+ghost use Rattle.partition.specs.Knows.{LeftByWrite, wrote};
+ghost use Rattle.partition.specs.Makes.{MakesItem};
 ghost use Rattle.partition.specs.Says.{Keeps, Leaves, Says, write_says};
 
 use crate::cell::PartitionOf;
+use crate::evaluation::{Evaluation, EvaluationOf, evaluate};
 use crate::reads::copy_of_row;
+use index_changes::{CellRules, IndexChangesOf};
 use item_store::{holder_of, row_of};
-use planned_changes::{CellRules, IndexChangesOf, index_changes};
 use std::alloc::{AllocError as NoMemory, Global};
-use txn_core::{Answer, Outcome, Reply, Stamp};
+use txn_core::{Answer, Reply, Stamp};
+
+/// What a Write comes to, by what the cell keeps of its item.
+fn evaluate_write<R: CellRules>(
+    alloc: Global,
+    cell: &PartitionOf<R>,
+    action: &R::Action,
+) -> Result<EvaluationOf<R>, NoMemory>
+    ensures { IfOk result (λ made. (n : ℕ) → EvaluatesWrite (R.protocol n) R.locals cell.now action.now made) }
+{
+    let key = R::key_of(action);
+    if !R::is_there(&cell.catalog, key) {
+        return Ok(Evaluation::Answered {
+            answer: Answer::Stale,
+        });
+    }
+    let slot = cell.items.slot(R::table_of(key), key);
+    if let Some(number) = holder_of(slot) {
+        return Ok(Evaluation::Answered {
+            answer: Answer::Held { number },
+        });
+    }
+    evaluate::<R>(alloc, &cell.catalog, action, row_of(slot))
+}
 
 /// Carries out a write of an item that no transaction holds, which makes it this, with what it makes of indexes.
 fn carry_out<R: CellRules>(
@@ -28,9 +50,7 @@ fn carry_out<R: CellRules>(
     changes: IndexChangesOf<R>,
     moment: u64,
 ) -> Result<Reply<R>, NoMemory>
-    requires free { (n : ℕ) → holder_of (kept_at (R.protocol n) cell.old ((R.protocol n).core.key_of action)) ≡ None }
-    requires new { (n : ℕ) → outcome_at (R.protocol n) cell.old action ≡ New item }
-    requires made { (n : ℕ) → Makes (R.protocol n) R.locals cell.old ((R.protocol n).core.key_of action) item changes }
+    requires { (n : ℕ) → MakesItem (R.protocol n) R.locals cell.old action item changes }
     ensures says { IfOk result (λ a. (n : ℕ) → (R.protocol n).core.there cell.old.catalog ((R.protocol n).core.key_of action) ≡ true
         → a ≡ wrote (R.protocol n) cell.old action) }
     ensures left { IfOk result (λ a. (n : ℕ) → LeftByWrite (R.protocol n) cell.old cell.new action moment (is_written a)) }
@@ -57,24 +77,11 @@ fn attempt<R: CellRules>(
     ensures err { OnErr result (Unchanged cell.old cell.new) }
     ensures in_step { (n : ℕ) → StaysInStep (R.protocol n) R.locals cell.old cell.new }
 {
-    let key = R::key_of(&action);
-    if !R::is_there(&cell.catalog, key) {
-        return Ok(Answer::Stale);
-    }
-    let slot = cell.items.slot(R::table_of(key), key);
-    if let Some(number) = holder_of(slot) {
-        return Ok(Answer::Held { number });
-    }
-    let old = row_of(slot);
-    match R::act(alloc, &cell.catalog, &action, old)? {
-        Outcome::New { item } => {
-            let changes = index_changes::<R>(alloc, &cell.catalog, key, old, item.as_ref())?;
+    match evaluate_write::<R>(alloc, cell, &action)? {
+        Evaluation::Answered { answer } => Ok(answer),
+        Evaluation::Made { item, changes } => {
             carry_out::<R>(alloc, cell, action, item, changes, moment)
         }
-        Outcome::Unmet => Ok(Answer::CondFalse {
-            old: copy_of_row::<R>(alloc, old)?,
-        }),
-        Outcome::Fails { fault } => Ok(Answer::Invalid { fault }),
     }
 }
 

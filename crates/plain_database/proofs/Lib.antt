@@ -2,3 +2,11 @@ pub mod Sound
 pub mod Creating
 pub mod Listing
 pub mod Changing
+pub mod Untouched
+pub mod AllEntries
+pub mod Rows
+pub mod Singles
+pub mod KeyedCatalog
+pub mod Batches
+pub mod Transactions
+pub mod Requests

@@ -7,9 +7,9 @@ use Rattle.std.specs.BTreeMap.{insert_entry}
 use Rattle.std.proofs.Common.{◌≡◌, ℕ, List, Bool, Some, sym, subst}
 use Rattle.table_model.specs.Database.{Table}
 use Rattle.page_ranges.specs.AtKeys.{AreAtKeys}
-use Rattle.keyed_rows.specs.Keyed.{IsKeyed, AreKeyed}
-use Rattle.keyed_rows.proofs.AllEntries.{all_inserted, all_removed}
-use Rattle.keyed_rows.proofs.Rows.{named_keyed}
+use Rattle.plain_database.specs.Keyed.{IsKeyed, AreKeyed}
+use Rattle.plain_database.proofs.AllEntries.{all_inserted, all_removed}
+use Rattle.plain_database.proofs.Rows.{named_keyed}
 use Rattle.numbered_tables.specs.declared.table.NumberedTable.{NumberedTable}
 use Rattle.numbered_tables.specs.Tables.{Kept, table_in, tables_in, database_in}
 use Rattle.numbered_tables.proofs.Kept.{at, there, inserted_in, removed_in}

@@ -34,7 +34,7 @@ impl SlowDb {
     {
         let schema = request.schema;
         if self.tables.contains_key(&schema.name) {
-            return Ok(Reply::Refused(Refusal::TableExists(schema.name)));
+            return Ok(Reply::Refused(Refusal::TableExists(schema.into_name())));
         }
         if self.tables.len() >= MOST_TABLES {
             return Ok(Reply::Refused(Refusal::TooManyTables));

@@ -21,7 +21,7 @@ pub struct SlowDb {
     pub(crate) made: u64,
 }
 
-// By hand, so that a crate above calls this one function where it would else prove again how all of it is let go.
+// By hand, so that no crate above proves it again.
 impl Drop for SlowDb {
     fn drop(self) {
         let SlowDb {

@@ -15,7 +15,7 @@ use Rattle.txn_core.specs.Serial.{begun_actions}
 use Rattle.txn_core.specs.Service.{Service, IsServiceLawful, Asked, Reply, Event, History}
 use Rattle.txn_core.proofs.Exports.{beginning_is_tail, had_more, had_stays, legal_before, newest}
 use Rattle.cluster.specs.Events.{pass_of}
-use Rattle.own_entries.proofs.Counting.{counts_none}
+use Rattle.cluster.proofs.OwnEntries.{counts_none}
 use Rattle.coordinator.specs.declared.drive_end.DriveEnd.{DriveEnd}
 use Rattle.coordinator.specs.Driving.{is_done, is_driving, is_ending, finds_none, found_none, ended, sent_done}
 use Rattle.coordinator.specs.Drives.{is_gone_end, HasCause, LeavesNoneDecided, Drives}
@@ -24,7 +24,7 @@ use Rattle.coordinator.proofs.Moving.{added_on}
 use Rattle.recovery_manager.specs.declared.sweep_end.SweepEnd.{SweepEnd}
 use Rattle.recovery_manager.specs.Ends.{found_gone, IsDone, IsForgotten}
 use Rattle.recovery_manager.specs.Parts.{is_on, AllOn, DrivesSome, DrivesAll, DrivesPartly}
-use Rattle.own_entries.proofs.Lists.{any_back, any_front, each_append}
+use Rattle.cluster.proofs.Lists.{any_back, any_front, each_append}
 use Rattle.recovery_manager.proofs.Each.{each_at, each_so, found, splits}
 use Rattle.recovery_manager.proofs.Forgotten.{decide_finds_none, recall_finds_none}
 use Rattle.recovery_manager.proofs.Grown.{counted, same_actions, still_done, still_forgotten, still_had, with_more}

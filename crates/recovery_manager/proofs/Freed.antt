@@ -10,12 +10,12 @@ use Rattle.txn_core.specs.Service.{Service, IsServiceLawful, Reply, Event}
 use Rattle.cluster.specs.declared.step.StepError.{StepError}
 use Rattle.cluster.specs.Events.{event_of}
 use Rattle.cluster.specs.Steps.{IsLater}
-use Rattle.own_entries.specs.Counts.{Counts, CountsUntil}
-use Rattle.own_entries.proofs.Counting.{counts_none, counts_on, counts_until}
+use Rattle.cluster.specs.Counts.{Counts, CountsUntil}
+use Rattle.cluster.proofs.OwnEntries.{counts_none, counts_on, counts_until}
 use Rattle.coordinator.specs.Driving.{is_driving}
 use Rattle.recovery_manager.specs.Ends.{lets_go}
 use Rattle.recovery_manager.specs.Parts.{is_on, AllOn, Releases, ReleasesGone, ReleasesPartly}
-use Rattle.own_entries.proofs.Lists.{any_back, any_front, each_append}
+use Rattle.cluster.proofs.Lists.{any_back, any_front, each_append}
 use Rattle.recovery_manager.proofs.Each.{each_so}
 use Rattle.recovery_manager.proofs.Listed.{released}
 

@@ -9,13 +9,13 @@ use Rattle.txn_core.specs.Serial.{begun_stamp, begun_actions}
 use Rattle.txn_core.specs.Service.{Service, IsServiceLawful, Asked, Reply, Event, History}
 use Rattle.txn_core.proofs.Exports.{beginning_is_tail, begun_stays, had_stays}
 use Rattle.cluster.specs.Events.{pass_of}
-use Rattle.own_entries.specs.Counts.{Counts}
+use Rattle.cluster.specs.Counts.{Counts}
 use Rattle.coordinator.specs.Driving.{is_done, finds_none, Added}
 use Rattle.coordinator.proofs.Moving.{added_by}
 use Rattle.recovery_manager.specs.Ends.{IsDone, IsForgotten}
 use Rattle.recovery_manager.specs.Lists.{AllBegun}
 use Rattle.recovery_manager.specs.Parts.{most_drives}
-use Rattle.own_entries.proofs.Lists.{any_front}
+use Rattle.cluster.proofs.Lists.{any_front}
 
 module _ {K V A F C D Q B : Type 0} (S : Service K V A F C D Q B) where
   -- what was counted for one unit each was added

@@ -6,14 +6,14 @@ use Rattle.txn_core.specs.Legal.{releases, IsLegal}
 use Rattle.txn_core.specs.Service.{Service, IsServiceLawful, Event}
 use Rattle.cluster.specs.declared.step.StepError.{StepError}
 use Rattle.cluster.specs.Events.{event_of}
-use Rattle.own_entries.specs.Counts.{CountsUntil}
+use Rattle.cluster.specs.Counts.{CountsUntil}
 use Rattle.coordinator.specs.declared.drive_end.DriveEnd.{DriveEnd}
 use Rattle.coordinator.specs.Driving.{is_driving, finds_none, found_none}
 use Rattle.coordinator.specs.Drives.{is_gone_end, HasCause, Drives}
 use Rattle.coordinator.proofs.Moving.{added_on}
 use Rattle.recovery_manager.specs.Ends.{IsResolved, Resolves}
 use Rattle.recovery_manager.specs.Parts.{Releases}
-use Rattle.own_entries.proofs.Lists.{any_back, any_front, each_append}
+use Rattle.cluster.proofs.Lists.{any_back, any_front, each_append}
 use Rattle.recovery_manager.proofs.Ended.{was_gone}
 use Rattle.recovery_manager.proofs.Freed.{sent_one}
 use Rattle.recovery_manager.proofs.Grown.{counted, same_actions, still_had, with_more}

@@ -12,8 +12,8 @@ use Rattle.txn_core.specs.Legal.{releases, IsLegal}
 use Rattle.txn_core.specs.Service.{Service, IsServiceLawful, Event, History}
 use Rattle.cluster.specs.declared.step.StepError.{StepError}
 use Rattle.cluster.specs.Events.{pass_of}
-use Rattle.own_entries.specs.Counts.{Counts, CountsUntil}
-use Rattle.own_entries.proofs.Counting.{counts_on, same_event}
+use Rattle.cluster.specs.Counts.{Counts, CountsUntil}
+use Rattle.cluster.proofs.OwnEntries.{counts_on, same_event}
 use Rattle.coordinator.specs.Driving.{is_driving, Added}
 use Rattle.coordinator.proofs.Moving.{added_on, until_added}
 use Rattle.recovery_manager.specs.declared.sweep_end.SweepEnd.{SweepEnd}
@@ -21,7 +21,7 @@ use Rattle.recovery_manager.specs.Ends.{left_off, IsDone, IsForgotten, lets_go}
 use Rattle.recovery_manager.specs.Lists.{Listing, all_items, numbers_in, AreTheNumbers, lists_held, lists_numbers, lists, AllBegun, ListsHeld, ListsNumbers, ListsPartly}
 use Rattle.recovery_manager.specs.Parts.{is_on, AllOn, DrivesAll, DrivesPartly, ReleasesGone, ReleasesPartly}
 use Rattle.recovery_manager.specs.Sweeps.{IsEnded, IsLetGo, Sweeps, AreLists, SweepsPartly}
-use Rattle.own_entries.proofs.Lists.{any_back, each_append}
+use Rattle.cluster.proofs.Lists.{any_back, each_append}
 use Rattle.recovery_manager.proofs.Each.{any_among, each_among, each_both, each_from, each_so}
 use Rattle.recovery_manager.proofs.Grown.{counted, same_most, still_begun, still_done, still_forgotten, with_more}
 

@@ -13,10 +13,10 @@ use Rattle.txn_core.proofs.Exports.{had_more}
 use Rattle.cluster.specs.declared.step.StepError.{StepError}
 use Rattle.cluster.specs.Events.{event_of}
 use Rattle.cluster.specs.Steps.{IsLater}
-use Rattle.own_entries.specs.Counts.{Counts, CountsUntil}
-use Rattle.own_entries.proofs.Counting.{counts_none, counts_on, counts_until, same_event}
+use Rattle.cluster.specs.Counts.{Counts, CountsUntil}
+use Rattle.cluster.proofs.OwnEntries.{counts_none, counts_on, counts_until, same_event}
 use Rattle.recovery_manager.specs.Lists.{all_items, lists_items, lists_held, AllBegun, ListsItems, ListsHeld, ListsPartly}
-use Rattle.own_entries.proofs.Lists.{each_append}
+use Rattle.cluster.proofs.Lists.{each_append}
 use Rattle.recovery_manager.proofs.Each.{each_of, each_so}
 use Rattle.recovery_manager.proofs.Grown.{still_begun}
 use Rattle.recovery_manager.proofs.Listed.{is_list, listed_begun, unfinished_begun}

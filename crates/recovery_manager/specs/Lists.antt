@@ -10,7 +10,7 @@ use Rattle.txn_core.specs.History.{Had, begins}
 use Rattle.txn_core.specs.Service.{Service, Event, History}
 use Rattle.cluster.specs.declared.step.StepError.{StepError}
 use Rattle.cluster.specs.Events.{event_of}
-use Rattle.own_entries.specs.Counts.{Counts, CountsUntil}
+use Rattle.cluster.specs.Counts.{Counts, CountsUntil}
 
 -- what was listed: the items that transactions hold, partition by partition, and the numbers that are begun and not Done
 pub record Listing (K : Type 0) : Type 0 where

@@ -11,7 +11,7 @@ use Rattle.txn_core.specs.Serial.{begun_actions}
 use Rattle.txn_core.specs.Service.{Service, Reply, Event, History}
 use Rattle.cluster.specs.declared.step.StepError.{StepError}
 use Rattle.cluster.specs.Events.{event_of}
-use Rattle.own_entries.specs.Counts.{Counts, CountsUntil}
+use Rattle.cluster.specs.Counts.{Counts, CountsUntil}
 use Rattle.coordinator.specs.Driving.{is_driving, Added}
 use Rattle.coordinator.specs.Drives.{LeavesNoneDecided}
 use Rattle.recovery_manager.specs.declared.sweep_end.SweepEnd.{SweepEnd}

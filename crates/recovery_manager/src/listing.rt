@@ -2,12 +2,11 @@
 
 ghost use Rattle.std.specs.Prelude.{◌≡◌, ◌<◌, [], IfOk, IfErr};
 ghost use Rattle.cluster.specs.Steps.{partitions_of};
-ghost use Rattle.own_entries.specs.Counts.{CountsUntil};
+ghost use Rattle.cluster.specs.Counts.{CountsUntil};
 ghost use Rattle.recovery_manager.specs.Lists.{AreTheNumbers, ListsHeld, ListsItems, ListsNumbers, ListsPartly, numbers_in};
 
 use base_types::Seq;
-use cluster::{Cluster, StepError, TableWorld};
-use own_entries::{ask, ask_ledger};
+use cluster::{Cluster, StepError, TableWorld, ask, ask_ledger};
 use partition::PageRules;
 use std::alloc::{AllocError as NoMemory, Global};
 use std::sync::Wait;

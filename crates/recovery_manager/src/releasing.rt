@@ -6,11 +6,10 @@ ghost use Rattle.std.specs.Ordering.{nat_cmp};
 ghost use Rattle.txn_core.specs.History.{Had, forgets};
 ghost use Rattle.cluster.specs.Steps.{partitions_of};
 ghost use Rattle.cluster.specs.declared.step.StepError.{StepError};
-ghost use Rattle.own_entries.specs.Counts.{CountsUntil};
+ghost use Rattle.cluster.specs.Counts.{CountsUntil};
 ghost use Rattle.recovery_manager.specs.Parts.{Releases, ReleasesGone, ReleasesPartly};
 
-use cluster::{Cluster, StepError, TableWorld};
-use own_entries::ask;
+use cluster::{Cluster, StepError, TableWorld, ask};
 use partition::PageRules;
 use std::alloc::Global;
 use std::collections::BTreeSet;

@@ -7,7 +7,6 @@ use std::alloc::{AllocError as NoMemory, AllocFailed};
 use table_schema::SchemaFault;
 
 /// Why a message is refused before the database sees it.
-#[derive(Drop)]
 pub enum Refusal {
     /// The target names no operation (UnknownOperationException).
     UnknownOperation,
@@ -23,6 +22,24 @@ pub enum Refusal {
     UnusedName(Text),
     /// A placeholder of a value, with its `:`, that no expression uses (ValidationException).
     UnusedValue(Text),
+}
+
+// By hand, so that no crate above proves it again.
+impl Drop for Refusal {
+    fn drop(self) {
+        match self {
+            Refusal::UnknownOperation
+            | Refusal::Serialization
+            | Refusal::Body(_)
+            | Refusal::Schema(_)
+            | Refusal::Expression {
+                member: _,
+                fault: _,
+            }
+            | Refusal::UnusedName(_)
+            | Refusal::UnusedValue(_) => {}
+        }
+    }
 }
 
 /// Why there is no request.

@@ -12,7 +12,6 @@ use std::alloc::AllocError as NoMemory;
 use std::cmp::Ordering;
 
 /// A point in the order of sort keys: where a value stands, or between values, where a range of them ends.
-#[derive(Drop)]
 pub enum SortPoint {
     /// Before every value. A key without a sort key stands here.
     Least,
@@ -24,6 +23,19 @@ pub enum SortPoint {
     AfterPrefix(KeyValue),
     /// Behind every value.
     Greatest,
+}
+
+// By hand, so that no crate above proves it again.
+impl Drop for SortPoint {
+    fn drop(self) {
+        match self {
+            SortPoint::Least
+            | SortPoint::At(_)
+            | SortPoint::After(_)
+            | SortPoint::AfterPrefix(_)
+            | SortPoint::Greatest => {}
+        }
+    }
 }
 
 /// Where a point stands to the value that it names.

@@ -8,7 +8,6 @@ use std::cmp::Ordering;
 
 /// Where a row stands in an index: by the index's key, and where these tie by the table's key. Of the latter the place
 /// decides nothing (Developer Guide: Global secondary indexes).
-#[derive(Drop)]
 pub struct Position {
     /// The key in what is read.
     pub read: RowKey,
@@ -16,7 +15,22 @@ pub struct Position {
     pub item: RowKey,
 }
 
+// By hand, so that no crate above proves it again.
+impl Drop for Position {
+    fn drop(self) {
+        let Position { read: _, item: _ } = self;
+    }
+}
+
 impl Position {
+    /// The key in what is read.
+    pub fn into_read(self) -> RowKey
+        ensures { result ≡ self.read }
+    {
+        let Position { read, item: _ } = self;
+        read
+    }
+
     /// An equal position.
     pub fn try_clone(&self) -> Result<Position, NoMemory>
         ensures { IfOk result (λ copy. copy ≡ self.now) }

@@ -1,18 +1,8 @@
-//! What a server keeps, and the turns in which it changes: cases by hand.
+//! What a server keeps, and the turns in which it changes: what no clause says.
 #![tactic(auto)]
 
 #[cfg(test)]
-mod entries;
-#[cfg(test)]
-mod feeds;
-#[cfg(test)]
 mod histories;
-#[cfg(test)]
-mod items;
-#[cfg(test)]
-mod ledgers;
-#[cfg(test)]
-mod pages;
 #[cfg(test)]
 mod tokens;
 #[cfg(test)]

@@ -1,4 +1,4 @@
-ghost use Rattle.std.specs.Prelude.{◌≡◌, ◌+◌, ◌<◌, ◌≤◌, ◌%◌, ◌^◌, ℕ, true, false, [], ◌∷◌, ◌++◌, Some, None, IfOk, IfSome, sum_by, length, slice_get};
+ghost use Rattle.std.specs.Prelude.{◌≡◌, ◌+◌, ◌<◌, ◌≤◌, ◌%◌, ◌^◌, ℕ, true, false, [], ◌∷◌, Some, None, IfSome, sum_by, length, slice_get};
 ghost use Rattle.turnstile.specs.Passes.{HoldsAll};
 ghost use Rattle.turnstile.specs.Histories.{at_cell};
 ghost use Rattle.turnstile.specs.Kept.{ticket};
@@ -97,71 +97,6 @@ fn add<R: Wait>(
     Ok(())
 }
 
-// Adds 1 a thousand times, to the three cells in turn.
-fn count_up<R: Wait>(
-    turnstile: &Turnstile<Counters>,
-    pass: Pass<Counters>,
-    rt: &R,
-) -> Pass<Counters>
-    requires of { pass.turnstile ≡ turnstile.now.id }
-    requires free { pass.turns ≡ [] }
-    requires cells { 3 ≤ turnstile.now.id.slots }
-    ensures { (result.turnstile ≡ pass.turnstile) × (result.number ≡ pass.number) × (result.turns ≡ []) }
-{
-    let mut pass = pass;
-    for i in 0..1000u32 {
-        if add(turnstile, &mut pass, rt, i % 3, 1).is_err() {
-            return pass;
-        }
-    }
-    pass
-}
-
-// Two threads count up. How many units each has left, and what the cells are in the end.
-fn two_threads<R: Wait + Threads + Sync>(
-    rt: &R,
-    turnstile: &Turnstile<Counters>,
-    one: Pass<Counters>,
-    two: Pass<Counters>,
-) -> (Pass<Counters>, Pass<Counters>)
-    requires of { (one.turnstile ≡ turnstile.now.id) × (two.turnstile ≡ turnstile.now.id) }
-    requires free { (one.turns ≡ []) × (two.turns ≡ []) }
-    requires cells { 3 ≤ turnstile.now.id.slots }
-    ensures one { (result.0.turnstile ≡ one.turnstile) × (result.0.number ≡ one.number) × (result.0.turns ≡ []) }
-    ensures two { (result.1.turnstile ≡ two.turnstile) × (result.1.number ≡ two.number) × (result.1.turns ≡ []) }
-{
-    let (mut first, mut second) = join(
-        rt,
-        move || -> Pass<Counters>
-            requires { (one.turnstile ≡ turnstile.now.id) × (one.turns ≡ []) × (3 ≤ turnstile.now.id.slots) }
-            ensures { (result.turnstile ≡ one.turnstile) × (result.number ≡ one.number) × (result.turns ≡ []) }
-        { count_up(turnstile, one, rt) },
-        move || -> Pass<Counters>
-            requires { (two.turnstile ≡ turnstile.now.id) × (two.turns ≡ []) × (3 ≤ turnstile.now.id.slots) }
-            ensures { (result.turnstile ≡ two.turnstile) × (result.number ≡ two.number) × (result.turns ≡ []) }
-        { count_up(turnstile, two, rt) },
-    );
-    turnstile.meet(&mut first, &mut second);
-    (first, second)
-}
-
-// The cells in the end.
-fn closed(
-    alloc: Global,
-    turnstile: Turnstile<Counters>,
-    one: Pass<Counters>,
-    two: Pass<Counters>,
-) -> Result<Seq<u64>, Fail>
-    requires of { (one.turnstile ≡ turnstile.id) × (two.turnstile ≡ turnstile.id) }
-    requires free { (one.turns ≡ []) × (two.turns ≡ []) }
-    requires numbers { (one.number ≡ 0) × (two.number ≡ 1) × (turnstile.passes ≡ 2) }
-{
-    let mut passes = Vec::with_capacity(alloc, 2)?;
-    passes.push(one)?;
-    passes.push(two)?;
-    Ok(turnstile.close(Seq::from(passes)))
-}
-
 // Counts an entry of all cells that adds nothing.
 fn commit_all<E: EntryOf<Counters, Added>>(
     turnstile: &Turnstile<Counters>,
@@ -200,36 +135,6 @@ fn touch_all<R: Wait>(
     commit_all::<Brand>(turnstile, pass, &mut turns);
     turnstile.leave_all(pass, rt, turns);
     Ok((first, second, third))
-}
-
-#[test]
-fn two_thousand(rt: HostRuntime) -> Result<(), Fail> {
-    let alloc = rt.alloc();
-    let cells = vec![in alloc; 0, 0, 0]?;
-    let (turnstile, passes) = Turnstile::<Counters>::make(alloc, Seq::from(cells), 2)?;
-    let mut passes: Vec<Pass<Counters>> = passes.into();
-    let two = passes.pop().ok_or("the second pass")?;
-    let one = passes.pop().ok_or("the first pass")?;
-    assert_eq!(rt; turnstile.cells(), 3);
-    let (first, second) = two_threads(&rt, &turnstile, one, two);
-    assert_eq!(rt; first.left(), (1 << 40) - 1000);
-    assert_eq!(rt; second.left(), (1 << 40) - 1000);
-    let mut first = first;
-    first.tick(5);
-    assert_eq!(rt; first.moment(), 5);
-    first.tick(3);
-    assert_eq!(rt; first.moment(), 5);
-    first.spend()?;
-    assert_eq!(rt; first.left(), (1 << 40) - 1001);
-    assert_eq!(rt;
-        touch_all(&turnstile, &mut first, &rt, alloc),
-        Ok((668, 666, 666))
-    );
-    assert_eq!(rt; first.left(), (1 << 40) - 1002);
-    assert_eq!(rt; first.number(), 0);
-    let cells = closed(alloc, turnstile, first, second)?;
-    assert_eq!(rt; cells.as_slice(), [668, 666, 666].as_slice());
-    Ok(())
 }
 
 // Adds 1 three hundred times, with an entry of all cells now and then.
@@ -291,10 +196,7 @@ fn four_threads(rt: HostRuntime) -> Result<(), Fail> {
             requires { (three.turnstile ≡ shared.now.id) × (four.turnstile ≡ shared.now.id) × (three.turns ≡ []) × (four.turns ≡ []) × (3 ≤ shared.now.id.slots) }
         { mingle_two(handle, shared, three, four, alloc) },
     );
-    assert_eq!(rt;
-        touch_all(&turnstile, &mut last, &rt, alloc),
-        Ok((400, 400, 400))
-    );
+    assert!(rt; touch_all(&turnstile, &mut last, &rt, alloc) == Ok((400, 400, 400)));
     Ok(())
 }
 
@@ -420,7 +322,7 @@ fn visited_of_three<R: Wait + Threads + Sync>(
 #[test]
 fn cells_apart(rt: HostRuntime) -> Result<(), Fail> {
     let visited = visited_of_three(&rt, rt.alloc(), Some(1), ROUNDS)?;
-    assert_eq!(rt; visited, (true, true));
+    assert!(rt; visited == (true, true));
     Ok(())
 }
 
@@ -428,7 +330,7 @@ fn cells_apart(rt: HostRuntime) -> Result<(), Fail> {
 #[test]
 fn turn_waited_for(rt: HostRuntime) -> Result<(), Fail> {
     let visited = visited_of_three(&rt, rt.alloc(), Some(0), LONG)?;
-    assert_eq!(rt; visited, (false, true));
+    assert!(rt; visited == (false, true));
     Ok(())
 }
 
@@ -436,6 +338,6 @@ fn turn_waited_for(rt: HostRuntime) -> Result<(), Fail> {
 #[test]
 fn turns_waited_for(rt: HostRuntime) -> Result<(), Fail> {
     let visited = visited_of_three(&rt, rt.alloc(), None, LONG)?;
-    assert_eq!(rt; visited, (false, true));
+    assert!(rt; visited == (false, true));
     Ok(())
 }

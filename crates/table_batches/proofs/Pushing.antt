@@ -11,7 +11,7 @@ use Rattle.table_request.specs.declared.batches.WriteRequest.{WriteRequest}
 use Rattle.table_model.specs.Database.{Table}
 use Rattle.table_model.specs.Batches.{place_if, write_key, write_image}
 use Rattle.table_items.specs.Outcomes.{row_key_if}
-use Rattle.table_changes.specs.declared.change.TableChange.{TableChange}
+use Rattle.numbered_tables.specs.declared.change.TableChange.{TableChange}
 use Rattle.table_batches.specs.Keys.{behind, gathered}
 use Rattle.table_batches.specs.Writes.{change_if, changes_of}
 use Rattle.table_batches.proofs.Gathered.{behind_none, one_more, a_fault, places}

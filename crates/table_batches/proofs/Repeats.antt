@@ -16,8 +16,8 @@ use Rattle.table_request.specs.declared.batches.TableWrites.{TableWrites}
 use Rattle.table_request.specs.declared.batches.WriteRequest.{WriteRequest}
 use Rattle.table_model.specs.Database.{Database, Table, table_named}
 use Rattle.table_model.specs.Batches.{place_if, has_twice, write_key, write_keys, write_keys_if, write_image}
-use Rattle.table_changes.specs.declared.change.TableChange.{TableChange}
-use Rattle.table_changes.specs.Changes.{is_same, has_repeat}
+use Rattle.numbered_tables.specs.declared.change.TableChange.{TableChange}
+use Rattle.numbered_tables.specs.Changes.{is_same, has_repeat}
 use Rattle.table_batches.specs.Writes.{change_if, changes_if, changes_in, is_before, ascend}
 
 either_false : (a b : Bool) → (a || b) ≡ false → (a ≡ false) × (b ≡ false)

@@ -24,8 +24,8 @@ use Rattle.table_model.specs.declared.refusal.Invalid.TheVariants as invalid
 use Rattle.update_eval.specs.declared.fault.EvalFault.TheVariants.{IndexKey}
 use Rattle.table_model.specs.Database.{Database, Table, table_named, with_row, unless, first, where_true}
 use Rattle.table_model.specs.Batches.{missing, key_refusal, place_if, has_twice, is_oversized, is_unfit_write, write_keys, write_key, write_image, write_at, write_if, write_one, write_table, write_all, batch_write, batch_write_refusal}
-use Rattle.table_changes.specs.declared.change.TableChange.{TableChange}
-use Rattle.table_changes.specs.Changes.{changed_if, changed, changed_all, IsChanged}
+use Rattle.numbered_tables.specs.declared.change.TableChange.{TableChange}
+use Rattle.numbered_tables.specs.Changes.{changed_if, changed, changed_all, IsChanged}
 use Rattle.numbered_tables.specs.Tables.{Kept, database_in}
 use Rattle.table_batches.specs.Answers.{IsWritten, tables_alone}
 use Rattle.table_batches.specs.Keys.{keys_refusal}

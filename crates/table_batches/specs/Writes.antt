@@ -12,7 +12,7 @@ use Rattle.table_model.specs.declared.refusal.Refusal.TheVariants.{Invalid}
 use Rattle.table_model.specs.declared.refusal.Invalid.TheVariants as invalid
 use Rattle.table_model.specs.Database.{Database, Table, table_named, first, where_true}
 use Rattle.table_model.specs.Batches.{place_if, write_key, write_image, is_oversized, is_unfit_write}
-use Rattle.table_changes.specs.declared.change.TableChange.{TableChange}
+use Rattle.numbered_tables.specs.declared.change.TableChange.{TableChange}
 
 -- the change that a write at a key is
 abbrev pub change_if : List ℕ → WriteRequest → Option RowKey → Option TableChange

@@ -10,11 +10,11 @@ ghost use Rattle.table_batches.specs.Keys.{IsAsked, keys_refusal};
 
 use crate::keys::{has_twice, row_keys};
 use crate::missing::missing;
+use attr_value::SharedItem;
 use base_types::Text;
 use item_keys::KeyFault;
 use numbered_tables::NumberedTable;
 use row_keys::RowKey;
-use shared_item::SharedItem;
 use std::alloc::{AllocError as NoMemory, Global};
 use std::collections::BTreeMap;
 use table_model::{Invalid, Refusal};

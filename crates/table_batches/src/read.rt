@@ -9,10 +9,10 @@ ghost use Rattle.table_batches.specs.Reads.{bytes_of, shown, found_among, read_o
 
 use crate::asked::asked_items;
 use crate::unread::unread;
+use attr_value::SharedItem;
 use base_types::{Seq, Text};
 use expr_words::Paths;
 use numbered_tables::NumberedTable;
-use shared_item::SharedItem;
 use std::alloc::{AllocError as NoMemory, Global};
 use std::collections::BTreeMap;
 use table_items::view;

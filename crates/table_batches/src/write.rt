@@ -4,7 +4,7 @@ ghost use Rattle.std.specs.Prelude.{◌≡◌, [], false, None, Some, IfOk, OnEr
 ghost use Rattle.std.specs.List.{flat_map};
 ghost use Rattle.table_model.specs.Batches.{batch_write_refusal};
 ghost use Rattle.numbered_tables.specs.Tables.{AreIdle};
-ghost use Rattle.table_changes.specs.Changes.{has_repeat};
+ghost use Rattle.numbered_tables.specs.Changes.{has_repeat};
 ghost use Rattle.table_batches.specs.Answers.{IsWritten, tables_alone};
 ghost use Rattle.table_batches.specs.Writes.{changes_in, ascend};
 
@@ -12,10 +12,9 @@ use crate::change::changes_of_all;
 use crate::fit::{some_oversized, some_unfit};
 use crate::missing::missing;
 use base_types::{Seq, Text};
-use numbered_tables::NumberedTable;
+use numbered_tables::{NumberedTable, TableChange, change_all};
 use std::alloc::{AllocError as NoMemory, Global};
 use std::collections::BTreeMap;
-use table_changes::{TableChange, change_all};
 use table_model::{Invalid, Refusal, Reply};
 use table_request::{BatchWrite, TableWrites};
 use update_eval::EvalFault;

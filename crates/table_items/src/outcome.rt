@@ -7,13 +7,12 @@ ghost use Rattle.table_model.specs.Outcome.{fit, is_met, is_too_large, where_met
 ghost use Rattle.table_model.specs.Outcome as model;
 ghost use Rattle.table_items.specs.Outcomes.{outcome_of};
 
-use attr_value::{Item, Value};
+use attr_value::{Item, SharedItem, Value, lent};
 use base_types::Seq;
 use condition_eval::holds;
 use expr_parse::Update;
 use expr_words::Condition;
 use row_keys::is_refused;
-use shared_item::{SharedItem, lent};
 use std::alloc::{AllocError as NoMemory, Global};
 use table_schema::Schema;
 use update_eval::{EvalEnd, EvalFault, MAX_SIZE, apply};

@@ -6,9 +6,9 @@ ghost use Rattle.table_model.specs.Reads.{get_item, view};
 ghost use Rattle.table_items.specs.Effects.{IsTold};
 
 use crate::key::key_of_key;
+use attr_value::SharedItem;
 use expr_words::Paths;
 use projection::pick;
-use shared_item::SharedItem;
 use std::alloc::{AllocError as NoMemory, Global};
 use table_model::{Invalid, Refusal, Reply};
 use table_request::GetItem;

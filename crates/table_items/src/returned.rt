@@ -5,10 +5,9 @@ ghost use Rattle.std.specs.Option.{option_copied};
 ghost use Rattle.table_model.specs.Writes.{shown, some_of, touched_in, touched_key, touched_name};
 
 use crate::touched::only_touched;
-use attr_value::Item;
+use attr_value::{Item, SharedItem, kept, lent};
 use base_types::Text;
 use expr_parse::Update;
-use shared_item::{SharedItem, kept, lent};
 use std::alloc::{AllocError as NoMemory, Global};
 use table_request::ReturnValues;
 use table_schema::KeyNames;

@@ -9,12 +9,11 @@ ghost use Rattle.table_items.specs.Steps.{IsMade, IsPut, IsUpdate, IsUpdateAt, I
 use crate::key::{key_of_item, key_of_key};
 use crate::outcome::{Outcome, delete_outcome, put_outcome, update_outcome};
 use crate::returned::{shown, touched_key};
-use attr_value::{Item, Value};
+use attr_value::{Item, SharedItem, Value, kept};
 use base_types::Seq;
 use expr_parse::Update;
 use expr_words::Condition;
 use row_keys::RowKey;
-use shared_item::{SharedItem, kept};
 use std::alloc::{AllocError as NoMemory, Global};
 use table_model::{Invalid, Refusal, Reply};
 use table_request::{DeleteItem, PutItem, ReturnValues, UpdateItem};

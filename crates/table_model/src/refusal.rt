@@ -1,15 +1,14 @@
 //! What a request is refused for.
 
+use attr_value::SharedItem;
 use base_types::{Seq, Text};
 use item_keys::KeyFault;
 use key_condition::RangeFault;
-use shared_item::SharedItem;
 use table_schema::SchemaFault;
 use txn_core::Stamp;
 use update_eval::EvalFault;
 
 /// Why a request changed nothing (API Reference: Common errors, and each operation's errors).
-#[derive(Drop)]
 pub enum Refusal {
     /// ValidationException.
     Invalid(Invalid),
@@ -33,8 +32,25 @@ pub enum Refusal {
     TooManyTables,
 }
 
+// By hand, so that no crate above proves it again.
+impl Drop for Refusal {
+    fn drop(self) {
+        match self {
+            Refusal::Invalid(_)
+            | Refusal::NoTable(_)
+            | Refusal::NoIndex(_)
+            | Refusal::TableExists(_)
+            | Refusal::TableHeld(_)
+            | Refusal::ConditionFailed
+            | Refusal::Cancelled(_)
+            | Refusal::Conflict { number: _ }
+            | Refusal::Mismatch
+            | Refusal::TooManyTables => {}
+        }
+    }
+}
+
 /// Why a request does not fit the tables (ValidationException).
-#[derive(Drop)]
 pub enum Invalid {
     /// The schema that the table would have.
     Schema(SchemaFault),
@@ -63,8 +79,28 @@ pub enum Invalid {
     ItemTooLarge,
 }
 
+// By hand, so that no crate above proves it again.
+impl Drop for Invalid {
+    fn drop(self) {
+        match self {
+            Invalid::Schema(_)
+            | Invalid::Key(_)
+            | Invalid::UpdateOfKey(_)
+            | Invalid::KeyCondition(_)
+            | Invalid::FilterOfKey(_)
+            | Invalid::UnknownIndex(_)
+            | Invalid::ConsistentIndexRead
+            | Invalid::NotProjected(_)
+            | Invalid::Select
+            | Invalid::StartKey
+            | Invalid::Twice
+            | Invalid::Evaluation(_)
+            | Invalid::ItemTooLarge => {}
+        }
+    }
+}
+
 /// What became of one part of a cancelled transaction (API Reference: CancellationReason).
-#[derive(Drop)]
 pub enum Reason {
     /// The part was accepted.
     None,
@@ -78,4 +114,21 @@ pub enum Reason {
     Moved { first: u64, second: u64 },
     /// It has this fault.
     Invalid(EvalFault),
+}
+
+// By hand, so that no crate above proves it again.
+impl Drop for Reason {
+    fn drop(self) {
+        match self {
+            Reason::None
+            | Reason::ConditionFalse { old: _ }
+            | Reason::Held { number: _ }
+            | Reason::Late { stamp: _ }
+            | Reason::Moved {
+                first: _,
+                second: _,
+            }
+            | Reason::Invalid(_) => {}
+        }
+    }
 }

@@ -1,14 +1,12 @@
 //! What a request is answered.
 
 use crate::refusal::Refusal;
-use attr_value::Item;
+use attr_value::{Item, SharedItem};
 use base_types::{Seq, Text};
-use shared_item::SharedItem;
 use table_request::{TableKeys, TableWrites};
 use table_schema::Schema;
 
 /// The answer to a request.
-#[derive(Drop)]
 pub enum Reply {
     /// A table that was made, changed or dropped, of this schema (TableDescription).
     Described(Schema),
@@ -37,8 +35,29 @@ pub enum Reply {
     Refused(Refusal),
 }
 
+// By hand, so that no crate above proves it again.
+impl Drop for Reply {
+    fn drop(self) {
+        match self {
+            Reply::Described(_)
+            | Reply::Table(_)
+            | Reply::Tables(_)
+            | Reply::Written(_)
+            | Reply::Read(_)
+            | Reply::BatchRead {
+                found: _,
+                unread: _,
+            }
+            | Reply::BatchWritten { unwritten: _ }
+            | Reply::Page(_)
+            | Reply::TransactWritten
+            | Reply::TransactRead(_)
+            | Reply::Refused(_) => {}
+        }
+    }
+}
+
 /// Names of tables (API Reference: ListTables).
-#[derive(Drop)]
 pub struct TableNames {
     /// In the order of their bytes.
     pub names: Seq<Text>,
@@ -46,15 +65,27 @@ pub struct TableNames {
     pub last: Option<Text>,
 }
 
+// By hand, so that no crate above proves it again.
+impl Drop for TableNames {
+    fn drop(self) {
+        let TableNames { names: _, last: _ } = self;
+    }
+}
+
 /// What was found in a table.
-#[derive(Drop)]
 pub struct TableItems {
     pub table: Text,
     pub items: Seq<SharedItem>,
 }
 
+// By hand, so that no crate above proves it again.
+impl Drop for TableItems {
+    fn drop(self) {
+        let TableItems { table: _, items: _ } = self;
+    }
+}
+
 /// A page of rows (API Reference: Query, Scan).
-#[derive(Drop)]
 pub struct Page {
     /// How many rows pass the filter.
     pub count: u64,
@@ -64,4 +95,16 @@ pub struct Page {
     pub items: Option<Seq<SharedItem>>,
     /// The key of the last row, where the page ended before the rows did.
     pub last: Option<Item>,
+}
+
+// By hand, so that no crate above proves it again.
+impl Drop for Page {
+    fn drop(self) {
+        let Page {
+            count: _,
+            scanned: _,
+            items: _,
+            last: _,
+        } = self;
+    }
 }

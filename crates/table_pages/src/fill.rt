@@ -10,9 +10,9 @@ ghost use Rattle.table_model.specs.Pages.{Source as AnySource};
 ghost use Rattle.table_pages.specs.Filled.{IsAdded, FillsPage};
 
 use crate::row::Sight;
+use attr_value::SharedItem;
 use base_types::Seq;
 use paging::{PageState, Steps, Walk};
-use shared_item::SharedItem;
 use std::alloc::{AllocError as NoMemory, Global};
 use std::sync::ledger::Ledger;
 use table_items::is_met;

@@ -3,8 +3,8 @@
 ghost use Rattle.std.specs.Prelude.{◌≡◌};
 ghost use Rattle.table_rows.specs.View.{is_pending};
 
+use attr_value::SharedItem;
 use row_keys::RowKey;
-use shared_item::SharedItem;
 
 /// What the item at a key is to be: this one, or none.
 #[derive(Drop)]

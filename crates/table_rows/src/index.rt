@@ -15,10 +15,9 @@ ghost use Rattle.table_rows.specs.State.{empty_index, IsHeld, IsFresh, IsSettled
 use crate::change::Change;
 use crate::moves::Move;
 use crate::slots::Slots;
-use attr_value::Item;
+use attr_value::{Item, lent};
 use paging::MapRange;
 use row_keys::{Position, RowKey, position_of};
-use shared_item::lent;
 use std::alloc::{AllocError as NoMemory, Global};
 use std::collections::BTreeMap;
 use std::marker::Model;
@@ -42,12 +41,22 @@ fn spot_of(
 }
 
 /// The places of the rows of an index, in its order, with those that come by changes that are prepared.
-#[derive(Drop)]
 pub(crate) struct Index {
     keys: KeyNames,
     places: BTreeMap<Position, ()>,
     /// What each change that is prepared moves, in their order.
     moves: Vec<Move>,
+}
+
+// By hand, so that no crate above proves it again.
+impl Drop for Index {
+    fn drop(self) {
+        let Index {
+            keys: _,
+            places: _,
+            moves: _,
+        } = self;
+    }
 }
 
 impl Model for Index {

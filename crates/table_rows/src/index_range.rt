@@ -5,9 +5,9 @@ ghost use Rattle.table_rows.specs.Slots.{rows_of};
 ghost use Rattle.table_rows.specs.Looked.{looked, AllThere};
 
 use crate::slots::Slots;
+use attr_value::SharedItem;
 use paging::{MapRange, Steps, Walk};
 use row_keys::Position;
-use shared_item::SharedItem;
 use std::marker::Model;
 use std::sync::ledger::Ledger;
 
@@ -16,10 +16,19 @@ use std::sync::ledger::Ledger;
 ///
 /// Contracts see the rows, each at its place. A step of a walk looks up one place and one item, whose cost is the
 /// logarithm of the table's size, and takes no memory.
-#[derive(Drop)]
 pub struct IndexRange<'a> {
     places: MapRange<'a, Position, ()>,
     slots: &'a Slots,
+}
+
+// By hand, so that no crate above proves it again.
+impl Drop for IndexRange<'_> {
+    fn drop(self) {
+        let IndexRange {
+            places: _,
+            slots: _,
+        } = self;
+    }
 }
 
 impl<'a> Model for IndexRange<'a> {

@@ -13,8 +13,8 @@ ghost use Rattle.table_rows.specs.State.{AreDistinct, AreInStep, IsFresh, IsHeld
 use crate::change::Change;
 use crate::index::Index;
 use crate::slots::Slots;
+use attr_value::lent;
 use base_types::Seq;
-use shared_item::lent;
 use std::alloc::{AllocError as NoMemory, Global};
 use table_schema::Schema;
 

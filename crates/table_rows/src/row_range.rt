@@ -3,9 +3,9 @@
 ghost use Rattle.std.specs.Prelude.{◌≡◌};
 ghost use Rattle.table_rows.specs.Slots.{rows_of, AllFilled};
 
+use attr_value::SharedItem;
 use paging::{MapRange, Steps, Walk};
 use row_keys::RowKey;
-use shared_item::SharedItem;
 use std::marker::Model;
 use std::sync::ledger::Ledger;
 
@@ -13,9 +13,15 @@ use std::sync::ledger::Ledger;
 ///
 /// Contracts see the rows, each under its key. A step of a walk looks up one key, whose cost is the logarithm of the
 /// table's size, and takes no memory.
-#[derive(Drop)]
 pub struct RowRange<'a> {
     slots: MapRange<'a, RowKey, Option<SharedItem>>,
+}
+
+// By hand, so that no crate above proves it again.
+impl Drop for RowRange<'_> {
+    fn drop(self) {
+        let RowRange { slots: _ } = self;
+    }
 }
 
 impl<'a> Model for RowRange<'a> {

@@ -10,9 +10,9 @@ ghost use Rattle.row_keys.specs.Keys.{row_order};
 ghost use Rattle.row_keys.specs.Rows.{item_at, with_item};
 ghost use Rattle.table_rows.specs.Slots.{rows_of, has_slot, KeepsOtherSlots};
 
+use attr_value::SharedItem;
 use paging::MapRange;
 use row_keys::RowKey;
-use shared_item::SharedItem;
 use std::alloc::{AllocError as NoMemory, Global};
 use std::collections::BTreeMap;
 use std::collections::btree_map::Iter;
@@ -21,9 +21,15 @@ use std::ops::Bound;
 
 /// A map from keys to items in which a key may have a slot without an item, so that an item is written there without
 /// memory.
-#[derive(Drop)]
 pub(crate) struct Slots {
     slots: BTreeMap<RowKey, Option<SharedItem>>,
+}
+
+// By hand, so that no crate above proves it again.
+impl Drop for Slots {
+    fn drop(self) {
+        let Slots { slots: _ } = self;
+    }
 }
 
 impl Model for Slots {

@@ -18,9 +18,9 @@ use crate::index_range::IndexRange;
 use crate::prepare::{make_all, prepare_in, release_all, settle_all, undo_all};
 use crate::row_range::RowRange;
 use crate::slots::Slots;
+use attr_value::SharedItem;
 use base_types::Seq;
 use row_keys::{Position, RowKey};
-use shared_item::SharedItem;
 use std::alloc::{AllocError as NoMemory, Global};
 use std::marker::Model;
 use std::mem::replace;
@@ -97,7 +97,7 @@ pub struct TableRows {
     indexes: Seq<Index>,
 }
 
-// By hand, so that a crate above calls this one function where it would else prove again how all of it is let go.
+// By hand, so that no crate above proves it again.
 impl Drop for TableRows {
     fn drop(self) {
         let TableRows {

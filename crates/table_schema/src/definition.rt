@@ -15,10 +15,17 @@ pub enum KeyKind {
 }
 
 /// The name and the type of an attribute that serves in a key (API Reference: AttributeDefinition).
-#[derive(Debug, PartialEq, Eq, Drop)]
+#[derive(Debug, PartialEq, Eq)]
 pub struct Definition {
     pub name: Text,
     pub kind: KeyKind,
+}
+
+// By hand, so that no crate above proves it again.
+impl Drop for Definition {
+    fn drop(self) {
+        let Definition { name: _, kind: _ } = self;
+    }
 }
 
 impl Definition {

@@ -7,11 +7,20 @@ use std::alloc::AllocError as NoMemory;
 
 /// The attributes of an item that an index keeps: those of the keys, those and the named ones, or all
 /// (API Reference: Projection).
-#[derive(Debug, PartialEq, Eq, Drop)]
+#[derive(Debug, PartialEq, Eq)]
 pub enum Projection {
     KeysOnly,
     Include(Seq<Text>),
     All,
+}
+
+// By hand, so that no crate above proves it again.
+impl Drop for Projection {
+    fn drop(self) {
+        match self {
+            Projection::KeysOnly | Projection::Include(_) | Projection::All => {}
+        }
+    }
 }
 
 impl Projection {
@@ -47,11 +56,22 @@ impl Clone for Projection {
 
 /// An index that shares the table's partition key and sorts by an attribute of its own
 /// (API Reference: LocalSecondaryIndex).
-#[derive(Debug, PartialEq, Eq, Drop)]
+#[derive(Debug, PartialEq, Eq)]
 pub struct LocalIndex {
     pub name: Text,
     pub keys: KeyNames,
     pub projection: Projection,
+}
+
+// By hand, so that no crate above proves it again.
+impl Drop for LocalIndex {
+    fn drop(self) {
+        let LocalIndex {
+            name: _,
+            keys: _,
+            projection: _,
+        } = self;
+    }
 }
 
 impl LocalIndex {
@@ -77,11 +97,22 @@ impl Clone for LocalIndex {
 
 /// An index with a key of its own, which may differ from the table's in both parts
 /// (API Reference: GlobalSecondaryIndex).
-#[derive(Debug, PartialEq, Eq, Drop)]
+#[derive(Debug, PartialEq, Eq)]
 pub struct GlobalIndex {
     pub name: Text,
     pub keys: KeyNames,
     pub projection: Projection,
+}
+
+// By hand, so that no crate above proves it again.
+impl Drop for GlobalIndex {
+    fn drop(self) {
+        let GlobalIndex {
+            name: _,
+            keys: _,
+            projection: _,
+        } = self;
+    }
 }
 
 impl GlobalIndex {

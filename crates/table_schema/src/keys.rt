@@ -7,10 +7,20 @@ use std::alloc::AllocError as NoMemory;
 
 /// The names of the attributes that are the key of a table or of an index: the partition key (HASH) and,
 /// where there is one, the sort key (RANGE) (API Reference: KeySchemaElement).
-#[derive(Debug, PartialEq, Eq, Drop)]
+#[derive(Debug, PartialEq, Eq)]
 pub struct KeyNames {
     pub partition: Text,
     pub sort: Option<Text>,
+}
+
+// By hand, so that no crate above proves it again.
+impl Drop for KeyNames {
+    fn drop(self) {
+        let KeyNames {
+            partition: _,
+            sort: _,
+        } = self;
+    }
 }
 
 impl KeyNames {

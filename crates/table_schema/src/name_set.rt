@@ -17,9 +17,15 @@ pub trait Named {
 }
 
 /// Names, each once.
-#[derive(Drop)]
 pub struct NameSet<'a> {
     names: BTreeSet<&'a str>,
+}
+
+// By hand, so that no crate above proves it again.
+impl Drop for NameSet<'_> {
+    fn drop(self) {
+        let NameSet { names: _ } = self;
+    }
 }
 
 impl<'a> Model for NameSet<'a> {

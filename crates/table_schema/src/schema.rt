@@ -8,7 +8,7 @@ use base_types::{Seq, Text};
 use std::alloc::AllocError as NoMemory;
 
 /// What a table was made with (API Reference: CreateTable, TableDescription).
-#[derive(Debug, PartialEq, Eq, Drop)]
+#[derive(Debug, PartialEq, Eq)]
 pub struct Schema {
     pub name: Text,
     pub definitions: Seq<Definition>,
@@ -25,6 +25,23 @@ pub struct Schema {
     pub created: u64,
 }
 
+// By hand, so that no crate above proves it again.
+impl Drop for Schema {
+    fn drop(self) {
+        let Schema {
+            name: _,
+            definitions: _,
+            keys: _,
+            locals: _,
+            globals: _,
+            on_demand: _,
+            read_units: _,
+            write_units: _,
+            created: _,
+        } = self;
+    }
+}
+
 impl Schema {
     /// The type of the attribute of this name, where it is defined.
     pub fn kind_of(&self, name: &Text) -> Option<KeyKind>
@@ -36,6 +53,24 @@ impl Schema {
             }
         }
         None
+    }
+
+    /// The table's name.
+    pub fn into_name(self) -> Text
+        ensures { result ≡ self.name }
+    {
+        let Schema {
+            name,
+            definitions: _,
+            keys: _,
+            locals: _,
+            globals: _,
+            on_demand: _,
+            read_units: _,
+            write_units: _,
+            created: _,
+        } = self;
+        name
     }
 
     /// An equal schema.

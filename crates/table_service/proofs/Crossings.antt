@@ -14,7 +14,7 @@ use Rattle.table_schema.proofs.schema.Schema.TheSendSync as schema
 use Rattle.table_schema.proofs.keys.KeyNames.TheSendSync as key_names
 use Rattle.attr_value.specs.contracts.value.Item as Item
 use Rattle.attr_value.specs.contracts.value.Value as Value
-use Rattle.shared_item.specs.contracts.SharedItem as SharedItem
+use Rattle.attr_value.specs.contracts.shared_item.SharedItem as SharedItem
 use Rattle.expr_words.specs.contracts.tree.Condition as Condition
 use Rattle.expr_parse.specs.contracts.tree.Update as Update
 use Rattle.table_request.specs.contracts.transactions.Change as Change

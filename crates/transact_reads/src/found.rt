@@ -7,10 +7,10 @@ ghost use Rattle.table_model.specs.Batches.{missing};
 ghost use Rattle.transact_reads.specs.Found.{target_of, shown_of, IsFound, AreFound, database_of};
 
 use crate::targets::Targeted;
+use attr_value::SharedItem;
 use base_types::{Seq, Text};
 use numbered_tables::NumberedTable;
 use row_keys::RowKey;
-use shared_item::SharedItem;
 use std::alloc::{AllocError as NoMemory, Global};
 use std::collections::BTreeMap;
 use table_items::{key_of_key, view};

@@ -19,7 +19,7 @@ use Rattle.table_model.specs.declared.refusal.Reason.TheVariants as reason
 use Rattle.table_model.specs.Outcome.{Outcome, becomes, is_false, is_faulty, is_met, where_met}
 use Rattle.table_model.specs.Database.{Database, Table, table_named}
 use Rattle.table_model.specs.Transactions.{Target, target_if, target_of, action_outcome, outcome_if, outcome_of, is_accepted, shown_old, reason_if, reason_of}
-use Rattle.table_changes.specs.declared.change.TableChange.{TableChange}
+use Rattle.numbered_tables.specs.declared.change.TableChange.{TableChange}
 use Rattle.numbered_tables.specs.declared.table.NumberedTable.{NumberedTable}
 use Rattle.numbered_tables.specs.Tables.{Kept, table_in}
 use Rattle.numbered_tables.proofs.Kept.{at, absent, there}

@@ -31,8 +31,8 @@ use Rattle.table_model.specs.Outcome.{Outcome, becomes, is_false, is_faulty, is_
 use Rattle.table_model.specs.Database.{Database, Table, table_named, with_table, with_row}
 use Rattle.table_model.specs.Batches.{place_if}
 use Rattle.table_model.specs.Transactions.{Target, is_one, has_repeat, change_key, target_if, target_of, change_outcome, outcome_if, outcome_of, made_if, made_all}
-use Rattle.table_changes.specs.declared.change.TableChange.{TableChange}
-use Rattle.table_changes.specs.Changes.{is_same, has_repeat as is_changed_twice, changed_if, changed, changed_all}
+use Rattle.numbered_tables.specs.declared.change.TableChange.{TableChange}
+use Rattle.numbered_tables.specs.Changes.{is_same, has_repeat as is_changed_twice, changed_if, changed, changed_all}
 use Rattle.transact_writes.specs.Judged.{change_if, judged_if, judged, change_in, changes_of, AreInOrderIf, IsInOrder}
 
 -- ---- rows

@@ -21,8 +21,8 @@ use Rattle.table_model.specs.declared.refusal.Refusal.TheVariants.{Cancelled, Mi
 use Rattle.table_model.specs.Database.{Database, refused, unless}
 use Rattle.table_model.specs.Transactions.{target_of, has_repeat, outcome_of, is_accepted, reason_of, made_all, numbered_all, with_token, kept_of, same_action, transacted, repeated}
 use Rattle.numbered_tables.specs.Tables.{Kept, database_in}
-use Rattle.table_changes.specs.declared.change.TableChange.{TableChange}
-use Rattle.table_changes.specs.Changes.{has_repeat as is_changed_twice, changed_all, IsChanged}
+use Rattle.numbered_tables.specs.declared.change.TableChange.{TableChange}
+use Rattle.numbered_tables.specs.Changes.{has_repeat as is_changed_twice, changed_all, IsChanged}
 use Rattle.transact_writes.specs.declared.aimed.Aimed.{Aimed}
 use Rattle.transact_writes.specs.Judged.{IsInOrder}
 use Rattle.transact_writes.specs.Aimed.{database_of, action_in, IsTarget, AreFit, IsChecked}

@@ -15,7 +15,7 @@ use Rattle.table_model.specs.declared.refusal.Reason.TheVariants as reason
 use Rattle.table_model.specs.Outcome.{Outcome, becomes, is_false, is_faulty}
 use Rattle.table_model.specs.Database.{Database, Table, table_named}
 use Rattle.table_model.specs.Transactions.{Target, target_of, action_outcome, outcome_of, reason_if}
-use Rattle.table_changes.specs.declared.change.TableChange.{TableChange}
+use Rattle.numbered_tables.specs.declared.change.TableChange.{TableChange}
 
 -- the change that an action makes where it is accepted; a check makes none
 abbrev pub change_if : List ℕ → Change → Option Target → Option Attributes → Option TableChange

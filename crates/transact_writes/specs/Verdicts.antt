@@ -12,7 +12,7 @@ use Rattle.table_model.specs.declared.refusal.Reason.TheVariants as reason
 use Rattle.table_model.specs.Outcome.{Outcome, becomes, is_false, is_faulty}
 use Rattle.table_model.specs.Database.{Database}
 use Rattle.table_model.specs.Transactions.{outcome_of, is_accepted, reason_of}
-use Rattle.table_changes.specs.declared.change.TableChange.{TableChange}
+use Rattle.numbered_tables.specs.declared.change.TableChange.{TableChange}
 use Rattle.transact_writes.specs.declared.judge.Aim.{Aim}
 use Rattle.transact_writes.specs.declared.verdicts.Verdicts.{Verdicts}
 use Rattle.transact_writes.specs.Judged.{changes_of}

@@ -13,8 +13,8 @@ use Rattle.table_model.specs.declared.reply.Reply.TheVariants as answer
 use Rattle.table_model.specs.declared.refusal.Refusal.TheVariants.{Mismatch}
 use Rattle.table_model.specs.Transactions.{same_action, kept_at, kept_of, transacted, repeated, transact_write}
 use Rattle.numbered_tables.specs.Tables.{Kept, database_in}
-use Rattle.table_changes.specs.declared.change.TableChange.{TableChange}
-use Rattle.table_changes.specs.Changes.{IsChanged}
+use Rattle.numbered_tables.specs.declared.change.TableChange.{TableChange}
+use Rattle.numbered_tables.specs.Changes.{IsChanged}
 
 abbrev pub Tokens : Type 0
 Tokens = TokenMap (List NumberedAction)

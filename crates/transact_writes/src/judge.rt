@@ -11,16 +11,14 @@ ghost use Rattle.transact_writes.specs.Verdicts.{shown_if, verdict_of, action_of
 
 use crate::aimed::Aimed;
 use crate::verdicts::Verdict;
-use attr_value::{Item, Value};
+use attr_value::{Item, SharedItem, Value, lent};
 use base_types::{Seq, Text};
 use expr_parse::Update;
 use expr_words::Condition;
-use numbered_tables::NumberedTable;
+use numbered_tables::{NumberedTable, TableChange};
 use row_keys::RowKey;
-use shared_item::{SharedItem, lent};
 use std::alloc::{AllocError as NoMemory, Global};
 use std::collections::BTreeMap;
-use table_changes::TableChange;
 use table_items::{Outcome, delete_outcome, is_met, put_outcome, update_outcome};
 use table_model::{NumberedAction, Reason};
 use table_request::{Change, TransactAction};

@@ -9,10 +9,9 @@ use crate::aimed::Aimed;
 use crate::judge::{judge, judge_kept};
 use crate::verdicts::Verdicts;
 use base_types::{Seq, Text};
-use numbered_tables::NumberedTable;
+use numbered_tables::{NumberedTable, TableChange};
 use std::alloc::{AllocError as NoMemory, Global};
 use std::collections::BTreeMap;
-use table_changes::TableChange;
 use table_model::{NumberedAction, Reason};
 
 /// The changes that all actions make, where each is accepted, or what became of each.

@@ -4,17 +4,16 @@ ghost use Rattle.std.specs.Prelude.{◌≡◌, false, None, map, IfOk, OnErr};
 ghost use Rattle.std.specs.FinMap.{get};
 ghost use Rattle.std.specs.Cmp.Lexicographic.{pointwise};
 ghost use Rattle.table_model.specs.Transactions.{same_action};
-ghost use Rattle.table_changes.specs.Changes.{has_repeat};
+ghost use Rattle.numbered_tables.specs.Changes.{has_repeat};
 ghost use Rattle.numbered_tables.specs.Tables.{AreIdle};
 ghost use Rattle.transact_writes.specs.Writes.{repeat_reply, IsKept};
 
 use crate::aimed::Aimed;
 use base_types::{Seq, Text};
 use client_tokens::{Kept, Tokens};
-use numbered_tables::NumberedTable;
+use numbered_tables::{NumberedTable, TableChange, change_all};
 use std::alloc::{AllocError as NoMemory, Global};
 use std::collections::BTreeMap;
-use table_changes::{TableChange, change_all};
 use table_model::{NumberedAction, Refusal, Reply};
 
 /// Whether these are the actions that were kept, each in every part.

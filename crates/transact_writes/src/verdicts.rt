@@ -4,8 +4,8 @@ ghost use Rattle.std.specs.Prelude.{◌≡◌, [], false, IfOk, OnOk};
 ghost use Rattle.transact_writes.specs.Verdicts.{no_verdicts, with_verdict, settled};
 
 use base_types::Seq;
+use numbered_tables::TableChange;
 use std::alloc::{AllocError as NoMemory, Global};
-use table_changes::TableChange;
 use table_model::Reason;
 
 /// What is made of an action: a change, none by a check, or the reason why it is not accepted.

@@ -11,10 +11,9 @@ use crate::settle::{Copied, judge_all, judge_all_kept};
 use crate::token::{keep, repeated};
 use base_types::{Seq, Text};
 use client_tokens::Tokens;
-use numbered_tables::NumberedTable;
+use numbered_tables::{NumberedTable, change_all};
 use std::alloc::{AllocError as NoMemory, Global};
 use std::collections::BTreeMap;
-use table_changes::change_all;
 use table_model::{NumberedAction, Refusal, Reply};
 use table_request::TransactWrite;
 

@@ -11,8 +11,8 @@ use Rattle.txn_core.specs.Service.{Service, Reply, Event, History}
 use Rattle.cluster.specs.declared.step.StepError.{StepError}
 use Rattle.cluster.specs.Events.{event_of}
 use Rattle.cluster.specs.Steps.{IsLater}
-use Rattle.own_entries.specs.Counts.{Counts, CountsUntil}
-use Rattle.own_entries.proofs.Counting.{counts_none, counts_on, counts_until, same_event}
+use Rattle.cluster.specs.Counts.{Counts, CountsUntil}
+use Rattle.cluster.proofs.OwnEntries.{counts_none, counts_on, counts_until, same_event}
 use Rattle.txn_reader.specs.declared.item_version.ItemVersion.{ItemVersion}
 use Rattle.txn_reader.specs.declared.read_end.ReadEnd.{ReadEnd}
 use Rattle.txn_reader.specs.Reasons.{IsRuled}

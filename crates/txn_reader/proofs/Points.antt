@@ -11,7 +11,7 @@ use Rattle.txn_core.specs.Legal.{IsLegal}
 use Rattle.txn_core.specs.Service.{Service, IsServiceLawful, Event, History}
 use Rattle.txn_core.proofs.Exports.{beginning_is_tail, newest, legal_before, read_at_one_point}
 use Rattle.cluster.specs.Events.{pass_of}
-use Rattle.own_entries.specs.Counts.{Counts}
+use Rattle.cluster.specs.Counts.{Counts}
 use Rattle.txn_reader.specs.declared.item_version.ItemVersion.{ItemVersion}
 use Rattle.txn_reader.specs.declared.read_end.ReadEnd.{ReadEnd}
 use Rattle.txn_reader.specs.Reasons.{IsRuled, reason_by, reason_of, reasons_of}

@@ -6,7 +6,7 @@ use Rattle.std.proofs.lemmas.Option.{slice_get_within}
 use Rattle.turnstile.specs.Passes.{PassView}
 use Rattle.txn_core.specs.Service.{Service, Event}
 use Rattle.cluster.specs.declared.step.StepError.{StepError}
-use Rattle.own_entries.specs.Counts.{Counts, CountsUntil}
+use Rattle.cluster.specs.Counts.{Counts, CountsUntil}
 use Rattle.txn_reader.specs.declared.item_version.ItemVersion.{ItemVersion}
 use Rattle.txn_reader.specs.declared.read_end.ReadEnd.{ReadEnd}
 use Rattle.txn_reader.specs.Reads.{reads, misses, round, IsEarlier, IsCutShort, AreRead, Ends}

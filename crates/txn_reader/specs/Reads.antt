@@ -9,7 +9,7 @@ use Rattle.txn_core.specs.Laws.{item_by}
 use Rattle.txn_core.specs.Service.{Service, Event}
 use Rattle.cluster.specs.declared.step.StepError.{StepError}
 use Rattle.cluster.specs.Events.{pass_of, event_of}
-use Rattle.own_entries.specs.Counts.{Counts, CountsUntil}
+use Rattle.cluster.specs.Counts.{Counts, CountsUntil}
 use Rattle.txn_reader.specs.declared.item_version.ItemVersion.{ItemVersion}
 use Rattle.txn_reader.specs.declared.read_end.ReadEnd.{ReadEnd}
 use Rattle.txn_reader.specs.declared.rounds.Round.{Round}

@@ -2,13 +2,12 @@
 
 ghost use Rattle.std.specs.Prelude.{◌≡◌, [], ◌∷◌, ◌++◌, IfOk, IfErr, OnOk};
 ghost use Rattle.cluster.specs.Steps.{partitions_of};
-ghost use Rattle.own_entries.specs.Counts.{CountsUntil};
+ghost use Rattle.cluster.specs.Counts.{CountsUntil};
 ghost use Rattle.txn_reader.specs.Reads.{IsRead, IsRound, StopsAfter};
 
 use crate::item_version::ItemVersion;
 use base_types::Seq;
-use cluster::{Cluster, StepError, TableWorld};
-use own_entries::ask;
+use cluster::{Cluster, StepError, TableWorld, ask};
 use partition::PageRules;
 use std::alloc::{AllocError as NoMemory, Global};
 use std::sync::Wait;

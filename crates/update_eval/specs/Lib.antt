@@ -1,4 +1,4 @@
--- The definitions in reading order: codes of faults and values; answers with faults; terms; sums; what ADD and DELETE make; where
+-- The definitions in reading order: codes of values; answers with faults; terms; sums; what ADD and DELETE make; where
 -- a path has a place; what actions write; the new item. Views has what the code's values stand for.
 pub mod Codes
 pub mod Answers

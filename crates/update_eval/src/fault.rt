@@ -25,25 +25,6 @@ pub enum EvalFault {
     IndexKey,
 }
 
-impl EvalFault {
-    ghost use Rattle.update_eval.specs.Codes.{code};
-
-    /// The fault's number, from 1.
-    pub fn code(&self) -> u8
-        ensures { result ≡ code self.now }
-    {
-        match self {
-            EvalFault::MissingOperand => 1,
-            EvalFault::OperandType => 2,
-            EvalFault::Number(_) => 3,
-            EvalFault::BadPath => 4,
-            EvalFault::TooDeep => 5,
-            EvalFault::ItemTooLarge => 6,
-            EvalFault::IndexKey => 7,
-        }
-    }
-}
-
 /// Why an evaluation gave nothing.
 #[derive(Debug, PartialEq, Eq, Drop)]
 pub enum EvalEnd {

@@ -6,7 +6,7 @@ use Rattle.api_request.proofs.action.action_size.Goals as goal
 
 pub returns-in_ok-item_at-in-Put : goal.returns-in_ok-item_at-in-Put
 returns-in_ok-item_at-in-Put c =
-    c.size-in-Put.ensures ∙ ap (λ (x : Attributes). min (item_size x) (2 ^ 64 - 1)) c.in_ok-item_at-in-Put.ensures
+    c.size.ensures ∙ ap (λ (x : Attributes). min (item_size x) (2 ^ 64 - 1)) c.in_ok-item_at-in-Put.ensures
     ∙ ap (λ (a : Action). min (size_of a) (2 ^ 64 - 1)) c.in-Put.ensures
 
 pub returns-in-Update : goal.returns-in-Update

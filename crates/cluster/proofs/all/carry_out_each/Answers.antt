@@ -1,7 +1,8 @@
-use Rattle.std.proofs.Common.{◌-◌, ◌<◌, length, reverse, ◌∙◌, arith}
+use Rattle.std.proofs.Common.{◌≡◌, ◌-◌, ◌<◌, length, reverse, ◌∙◌, subst, arith}
 use Rattle.std.proofs.lemmas.List.{length-set}
 use Rattle.std.specs.Vec.{with_item}
 use Rattle.std.specs.Box.{with_value}
+use Rattle.cluster.specs.Commanding.{CarriedBefore}
 use Rattle.cluster.proofs.Places.{carried_more}
 use Rattle.cluster.proofs.all.carry_out_each.Goals as goal
 
@@ -33,4 +34,7 @@ returns-clause-carried g c =
     let end = c.loop-i.auto.i-end in
     let test = c.loop-i-test.false in
     let partitions = c.partitions-i-end.ensures.count in
-    λ k x at. ((λ lt. (c.loop-i.invariant.carried k x at).0 (omega arith)), (λ le. (c.loop-i.invariant.carried k x at).1 (omega arith)))
+    let is : c.loop-i.i ≡ c.partitions-i-end.result = omega arith in
+    subst
+    (λ k. CarriedBefore (g.R.Rules.protocol (c.args.turnstile.now.id.slots - 1)) g.R.CellRules.locals g.R.CommandRules.target g.R.CommandRules.numbers k
+    c.loop-i.turns.values.items (reverse c.args.pass.now.front) c.args.command.now c.args.pass.now.moment) (is ∙ partitions) c.loop-i.invariant.carried

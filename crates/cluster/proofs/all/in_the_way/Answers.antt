@@ -30,7 +30,7 @@ loop-i-preserved g c =
           stand_left S g.R.CellRules.locals cells.items es i b below c.cell.ensures.value inv.stand;
       clear =
           clear_more S (own S es) c.args.command.now i c.holder_in-holder.result (sym c.is_some.ensures ∙ c.if-is_some.false)
-          (c.holder_in-holder.ensures (n - 1) i (of_cell i es) partition stands) inv.clear;
+          ((c.holder_in-holder.ensures (n - 1)).tells i (of_cell i es) partition stands) inv.clear;
     }
 
 pub returns-then-is_some-clause-tells : goal.returns-then-is_some-clause-tells
@@ -49,4 +49,4 @@ returns-then-is_some-clause-tells g c =
     let partition : i < S.control = omega arith in
     let stands = lent_stands S g.R.CellRules.locals cells.items es i c.cell.result.now c.deref.result.now below c.cell.ensures.value c.deref.ensures inv.stand in
     first_found S (own S es) c.args.command.now i c.holder_in-holder.result (sym c.is_some.ensures ∙ c.if-is_some.true)
-    (c.holder_in-holder.ensures (n - 1) i (of_cell i es) partition stands) inv.clear
+    ((c.holder_in-holder.ensures (n - 1)).tells i (of_cell i es) partition stands) inv.clear

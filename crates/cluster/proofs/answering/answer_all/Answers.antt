@@ -1,6 +1,6 @@
 use Rattle.std.proofs.Common.{◌-◌, reverse, refl}
 use Rattle.txn_core.specs.declared.answer.Answer.{Answer}
-use Rattle.cluster.proofs.Answered.{all_left, carried_held, carried_planned, denied_held, denied_planned, refused_planned}
+use Rattle.cluster.proofs.Answered.{all_changed, all_left, carried_held, carried_planned, denied_held, denied_planned, refused_planned}
 use Rattle.cluster.proofs.answering.answer_all.Goals as goal
 
 pub returns-in-Refused-clause-answers : goal.returns-in-Refused-clause-answers
@@ -62,3 +62,8 @@ returns-in_ok-carry_out-in-None-in_the_way-clause-answers g c =
     carried_planned (g.R.Rules.protocol (n - 1)) (g.met.R.Rules.lawful (n - 1)) (reverse c.args.pass.now.front) c.requires.legal
     c.args.pass.now.moment c.args.command.now (n - 1) (g.met.R.Rules.numbered (n - 1)) c.in_ok-told.field-0 c.in_ok-told.ensures.plan
     c.in-Carried.told c.in-Carried.catalog c.in-Carried.is c.in-None-in_the_way.ensures.tells
+
+pub returns-in_ok-carry_out-in-None-in_the_way-clause-stand : goal.returns-in_ok-carry_out-in-None-in_the_way-clause-stand
+returns-in_ok-carry_out-in-None-in_the_way-clause-stand g c =
+    all_changed (g.R.Rules.protocol (c.args.turnstile.now.id.slots - 1)) g.R.CellRules.locals c.carry_out.new.turns.values.items
+    (reverse c.args.pass.now.front) c.args.pass.now.moment c.args.command.now c.in-Carried.told c.in_ok-carry_out-in-None-in_the_way.ensures.carried

@@ -36,4 +36,4 @@ returns-clause-plan g c =
     if_ok_with c.plan_of.result c.plan_of.ensures
     (λ plan tells.
     subst (λ (z : ℕ × ℕ). IsPlan S (own S es z.0).catalog c.args.command.now z.1 plan) (λ j. (at j, c.moment-moment.ensures j))
-    (tells (n - 1) i (of_cell i es) stands))
+    ((tells (n - 1)).tells i (of_cell i es) stands))

@@ -14,7 +14,7 @@ commit_all-requires-clause-stands g c =
     let e = event_of p None (Message.Command c.args.command.now) c.args.answer.now in
     λ i b at.
     subst (λ es. StandsFor S g.R.CellRules.locals i b.value es) (of_each S i (reverse p.front) e refl ∙ sym (own_newest S p.front i _ e c.requires.entry))
-    (c.requires.stand i b at)
+    (c.requires.stand.each i b at)
 
 pub returns-clause-stand : goal.returns-clause-stand
 returns-clause-stand g c =

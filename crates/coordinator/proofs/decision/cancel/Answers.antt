@@ -1,7 +1,7 @@
 use Rattle.std.proofs.Common.{◌-◌, reverse, sym, ap, ◌∙◌, subst}
 use Rattle.coordinator.specs.Driving.{Fails}
 use Rattle.coordinator.proofs.Deciding.{cancel_advances, cancel_allowed, cancel_fails, cancel_known}
-use Rattle.own_entries.proofs.Handed.{handed_on}
+use Rattle.cluster.proofs.Handed.{handed_on}
 use Rattle.coordinator.proofs.decision.cancel.Goals as goal
 
 pub decide-requires-clause-may : goal.decide-requires-clause-may

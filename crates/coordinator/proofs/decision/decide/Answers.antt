@@ -2,10 +2,10 @@ use Rattle.std.proofs.Common.{◌-◌, Some, refl, sym, reverse, subst, ◌∷�
 use Rattle.txn_core.specs.declared.message.Message.{Message}
 use Rattle.cluster.specs.Events.{event_of}
 use Rattle.cluster.specs.Steps.{IsLater}
-use Rattle.own_entries.specs.Counts.{Counts}
+use Rattle.cluster.specs.Counts.{Counts}
 use Rattle.coordinator.specs.Driving.{Fails}
 use Rattle.coordinator.proofs.Deciding.{decided_on, fated_first, fated_less, is_answered}
-use Rattle.own_entries.proofs.Handed.{handed_on}
+use Rattle.cluster.proofs.Handed.{handed_on}
 use Rattle.coordinator.proofs.Driven.{given_up_early}
 use Rattle.coordinator.proofs.decision.decide.Goals as goal
 

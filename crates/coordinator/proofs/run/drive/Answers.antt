@@ -21,3 +21,15 @@ returns-clause-drives g c =
     let q = c.recall.new.pass in
     drives_whole S (g.met.R.Rules.lawful n) c.args.number p q c.drive_on-end.new.pass c.in-Some.driver c.drive_on-end.result
     (subst (λ o. IfSome o (λ d. Begins S c.args.number p q d)) c.in-Some.is c.in-Ok.ensures.driver) c.drive_on-end.ensures.ends c.facts.ensures.legal
+
+pub returns-clause-stopped : goal.returns-clause-stopped
+returns-clause-stopped g c =
+    c.drive_on-end.ensures.gate.stopped
+
+pub returns-clause-later : goal.returns-clause-later
+returns-clause-later g c =
+    c.drive_on-end.ensures.gate.later
+
+pub returns-clause-obeyed : goal.returns-clause-obeyed
+returns-clause-obeyed g c =
+    c.drive_on-end.ensures.gate.obeyed

@@ -1,7 +1,8 @@
-use Rattle.std.proofs.Common.{◌-◌, ◌+◌, sym, ap, ◌∙◌, subst}
+use Rattle.std.proofs.Common.{Ok, refl, ◌-◌, ◌+◌, sym, ap, ◌∙◌, subst}
 use Rattle.txn_core.specs.Driver.{course_left}
 use Rattle.coordinator.specs.Drives.{Ends}
 use Rattle.coordinator.proofs.Closing.{ends_closed, ends_failed, ends_stopped, given_up_goes_on}
+use Rattle.coordinator.proofs.Stopping.{in_words}
 use Rattle.coordinator.proofs.run.drive_on.Goals as goal
 
 pub returns-in-Err-clause-ends : goal.returns-in-Err-clause-ends
@@ -10,12 +11,6 @@ returns-in-Err-clause-ends g c =
     let d = c.args.driver in
     subst (λ end. Ends S (course_left d.course + 1) c.args.pass.now d c.take_steps.new.pass end) (sym c.given_up.ensures)
     (ends_failed S c.args.pass.now c.take_steps.new.pass d c.in-Err.error c.in-Err.ensures.err)
-
-pub returns-in-Err-clause-stopped : goal.returns-in-Err-clause-stopped
-returns-in-Err-clause-stopped g c = λ e. absurd (given_up_goes_on c.in-Err.error (sym c.given_up.ensures ∙ e))
-
-pub returns-in-Err-clause-obeyed : goal.returns-in-Err-clause-obeyed
-returns-in-Err-clause-obeyed g c = λ _. c.take_steps.ensures.obeyed (λ stop. absurd (let e = sym c.in-Err.is ∙ stop in cc))
 
 pub close-requires-clause-of : goal.close-requires-clause-of
 close-requires-clause-of g c = ap (λ z. z.turnstile) c.in-Ok.ensures.ok.added.pass ∙ c.requires.of
@@ -34,17 +29,21 @@ returns-in-Go-clause-ends g c =
     ends_closed (g.R.Rules.protocol (c.args.cluster.now.id.slots - 1)) c.args.pass.now c.take_steps.new.pass c.args.driver c.close.new.pass
     c.take_steps.new.driver c.close.result c.in-Ok.ensures.ok c.close.ensures.ends
 
-pub returns-in-Go-clause-stopped : goal.returns-in-Go-clause-stopped
-returns-in-Go-clause-stopped g c = λ e. absurd (c.close.ensures.not_stopped e)
-
-pub returns-in-Go-clause-obeyed : goal.returns-in-Go-clause-obeyed
-returns-in-Go-clause-obeyed g c =
-    λ _. c.take_steps.ensures.obeyed (λ stop. absurd (let e = sym c.in-Ok.is ∙ stop in let go = c.in-Go.is in cc))
-
 pub returns-in-Stop-clause-ends : goal.returns-in-Stop-clause-ends
 returns-in-Stop-clause-ends g c =
     ends_stopped (g.R.Rules.protocol (c.args.cluster.now.id.slots - 1)) c.args.pass.now c.take_steps.new.pass c.args.driver c.take_steps.new.driver
     c.in-Ok.ensures.ok (c.in-Ok.ensures.there c.in-Stop.is)
 
-pub returns-in-Stop-clause-stopped : goal.returns-in-Stop-clause-stopped
-returns-in-Stop-clause-stopped g c = λ _. c.in-Ok.ensures.stopped c.in-Stop.is
+pub returns-in-Err-clause-gate : goal.returns-in-Err-clause-gate
+returns-in-Err-clause-gate g c =
+    in_words _ _ _ _ (λ p. absurd (let e = sym c.in-Err.is ∙ p in cc))
+    (λ q. absurd (given_up_goes_on c.in-Err.error (sym c.given_up.ensures ∙ q))) c.take_steps.ensures.gate
+
+pub returns-in-Go-clause-gate : goal.returns-in-Go-clause-gate
+returns-in-Go-clause-gate g c =
+    in_words _ _ _ _ (λ p. absurd (let e = sym c.in-Ok.is ∙ p in let go = c.in-Go.is in cc)) (λ q. absurd (c.close.ensures.not_stopped q))
+    c.take_steps.ensures.gate
+
+pub returns-in-Stop-clause-gate : goal.returns-in-Stop-clause-gate
+returns-in-Stop-clause-gate g c =
+    in_words _ _ _ _ (λ _. refl) (λ _. c.in-Ok.is ∙ ap Ok c.in-Stop.is) c.take_steps.ensures.gate

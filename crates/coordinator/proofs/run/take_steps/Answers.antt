@@ -1,7 +1,9 @@
 use Rattle.std.proofs.Common.{◌-◌, refl, sym, ap, ◌∙◌, subst}
 use Rattle.coordinator.specs.Driving.{Fails}
-use Rattle.own_entries.proofs.Handed.{handed_on}
+use Rattle.cluster.proofs.Handed.{handed_on}
 use Rattle.coordinator.proofs.Driven.{fails_on, goes_on, rests}
+use Rattle.ddb_outside.specs.declared.gate.Pace.{Pace}
+use Rattle.coordinator.proofs.Stopping.{in_words, let_pass, not_asked, not_ok}
 use Rattle.coordinator.proofs.run.take_steps.Goals as goal
 
 pub loop-point-init : goal.loop-point-init
@@ -27,7 +29,7 @@ loop-point-preserved g c =
       advances =
           goes_on (g.R.Rules.protocol (c.args.cluster.now.id.slots - 1)) c.args.pass.now c.loop-point.pass c.advance.new.pass c.args.driver.now
           c.loop-point.driver c.advance.new.driver inv.advances c.in_ok-point.ensures.ok;
-      same = c.pace_at.ensures.obeyed (λ stop. absurd (let e = sym c.in-Go.is ∙ stop in cc)) ∙ inv.same;
+      same = c.pace_at.ensures.gate.obeyed (λ stop. absurd (let e = sym c.in-Go.is ∙ stop in cc)) ∙ inv.same;
     }
 
 pub returns-in-Stop-clause-ok : goal.returns-in-Stop-clause-ok
@@ -45,3 +47,15 @@ returns-in_err-point-clause-err g c =
     handed_on c.from_residual.result (λ e. Fails S p d e q) _ c.from_residual.ensures.1
     (λ e same. subst (λ z. Fails S p d z q) (sym same)
     (fails_on S p c.loop-point.pass q d c.loop-point.driver v c.loop-point.invariant.advances c.in_err-point.ensures.err))
+
+pub returns-in-Stop-clause-gate : goal.returns-in-Stop-clause-gate
+returns-in-Stop-clause-gate g c =
+    let_pass _ _ _ _ c.loop-point.invariant.same (in_words _ _ _ _ (λ _. refl) (λ _. c.in-Stop.is) c.pace_at.ensures.gate)
+
+pub returns-in_err-point-clause-gate : goal.returns-in_err-point-clause-gate
+returns-in_err-point-clause-gate g c =
+    let_pass _ _ _ _ c.loop-point.invariant.same (not_asked _ _ (not_ok c.from_residual.result _ c.from_residual.ensures.1 Pace.Stop))
+
+pub returns-clause-gate : goal.returns-clause-gate
+returns-clause-gate g c =
+    let_pass _ _ _ _ c.loop-point.invariant.same (not_asked _ _ (λ e. cc))

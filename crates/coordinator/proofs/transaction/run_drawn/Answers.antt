@@ -1,5 +1,6 @@
-use Rattle.std.proofs.Common.{◌-◌, sym, ap, ◌∙◌}
+use Rattle.std.proofs.Common.{◌-◌, refl, sym, ap, ◌∙◌}
 use Rattle.coordinator.proofs.Writing.{begins_driver, forgets_same, over_done, runs_done, runs_undone, still_own, stopped_drawn}
+use Rattle.coordinator.proofs.Stopping.{let_pass, stops_here}
 use Rattle.coordinator.proofs.transaction.run_drawn.Goals as goal
 
 pub returns-in-Stop-clause-runs : goal.returns-in-Stop-clause-runs
@@ -18,10 +19,6 @@ returns-then-not-is_over-clause-runs g c =
     runs_undone (g.R.Rules.protocol n) c.args.pass.now c.args.number c.args.stamp c.args.actions c.begun-driver.result c.requires.drawn
     c.begun-driver.ensures (g.met.R.Rules.lawful n) run.new.pass run.result run.ensures.ends c.facts.ensures.legal
     (sym c.is_over.ensures ∙ c.if-not-is_over.true)
-
-pub returns-then-not-is_over-clause-obeyed : goal.returns-then-not-is_over-clause-obeyed
-returns-then-not-is_over-clause-obeyed g c =
-    λ on. c.drive_on-driven.ensures.obeyed on ∙ c.pass_point.ensures.told (λ stop. absurd (let e = sym c.in-Go.is ∙ stop in cc))
 
 pub forget-requires-clause-done : goal.forget-requires-clause-done
 forget-requires-clause-done g c =
@@ -43,10 +40,6 @@ facts-requires-2 g c =
     forgets_same (g.R.Rules.protocol (c.args.cluster.now.id.slots - 1)) run.new.pass c.args.number c.forget.new.pass c.forget.ensures
     ∙ (ap (λ z. z.turnstile) run.ensures.ends.added.pass ∙ c.requires.of)
 
-pub returns-clause-obeyed : goal.returns-clause-obeyed
-returns-clause-obeyed g c =
-    λ on. c.drive_on-driven.ensures.obeyed on ∙ c.pass_point.ensures.told (λ stop. absurd (let e = sym c.in-Go.is ∙ stop in cc))
-
 pub returns-clause-runs : goal.returns-clause-runs
 returns-clause-runs g c =
     let n = c.args.cluster.now.id.slots - 1 in
@@ -54,3 +47,27 @@ returns-clause-runs g c =
     runs_done (g.R.Rules.protocol n) c.args.pass.now c.args.number c.args.stamp c.args.actions c.begun-driver.result c.requires.drawn
     c.begun-driver.ensures (g.met.R.Rules.lawful n) run.new.pass run.result run.ensures.ends c.facts.ensures.legal c.forget.new.pass
     (sym c.is_over.ensures ∙ c.if-not-is_over.false) c.forget.ensures c.facts-2.ensures.legal
+
+pub returns-in-Stop-clause-gate : goal.returns-in-Stop-clause-gate
+returns-in-Stop-clause-gate g c =
+    stops_here _ _ _ refl (c.pass_point.ensures.cause c.in-Stop.is) c.pass_point.ensures.later
+
+pub returns-then-not-is_over-clause-gate : goal.returns-then-not-is_over-clause-gate
+returns-then-not-is_over-clause-gate g c =
+    let_pass _ _ _ _ (c.pass_point.ensures.told (λ stop. absurd (let e = sym c.in-Go.is ∙ stop in cc))) c.drive_on-driven.ensures.gate
+
+pub returns-clause-gate : goal.returns-clause-gate
+returns-clause-gate g c =
+    let_pass _ _ _ _ (c.pass_point.ensures.told (λ stop. absurd (let e = sym c.in-Go.is ∙ stop in cc))) c.drive_on-driven.ensures.gate
+
+pub facts-requires : goal.facts-requires
+facts-requires g c =
+    ap (λ z. z.turnstile) c.drive_on-driven.ensures.ends.added.pass ∙ c.requires.of
+
+pub forget-requires-clause-of : goal.forget-requires-clause-of
+forget-requires-clause-of g c =
+    ap (λ z. z.turnstile) c.drive_on-driven.ensures.ends.added.pass ∙ c.requires.of
+
+pub forget-requires-clause-free : goal.forget-requires-clause-free
+forget-requires-clause-free g c =
+    ap (λ z. z.turns) c.drive_on-driven.ensures.ends.added.pass ∙ c.requires.free

@@ -1,4 +1,4 @@
-use Rattle.std.proofs.Common.{◌-◌, ◌∙◌, refl, sym}
+use Rattle.std.proofs.Common.{◌-◌, inl, inr, ◌∙◌, refl, sym}
 use Rattle.std.specs.Option.{option_copied}
 use Rattle.coordinator.specs.declared.transact_end.TransactEnd.{TransactEnd}
 use Rattle.coordinator.proofs.Total.{adds_none, adds_writing, writes_turnstile}
@@ -43,3 +43,47 @@ returns-clause-own g c =
     let written = c.write_apart-end in
     adds_writing (g.R.Rules.protocol n) (option_copied c.args.token) c.args.actions.now (g.met.R.Rules.lawful n) c.args.pass.now
     written.new.pass written.result c.facts.ensures.legal written.ensures.writes
+
+pub returns-in_default-clause-twice : goal.returns-in_default-clause-twice
+returns-in_default-clause-twice g c =
+    λ _. (refl, inr refl)
+
+pub returns-in_default-clause-stopped : goal.returns-in_default-clause-stopped
+returns-in_default-clause-stopped g c =
+    λ e. absurd (cc)
+
+pub returns-in_default-clause-obeyed : goal.returns-in_default-clause-obeyed
+returns-in_default-clause-obeyed g c =
+    λ _. refl
+
+pub returns-then-not-apart-clause-twice : goal.returns-then-not-apart-clause-twice
+returns-then-not-apart-clause-twice g c =
+    λ _. (refl, inl refl)
+
+pub returns-then-not-apart-clause-stopped : goal.returns-then-not-apart-clause-stopped
+returns-then-not-apart-clause-stopped g c =
+    λ e. absurd (cc)
+
+pub returns-then-not-apart-clause-obeyed : goal.returns-then-not-apart-clause-obeyed
+returns-then-not-apart-clause-obeyed g c =
+    λ _. refl
+
+pub write_apart-end-requires-clause-of : goal.write_apart-end-requires-clause-of
+write_apart-end-requires-clause-of g c =
+    c.requires.of
+
+pub write_apart-end-requires-clause-free : goal.write_apart-end-requires-clause-free
+write_apart-end-requires-clause-free g c =
+    c.requires.free
+
+pub returns-clause-writes : goal.returns-clause-writes
+returns-clause-writes g c =
+    λ _. c.write_apart-end.ensures.writes
+
+pub returns-clause-stopped : goal.returns-clause-stopped
+returns-clause-stopped g c =
+    c.write_apart-end.ensures.gate.stopped
+
+pub returns-clause-obeyed : goal.returns-clause-obeyed
+returns-clause-obeyed g c =
+    c.write_apart-end.ensures.gate.obeyed

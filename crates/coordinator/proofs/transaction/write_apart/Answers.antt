@@ -1,6 +1,7 @@
-use Rattle.std.proofs.Common.{◌-◌, sym, ◌∙◌, suc, ap}
+use Rattle.std.proofs.Common.{◌-◌, Some, sym, ◌∙◌, suc, ap}
 use Rattle.std.specs.Option.{option_copied}
 use Rattle.coordinator.proofs.Writing.{same_pass, turns_again}
+use Rattle.coordinator.proofs.Stopping.{in_words, let_pass}
 use Rattle.coordinator.proofs.transaction.write_apart.Goals as goal
 
 pub take_turn-requires-clause-of : goal.take_turn-requires-clause-of
@@ -23,11 +24,12 @@ begins-preserved g c =
       again = (
         suc inv.again.0,
         turns_again S (option_copied c.args.token) c.args.actions.now c.args.pass.now inv.again.0 c.begins.pass c.take_turn.new.pass c.take_turn.result
-            c.in-None.is inv.again.1 c.take_turn.ensures.turns,
+            c.in-None.is inv.again.1 c.take_turn.ensures.turns.turn,
       );
-      same = c.take_turn.ensures.obeyed (λ stop. absurd (let e = sym c.in-None.is ∙ stop in cc)) ∙ inv.same;
+      same = c.take_turn.ensures.gate.obeyed (λ stop. absurd (let e = sym c.in-None.is ∙ stop in cc)) ∙ inv.same;
     }
 
-pub returns-in-Some-clause-obeyed : goal.returns-in-Some-clause-obeyed
-returns-in-Some-clause-obeyed g c =
-    λ on. c.take_turn.ensures.obeyed (λ stop. on (let e = sym c.in-Some.is ∙ stop in cc)) ∙ c.begins.invariant.same
+pub returns-in-Some-clause-gate : goal.returns-in-Some-clause-gate
+returns-in-Some-clause-gate g c =
+    let_pass _ _ _ _ c.begins.invariant.same
+    (in_words _ _ _ _ (λ stop. let e = sym c.in-Some.is ∙ stop in cc) (λ stop. c.in-Some.is ∙ ap Some stop) c.take_turn.ensures.gate)

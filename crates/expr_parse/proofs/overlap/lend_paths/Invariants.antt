@@ -1,4 +1,4 @@
-use Rattle.std.proofs.Common.{◌≡◌, ◌++◌, map, take}
+use Rattle.std.proofs.Common.{◌≡◌, ◌++◌, take}
 use Rattle.expr_parse.specs.Overlaps.{pointees}
 use Rattle.expr_parse.proofs.overlap.lend_paths.Given as goal
 

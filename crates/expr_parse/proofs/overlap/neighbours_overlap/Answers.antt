@@ -1,4 +1,4 @@
-use Rattle.std.proofs.Common.{◌+◌, ◌<◌, true≢false, refl, sym, ◌∙◌, arith}
+use Rattle.std.proofs.Common.{true≢false, refl, sym, ◌∙◌, arith}
 use Rattle.expr_parse.proofs.Ordered.{neighbours_found, neighbours_next, neighbours_none}
 use Rattle.expr_parse.proofs.overlap.neighbours_overlap.Goals as goal
 

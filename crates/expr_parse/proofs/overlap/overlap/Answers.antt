@@ -1,4 +1,3 @@
-use Rattle.std.proofs.Common.{IsTrue, ap}
 use Rattle.expr_parse.specs.Overlaps.{pointees}
 use Rattle.expr_parse.proofs.Ordered.{neighbours, of_neighbours}
 use Rattle.expr_parse.proofs.Permuted.{overlap_sorted, in_order}

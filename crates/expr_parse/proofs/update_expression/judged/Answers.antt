@@ -1,4 +1,4 @@
-use Rattle.std.proofs.Common.{◌≡◌, [], None, map, option_map, sym, ap, ◌∙◌}
+use Rattle.std.proofs.Common.{[], None, map, option_map, sym, ap, ◌∙◌}
 use Rattle.std.proofs.lemmas.Result.{err_from_is_err_and}
 use Rattle.expr_words.specs.declared.parse_end.ParseEnd.TheVariants.{ClauseTwice}
 use Rattle.expr_words.specs.Trees.{section_tree}

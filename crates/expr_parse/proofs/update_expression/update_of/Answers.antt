@@ -1,4 +1,4 @@
-use Rattle.std.proofs.Common.{◌≡◌, List, Ok, Err, sym, refl, subst, map, option_map}
+use Rattle.std.proofs.Common.{◌≡◌, List, Ok, Err, sym, subst, map, option_map}
 use Rattle.expr_words.specs.Trees.{section_tree}
 use Rattle.expr_words.specs.Words.{Word, words, meanings, fault_of}
 use Rattle.expr_words.specs.Grammar.{IsUpdate, most_levels}

@@ -3,7 +3,7 @@ use Rattle.std.proofs.lemmas.Result.{err_from_is_err_and}
 use Rattle.txn_core.specs.declared.message.Message.{Message}
 use Rattle.cluster.specs.Events.{event_of}
 use Rattle.cluster.specs.Steps.{IsLater}
-use Rattle.own_entries.specs.Counts.{Counts}
+use Rattle.cluster.specs.Counts.{Counts}
 use Rattle.index_feeder.proofs.Fed.{is_answered, target_is, may_apply, may_acknowledge, applied_answer, acked_answer, cut_at_first, cut_shown, cut_applied, counts_fed}
 use Rattle.index_feeder.proofs.feeding.feed_one.Goals as goal
 

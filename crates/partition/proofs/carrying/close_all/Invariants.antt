@@ -1,6 +1,6 @@
 use Rattle.std.proofs.Common.{◌≡◌, ℕ, None, if◌then◌else◌, drop}
 use Rattle.global_index.specs.Rows.{row_under}
-use Rattle.planned_changes.specs.Commands.{is_in}
+use Rattle.index_changes.specs.Commands.{is_in}
 use Rattle.partition.proofs.carrying.close_all.Given as goal
 
 abbrev pub invariant-loop-index : goal.invariant-loop-index

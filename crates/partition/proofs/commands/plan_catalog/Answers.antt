@@ -1,5 +1,5 @@
 use Rattle.std.proofs.Common.{rules, ◌≡◌, sym, ◌∙◌, subst}
-use Rattle.planned_changes.specs.Plans.{IsPlan}
+use Rattle.index_changes.specs.Plans.{IsPlan}
 use Rattle.partition.specs.Plans.{IsPlaced}
 use Rattle.partition.proofs.Changing.{unchanged}
 use Rattle.partition.proofs.Moved.{on_ok_with}

@@ -1,6 +1,6 @@
 use Rattle.std.proofs.Common.{◌≡◌, Some, sym, ap, ◌∙◌}
 use Rattle.std.specs.Option.{option_copied}
-use Rattle.planned_changes.specs.Commands.{subject}
+use Rattle.index_changes.specs.Commands.{subject}
 use Rattle.partition.proofs.InTheWay.{tells}
 use Rattle.partition.proofs.in_the_way.first_holder.Goals as goal
 

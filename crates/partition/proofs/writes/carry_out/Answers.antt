@@ -8,8 +8,8 @@ use Rattle.txn_core.specs.Stamps.{single}
 use Rattle.item_store.specs.Slots.{holder_of, pending_of, row_of}
 use Rattle.item_store.specs.Changes.{slot_at}
 use Rattle.item_store.specs.Counts.{tally}
-use Rattle.prepared_changes.specs.Prepared.{moves_of}
-use Rattle.planned_changes.specs.Entries.{moves_by}
+use Rattle.index_changes.specs.Prepared.{moves_of}
+use Rattle.index_changes.specs.Entries.{moves_by}
 use Rattle.partition.specs.Knows.{kept_at, outcome_at}
 use Rattle.partition.proofs.Holding.{written_so}
 use Rattle.partition.proofs.Staying.{written_stays, write_refused_stays}
@@ -22,7 +22,7 @@ put-requires g c =
     record {
       copies = g.met.R.CellRules.copied;
       free = free_slot (pending_of (slot_at c.args.cell.now.items c.table_of-table.result c.into_key-key.result))
-          ((λ j. holder_of (slot_at c.args.cell.now.items ((c.table_of-table.ensures 0 ∙ ap (λ k. S.core.table k) (c.key_of.ensures 0)) j) (c.into_key-key.ensures 0 j))) ∙ c.requires.free 0);
+          ((λ j. holder_of (slot_at c.args.cell.now.items ((c.table_of-table.ensures 0 ∙ ap (λ k. S.core.table k) (c.key_of.ensures 0)) j) (c.into_key-key.ensures 0 j))) ∙ (c.requires 0).free);
     }
 
 pub returns-clause-left : goal.returns-clause-left
@@ -30,22 +30,16 @@ returns-clause-left g c = λ n.
     let S = g.R.Rules.protocol n in
     let k = S.core.key_of c.args.action in
     let row = row_of (kept_at S c.args.cell.now k) in
-    let made : c.args.item ≡ after (outcome_at S c.args.cell.now c.args.action) row = sym (ap (λ o. after o row) (c.requires.new n)) in
+    let made : c.args.item ≡ after (outcome_at S c.args.cell.now c.args.action) row = sym (ap (λ o. after o row) (c.requires n).new) in
     let xs = changes (indexed S.core S.index) c.args.cell.now.catalog k row c.args.item in
-    let same : c.args.changes.rows.items ≡ xs = (c.requires.made n).rows in
+    let same : c.args.changes.rows.items ≡ xs = (c.requires n).indexes.rows in
     let h = c.in_ok-old.ensures.ok in (
-      free_slot (pending_of (kept_at S c.args.cell.now k)) (c.requires.free n),
+      free_slot (pending_of (kept_at S c.args.cell.now k)) ((c.requires n).free),
       written_so c.args.cell.now c.put.new.self (tally c.args.cell.now.items.counts) c.table_of-table.result (S.core.table k) c.into_key-key.result k
           (c.table_of-table.ensures n ∙ ap (λ y. S.core.table y) (c.key_of.ensures n)) (c.into_key-key.ensures n) (single c.args.moment) c.args.item (after (outcome_at S c.args.cell.now c.args.action) row) made
           c.args.changes.rows.items (changes (indexed S.core S.index) c.args.cell.now.catalog k row (after (outcome_at S c.args.cell.now c.args.action) row))
           (same ∙ ap (λ v. changes (indexed S.core S.index) c.args.cell.now.catalog k row v) made)
-          (record {
-            slots = h.slots;
-            numbers_are = h.numbers_are;
-            prepared_are = h.prepared_are;
-            waiting = h.waiting;
-            beside = record { partitions = h.beside.partitions; catalog = h.beside.catalog; sent = h.beside.sent; marks = h.beside.marks; rows = h.beside.rows };
-          }),
+          h,
     )
 
 pub returns-clause-in_step : goal.returns-clause-in_step
@@ -55,9 +49,9 @@ returns-clause-in_step g c = λ n.
     let cell = c.args.cell.now in
     let u = c.table_of-table.result in
     let k = c.into_key-key.result in
-    let free : pending_of (slot_at cell.items u k) ≡ None = free_slot (pending_of (slot_at cell.items u k)) ((λ j. holder_of (slot_at cell.items ((c.table_of-table.ensures n ∙ ap (λ y. S.core.table y) (c.key_of.ensures n)) j) (c.into_key-key.ensures n j))) ∙ c.requires.free n) in
+    let free : pending_of (slot_at cell.items u k) ≡ None = free_slot (pending_of (slot_at cell.items u k)) ((λ j. holder_of (slot_at cell.items ((c.table_of-table.ensures n ∙ ap (λ y. S.core.table y) (c.key_of.ensures n)) j) (c.into_key-key.ensures n j))) ∙ (c.requires n).free) in
     let moves : moves_of (Some c.args.changes) ≡ moves_by L cell.catalog k (row_of (slot_at cell.items u k)) c.args.item =
-    (c.requires.made n).moves
+    (c.requires n).indexes.moves
     ∙ (λ j. moves_by L cell.catalog (sym (c.into_key-key.ensures n) j) (row_of (slot_at cell.items ((sym (ap (λ y. S.core.table y) (c.key_of.ensures n)) ∙ sym (c.table_of-table.ensures n)) j) (sym (c.into_key-key.ensures n) j))) c.args.item) in
     let h = c.in_ok-old.ensures.ok in
     written_stays S (g.met.R.Rules.lawful n) (g.met.R.CellRules.ordered n) L (g.met.R.CellRules.entries_lawful n) g.met.R.Entry.Ord.total
@@ -71,9 +65,9 @@ returns-in_err-old-clause-in_step g c = λ n.
     let cell = c.args.cell.now in
     let u = c.table_of-table.result in
     let k = c.into_key-key.result in
-    let free : pending_of (slot_at cell.items u k) ≡ None = free_slot (pending_of (slot_at cell.items u k)) ((λ j. holder_of (slot_at cell.items ((c.table_of-table.ensures n ∙ ap (λ y. S.core.table y) (c.key_of.ensures n)) j) (c.into_key-key.ensures n j))) ∙ c.requires.free n) in
+    let free : pending_of (slot_at cell.items u k) ≡ None = free_slot (pending_of (slot_at cell.items u k)) ((λ j. holder_of (slot_at cell.items ((c.table_of-table.ensures n ∙ ap (λ y. S.core.table y) (c.key_of.ensures n)) j) (c.into_key-key.ensures n j))) ∙ (c.requires n).free) in
     let moves : moves_of (Some c.args.changes) ≡ moves_by L cell.catalog k (row_of (slot_at cell.items u k)) c.args.item =
-    (c.requires.made n).moves
+    (c.requires n).indexes.moves
     ∙ (λ j. moves_by L cell.catalog (sym (c.into_key-key.ensures n) j) (row_of (slot_at cell.items ((sym (ap (λ y. S.core.table y) (c.key_of.ensures n)) ∙ sym (c.table_of-table.ensures n)) j) (sym (c.into_key-key.ensures n) j))) c.args.item) in
     let h = c.in_err-old.ensures.err in
     write_refused_stays S (g.met.R.Rules.lawful n) (g.met.R.CellRules.ordered n) L (g.met.R.CellRules.entries_lawful n) g.met.R.Entry.Ord.total
@@ -89,4 +83,4 @@ returns-clause-says g c = λ n there.
     let old : c.in_ok-old.old ≡ row =
     c.in_ok-old.ensures.old ∙ (λ j. row_of (slot_at cell.items ((c.table_of-table.ensures n ∙ ap (λ y. S.core.table y) (c.key_of.ensures n)) j) (c.into_key-key.ensures n j))) in
     let new : c.in_ok-new.new ≡ c.args.item = cc (c.in_ok-new.ensures, c.as_ref.ensures.value) in
-    (λ j. Answer.Written (old j) (new j)) ∙ sym (λ j. write_answer (there j) (c.requires.free n j) row (c.requires.new n j))
+    (λ j. Answer.Written (old j) (new j)) ∙ sym (λ j. write_answer (there j) ((c.requires n).free j) row ((c.requires n).new j))

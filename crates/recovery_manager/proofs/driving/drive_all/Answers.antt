@@ -11,7 +11,7 @@ use Rattle.recovery_manager.specs.declared.sweep_end.SweepEnd.{SweepEnd}
 use Rattle.recovery_manager.specs.Parts.{DrivesAll, DrivesPartly}
 use Rattle.recovery_manager.proofs.Each.{taken_rest}
 use Rattle.recovery_manager.proofs.Ended.{all_none, all_more, goes_on, partly_ended, partly_noted, stops_so}
-use Rattle.own_entries.proofs.Handed.{handed_on}
+use Rattle.cluster.proofs.Handed.{handed_on}
 use Rattle.recovery_manager.proofs.driving.drive_all.Goals as goal
 
 pub loop-number-init : goal.loop-number-init

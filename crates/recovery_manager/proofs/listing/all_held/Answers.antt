@@ -1,7 +1,7 @@
 use Rattle.std.proofs.Common.{◌-◌, ◌+◌, ◌≤◌, ◌++◌, sym, ap, ◌∙◌, subst, arith}
 use Rattle.std.proofs.lemmas.Result.{err_from_is_err_and}
 use Rattle.recovery_manager.specs.Lists.{ListsHeld, ListsPartly}
-use Rattle.own_entries.proofs.Handed.{handed_on}
+use Rattle.cluster.proofs.Handed.{handed_on}
 use Rattle.recovery_manager.proofs.Told.{held_none, held_on, held_until, held_in_vain}
 use Rattle.recovery_manager.proofs.listing.all_held.Goals as goal
 

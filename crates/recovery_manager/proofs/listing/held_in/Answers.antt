@@ -1,7 +1,7 @@
 use Rattle.std.proofs.Common.{◌-◌, Some, ◌∷◌, [], subst}
 use Rattle.txn_core.specs.declared.message.Message.{Message}
 use Rattle.cluster.specs.Events.{event_of}
-use Rattle.own_entries.specs.Counts.{Counts}
+use Rattle.cluster.specs.Counts.{Counts}
 use Rattle.recovery_manager.proofs.Told.{is_list_of_items, items_begun}
 use Rattle.recovery_manager.proofs.listing.held_in.Goals as goal
 

@@ -2,7 +2,7 @@ use Rattle.std.proofs.Common.{◌-◌, Some, ◌∷◌, [], sym, subst}
 use Rattle.txn_core.specs.declared.message.Message.{Message}
 use Rattle.txn_core.specs.declared.answer.Answer.{Answer}
 use Rattle.cluster.specs.Events.{event_of}
-use Rattle.own_entries.specs.Counts.{Counts}
+use Rattle.cluster.specs.Counts.{Counts}
 use Rattle.recovery_manager.proofs.Told.{is_list_of_numbers, numbers_begun}
 use Rattle.recovery_manager.proofs.listing.unfinished_numbers.Goals as goal
 

@@ -2,7 +2,7 @@ use Rattle.std.proofs.Common.{rules, ◌≡◌, List, [], ◌++◌, map, drop, S
 use Rattle.std.specs.Map.{lookup}
 use Rattle.std.proofs.lemmas.List.{append-nil, take_rest}
 use Rattle.table_model.specs.Batches.{has_twice}
-use Rattle.table_changes.specs.declared.change.TableChange.{TableChange}
+use Rattle.numbered_tables.specs.declared.change.TableChange.{TableChange}
 use Rattle.numbered_tables.specs.Tables.{table_in}
 use Rattle.numbered_tables.proofs.Kept.{at}
 use Rattle.table_batches.proofs.Named.{writes_nowhere, changes_nowhere, keys_written, changes_written}

@@ -3,7 +3,7 @@ use Rattle.std.specs.List.{list_any}
 use Rattle.table_request.specs.declared.batches.TableWrites.{TableWrites}
 use Rattle.table_model.specs.Database.{table_named, first}
 use Rattle.table_model.specs.Batches.{missing, is_oversized, is_unfit_write}
-use Rattle.table_changes.specs.Changes.{has_repeat}
+use Rattle.numbered_tables.specs.Changes.{has_repeat}
 use Rattle.table_batches.specs.Answers.{tables_alone}
 use Rattle.table_batches.specs.Writes.{ascend}
 use Rattle.table_batches.proofs.Repeats.{no_repeat}

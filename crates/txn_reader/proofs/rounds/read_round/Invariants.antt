@@ -1,5 +1,5 @@
 use Rattle.std.proofs.Common.{◌≡◌, ◌-◌, length}
-use Rattle.own_entries.specs.Counts.{Counts}
+use Rattle.cluster.specs.Counts.{Counts}
 use Rattle.txn_reader.specs.Reads.{round}
 use Rattle.txn_reader.proofs.rounds.read_round.Given as goal
 

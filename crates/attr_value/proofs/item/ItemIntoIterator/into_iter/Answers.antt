@@ -7,4 +7,4 @@ use Rattle.attr_value.proofs.item.ItemIntoIterator.into_iter.Goals as goal
 pub returns : goal.returns
 returns c =
     let given = c.into_iter.ensures.into_iter_gives in
-    record { into_iter_gives = (ap attributes_of given.0 ∙ c.self.view_is, subst AreInOrder c.self.view_is (attributes_in_order c.self.inside.attributes.entries given.5)) }
+    record { into_iter_gives = (ap attributes_of given.0 ∙ c.into_attributes.ensures, subst AreInOrder c.into_attributes.ensures (attributes_in_order c.into_attributes.result.entries given.5)) }

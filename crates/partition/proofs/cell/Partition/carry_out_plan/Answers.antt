@@ -3,9 +3,9 @@ use Rattle.global_index.specs.Rows.{row_under}
 use Rattle.item_store.specs.Changes.{CountsOne}
 use Rattle.item_store.specs.Tables.{slot_under}
 use Rattle.local_index.specs.Tables.{claim_under}
-use Rattle.planned_changes.specs.Commands.{is_in, is_number}
+use Rattle.index_changes.specs.Commands.{is_in, is_number}
 use Rattle.partition.specs.Plans.{HasPlace, entered, filled}
-use Rattle.planned_changes.proofs.Basics.{some_is}
+use Rattle.index_changes.proofs.Basics.{some_is}
 use Rattle.partition.proofs.Moved.{is_ok_where}
 use Rattle.partition.proofs.cell.Partition.carry_out_plan.Goals as goal
 

@@ -1,7 +1,7 @@
 use Rattle.std.proofs.Common.{◌≡◌, sym, ◌∙◌, Some, subst}
 use Rattle.item_store.specs.Changes.{slot_at}
 use Rattle.local_index.specs.Tables.{claim_under}
-use Rattle.prepared_changes.specs.Prepared.{moves_in, moves_of}
+use Rattle.index_changes.specs.Prepared.{moves_in, moves_of}
 use Rattle.partition.specs.Moves.{AreUnheld}
 use Rattle.partition.proofs.Holding.{moves_back, moves_there}
 use Rattle.partition.proofs.cell.Partition.hold_with.Goals as goal

@@ -19,8 +19,8 @@ returns-then-contains_key-clause-ok c =
     let r = c.args.request in
     let db : Database = database_in t.tables.entries t.tokens t.made in
     let has : is_some (lookup (at r.schema.name) t.tables.entries) ≡ true = search rules in
-    subst (λ (d : Database). (d, answer.Refused (TableExists r.schema.name)) ≡ create_table d r c.args.moment) c.self.view_is
-    (sym (taken db r c.args.moment (known t.tables.entries t.tokens t.made r.schema.name ∙ has)))
+    rw c.into_name.ensures (subst (λ (d : Database). (d, answer.Refused (TableExists r.schema.name)) ≡ create_table d r c.args.moment)
+    c.self.view_is (sym (taken db r c.args.moment (known t.tables.entries t.tokens t.made r.schema.name ∙ has))))
 
 pub returns-then-len-ge-MOST_TABLES-clause-ok : goal.returns-then-len-ge-MOST_TABLES-clause-ok
 returns-then-len-ge-MOST_TABLES-clause-ok c =

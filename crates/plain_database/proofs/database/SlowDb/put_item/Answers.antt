@@ -6,8 +6,8 @@ use Rattle.table_model.specs.Database.{Database, at_key}
 use Rattle.table_model.specs.Writes.{put_item, put_at}
 use Rattle.item_keys.specs.ItemKey.{key_in}
 use Rattle.table_request.specs.declared.request.Request.TheVariants as request
-use Rattle.keyed_rows.specs.Keyed.{HasRowsAtKeys}
-use Rattle.keyed_rows.proofs.Requests.{stays_keyed}
+use Rattle.plain_database.specs.Keyed.{HasRowsAtKeys}
+use Rattle.plain_database.proofs.Requests.{stays_keyed}
 use Rattle.numbered_tables.specs.declared.table.NumberedTable.{NumberedTable}
 use Rattle.numbered_tables.specs.Tables.{AreIdle, database_in}
 use Rattle.numbered_tables.proofs.Kept.{at, absent, no_table, idle_at, idle_set, kept_same, kept_done, on_err}

@@ -2,7 +2,7 @@ use Rattle.std.proofs.Common.{sym, ap, ◌∙◌}
 use Rattle.table_request.specs.declared.request.Request.TheVariants as request
 use Rattle.table_model.specs.Database.{Database}
 use Rattle.table_model.specs.Transactions.{transact_write}
-use Rattle.keyed_rows.proofs.Requests.{stays_keyed}
+use Rattle.plain_database.proofs.Requests.{stays_keyed}
 use Rattle.numbered_tables.specs.Tables.{database_in}
 use Rattle.plain_database.proofs.database.SlowDb.transact_write.Goals as goal
 

@@ -5,8 +5,8 @@ use Rattle.table_model.specs.declared.refusal.Refusal.TheVariants.{NoTable}
 use Rattle.table_model.specs.Database.{Database, Table}
 use Rattle.table_model.specs.Catalog.{IsUpdateTable, IsUpdateIn}
 use Rattle.table_request.specs.declared.request.Request.TheVariants as request
-use Rattle.keyed_rows.specs.Keyed.{HasRowsAtKeys}
-use Rattle.keyed_rows.proofs.Requests.{stays_keyed}
+use Rattle.plain_database.specs.Keyed.{HasRowsAtKeys}
+use Rattle.plain_database.proofs.Requests.{stays_keyed}
 use Rattle.numbered_tables.specs.declared.table.NumberedTable.{NumberedTable}
 use Rattle.numbered_tables.specs.Tables.{AreIdle, database_in}
 use Rattle.numbered_tables.proofs.Kept.{at, absent, idle_at, idle_set, kept_same, on_err}

@@ -1,6 +1,0 @@
-use Rattle.std.proofs.Common.{sym, ◌∙◌}
-use Rattle.cell_commands.specs.TargetLaws.{same_subject}
-use Rattle.cell_commands.proofs.targets.subject_of.Goals as goal
-
-pub returns : goal.returns
-returns c = c.subject.ensures ∙ sym (same_subject c.args.command.now c.args.catalog.now)

@@ -1,0 +1,41 @@
+ghost use Rattle.std.specs.Prelude.{◌≡◌, ℕ, IfOk};
+ghost use Rattle.index_changes.specs.Entries.{AreEntriesLawful, LocalEntries};
+
+use std::alloc::{AllocError as NoMemory, Global};
+use txn_core::Rules;
+
+/// What a cell needs to know of tables beside [`Rules`]: that keys are compared as the rules compare them, in which table an
+/// item is, and where it stands in the local indexes of its table.
+pub trait CellRules: Rules<Key: Ord> {
+    /// An entry of a local index: the index, and where an item stands in its order. It names the item.
+    type Entry: Ord + Clone + Drop;
+
+    /// The entries of items, and the item that an entry names.
+    ghost locals: { LocalEntries Self.Key Self.Value Self.Catalog Self.Entry };
+
+    /// The number of the table of a key's item.
+    fn table_of(key: &Self::Key) -> u64
+        ensures { (partitions : ℕ) → result ≡ (Self.protocol partitions).core.table key.now };
+
+    /// The item that an action is on. The rest of the action is let go.
+    fn into_key(action: Self::Action) -> Self::Key
+        ensures { (partitions : ℕ) → result ≡ (Self.protocol partitions).core.key_of action };
+
+    /// The entries of an item in the local indexes of its table.
+    fn entries_of(
+        alloc: Global,
+        catalog: &Self::Catalog,
+        key: &Self::Key,
+        item: &Self::Value,
+    ) -> Result<Vec<Self::Entry>, NoMemory>
+        ensures { IfOk result (λ entries. entries.items ≡ locals.entries catalog.now key.now item.now) };
+
+    /// Keys are compared as the rules compare them, for every number of partitions.
+    ghost ordered: { (partitions : ℕ) (x y : Self.Key) → (Self.protocol partitions).index.cmp x y ≡ Self.Key.cmp x y };
+
+    /// An item's entries name it, and a command leaves the entries of tables alone that it doesn't concern.
+    ghost entries_lawful: { (partitions : ℕ) → AreEntriesLawful (Self.protocol partitions) locals Self.Entry.cmp };
+
+    /// A copy of an entry is equal to it.
+    ghost copied: { (entry copy : Self.Entry) → Self.Entry.is_clone entry copy → copy ≡ entry };
+}

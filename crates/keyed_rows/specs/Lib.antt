@@ -1,2 +1,0 @@
--- Databases whose rows stand at their items' keys.
-pub mod Keyed

@@ -1,4 +1,0 @@
-pub mod Parts
-pub mod Among
-pub mod Rows
-pub mod Walks

@@ -1,2 +1,0 @@
--- The rows that entries of local indexes stand for.
-pub mod Met

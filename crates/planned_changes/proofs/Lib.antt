@@ -1,6 +1,0 @@
-pub mod Basics
-pub mod Keys
-pub mod Adding
-pub mod Foundings
-pub mod BroughtOver
-pub mod EntriesOver
