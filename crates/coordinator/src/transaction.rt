@@ -9,6 +9,7 @@ ghost use Rattle.txn_core.specs.declared.stamp.Stamp.{Stamp};
 ghost use Rattle.txn_core.specs.History.{Had, finishes};
 ghost use Rattle.txn_core.specs.Replay.{are_apart};
 ghost use Rattle.cluster.specs.Steps.{partitions_of};
+ghost use Rattle.cluster.specs.World.{IsLegalLog};
 ghost use Rattle.coordinator.specs.Stops.{Stops};
 ghost use Rattle.coordinator.specs.Writes.{AddsWriting, answers_begin, AreWritable, Follows, Forgets, IsDrawn, IsOwn, RunsDrawn, TakesTurn, Writes};
 ghost use Rattle.coordinator.specs.declared.drive_end.DriveEnd.{DriveEnd};
@@ -149,7 +150,8 @@ where
     }
 }
 
-/// Sends a Begin and follows its answer, as [`begin`] does. How many units are used then at most is told to a caller's proof.
+/// Sends a Begin and follows its answer, as [`begin`] does. That what was seen then is a legal history, and how many units are used at
+/// most, is told to a caller's proof.
 fn take_turn<R: PageRules, G: Gate, T: Wait>(
     cluster: &Cluster<R>,
     rt: &T,
@@ -165,6 +167,7 @@ where
     requires free { pass.old.turns ≡ [] }
     requires actions { AreWritable (R.protocol (partitions_of cluster.now)) actions.now }
     ensures turns { TakesTurn (R.protocol (partitions_of cluster.now)) (option_copied token.entry) actions.now pass.old result pass.new }
+    ensures legal { IsLegalLog (R.protocol (partitions_of cluster.now)) pass.new.front }
     ensures budget { pass.new.used ≤ most_units }
     ensures gate { Stops (result ≡ Some TransactEnd.Stopped) (G.stops gate.old) (G.stops gate.new) }
 {
@@ -189,6 +192,7 @@ where
     requires free { pass.old.turns ≡ [] }
     requires actions { AreWritable (R.protocol (partitions_of cluster.now)) actions.now }
     ensures writes { Writes (R.protocol (partitions_of cluster.now)) (option_copied token.entry) actions.now pass.old result pass.new }
+    ensures legal { IsLegalLog (R.protocol (partitions_of cluster.now)) pass.new.front }
     ensures gate { Stops (result ≡ TransactEnd.Stopped) (G.stops gate.old) (G.stops gate.new) }
 {
     'begins: loop {
@@ -236,7 +240,5 @@ where
     if !apart {
         return TransactEnd::Twice;
     }
-    let end = write_apart(cluster, rt, alloc, pass, token, actions, gate);
-    cluster.facts(pass);
-    end
+    write_apart(cluster, rt, alloc, pass, token, actions, gate)
 }

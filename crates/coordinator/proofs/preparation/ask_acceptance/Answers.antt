@@ -4,13 +4,8 @@ use Rattle.cluster.proofs.OwnEntries.{counts_none}
 use Rattle.coordinator.specs.Driving.{Fails}
 use Rattle.cluster.proofs.Handed.{handed_on}
 use Rattle.coordinator.proofs.Driven.{given_up_early}
-use Rattle.coordinator.proofs.Knowing.{may_prepare_next, noted_less, place_within, prepared_in_vain, prepared_on, preparing, told_verdict}
+use Rattle.coordinator.proofs.Knowing.{may_prepare_next, noted_less, prepared_in_vain, prepared_on, preparing, told_verdict}
 use Rattle.coordinator.proofs.preparation.ask_acceptance.Goals as goal
-
-pub copy_of_action-requires : goal.copy_of_action-requires
-copy_of_action-requires g c =
-    place_within (g.R.Rules.protocol (c.args.cluster.now.id.slots - 1)) (reverse c.args.pass.now.front) c.args.driver.now c.args.place c.requires.driver
-    c.requires.next
 
 pub ask-requires-clause-may : goal.ask-requires-clause-may
 ask-requires-clause-may g c =

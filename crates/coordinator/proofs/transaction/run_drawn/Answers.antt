@@ -1,5 +1,5 @@
 use Rattle.std.proofs.Common.{◌-◌, refl, sym, ap, ◌∙◌}
-use Rattle.coordinator.proofs.Writing.{begins_driver, forgets_same, over_done, runs_done, runs_undone, still_own, stopped_drawn}
+use Rattle.coordinator.proofs.Writing.{begins_driver, over_done, runs_done, runs_undone, still_own, stopped_drawn}
 use Rattle.coordinator.proofs.Stopping.{let_pass, stops_here}
 use Rattle.coordinator.proofs.transaction.run_drawn.Goals as goal
 
@@ -34,12 +34,6 @@ forget-requires-clause-own g c =
     still_own (g.R.Rules.protocol n) c.args.pass.now c.args.number c.args.stamp c.args.actions c.begun-driver.result c.requires.drawn c.begun-driver.ensures
     (g.met.R.Rules.lawful n) run.new.pass run.result run.ensures.ends c.facts.ensures.legal
 
-pub facts-requires-2 : goal.facts-requires-2
-facts-requires-2 g c =
-    let run = c.drive_on-driven in
-    forgets_same (g.R.Rules.protocol (c.args.cluster.now.id.slots - 1)) run.new.pass c.args.number c.forget.new.pass c.forget.ensures
-    ∙ (ap (λ z. z.turnstile) run.ensures.ends.added.pass ∙ c.requires.of)
-
 pub returns-clause-runs : goal.returns-clause-runs
 returns-clause-runs g c =
     let n = c.args.cluster.now.id.slots - 1 in
@@ -59,10 +53,6 @@ returns-then-not-is_over-clause-gate g c =
 pub returns-clause-gate : goal.returns-clause-gate
 returns-clause-gate g c =
     let_pass _ _ _ _ (c.pass_point.ensures.told (λ stop. absurd (let e = sym c.in-Go.is ∙ stop in cc))) c.drive_on-driven.ensures.gate
-
-pub facts-requires : goal.facts-requires
-facts-requires g c =
-    ap (λ z. z.turnstile) c.drive_on-driven.ensures.ends.added.pass ∙ c.requires.of
 
 pub forget-requires-clause-of : goal.forget-requires-clause-of
 forget-requires-clause-of g c =

@@ -1,7 +1,7 @@
 use Rattle.std.proofs.Common.{◌-◌, inl, inr, ◌∙◌, refl, sym}
 use Rattle.std.specs.Option.{option_copied}
 use Rattle.coordinator.specs.declared.transact_end.TransactEnd.{TransactEnd}
-use Rattle.coordinator.proofs.Total.{adds_none, adds_writing, writes_turnstile}
+use Rattle.coordinator.proofs.Total.{adds_none, adds_writing}
 use Rattle.coordinator.proofs.Writing.{writes_none}
 use Rattle.coordinator.proofs.transaction.transact_write.Goals as goal
 
@@ -23,15 +23,9 @@ returns-then-not-apart-clause-own g c =
     adds_none (g.R.Rules.protocol (c.args.cluster.now.id.slots - 1)) (option_copied c.args.token) c.args.actions.now c.args.pass.now
     TransactEnd.Twice refl
 
-pub write_apart-end-requires-clause-actions : goal.write_apart-end-requires-clause-actions
-write_apart-end-requires-clause-actions g c =
+pub write_apart-requires-clause-actions : goal.write_apart-requires-clause-actions
+write_apart-requires-clause-actions g c =
     (c.requires.some, c.requires.few, sym (c.in-Ok.ensures (c.args.cluster.now.id.slots - 1)) ∙ c.if-not-apart.false)
-
-pub facts-requires : goal.facts-requires
-facts-requires g c =
-    let written = c.write_apart-end in
-    writes_turnstile (g.R.Rules.protocol (c.args.cluster.now.id.slots - 1)) (option_copied c.args.token) c.args.actions.now c.args.pass.now
-    written.new.pass written.result c.args.cluster.now written.ensures.writes c.requires.of
 
 pub returns-clause-twice : goal.returns-clause-twice
 returns-clause-twice g c = λ no.
@@ -40,9 +34,9 @@ returns-clause-twice g c = λ no.
 pub returns-clause-own : goal.returns-clause-own
 returns-clause-own g c =
     let n = c.args.cluster.now.id.slots - 1 in
-    let written = c.write_apart-end in
+    let written = c.write_apart in
     adds_writing (g.R.Rules.protocol n) (option_copied c.args.token) c.args.actions.now (g.met.R.Rules.lawful n) c.args.pass.now
-    written.new.pass written.result c.facts.ensures.legal written.ensures.writes
+    written.new.pass written.result written.ensures.legal written.ensures.writes
 
 pub returns-in_default-clause-twice : goal.returns-in_default-clause-twice
 returns-in_default-clause-twice g c =
@@ -68,22 +62,22 @@ pub returns-then-not-apart-clause-obeyed : goal.returns-then-not-apart-clause-ob
 returns-then-not-apart-clause-obeyed g c =
     λ _. refl
 
-pub write_apart-end-requires-clause-of : goal.write_apart-end-requires-clause-of
-write_apart-end-requires-clause-of g c =
+pub write_apart-requires-clause-of : goal.write_apart-requires-clause-of
+write_apart-requires-clause-of g c =
     c.requires.of
 
-pub write_apart-end-requires-clause-free : goal.write_apart-end-requires-clause-free
-write_apart-end-requires-clause-free g c =
+pub write_apart-requires-clause-free : goal.write_apart-requires-clause-free
+write_apart-requires-clause-free g c =
     c.requires.free
 
 pub returns-clause-writes : goal.returns-clause-writes
 returns-clause-writes g c =
-    λ _. c.write_apart-end.ensures.writes
+    λ _. c.write_apart.ensures.writes
 
 pub returns-clause-stopped : goal.returns-clause-stopped
 returns-clause-stopped g c =
-    c.write_apart-end.ensures.gate.stopped
+    c.write_apart.ensures.gate.stopped
 
 pub returns-clause-obeyed : goal.returns-clause-obeyed
 returns-clause-obeyed g c =
-    c.write_apart-end.ensures.gate.obeyed
+    c.write_apart.ensures.gate.obeyed
