@@ -1,7 +1,7 @@
 -- What a driver knows after each step.
 use Rattle.std.proofs.Common.{◌≡◌, ◌⊎◌, inl, inr, ℕ, ◌<◌, Bool, true, false, ◌||◌, ◌&&◌, nat_eq, nat_lt, List, [], ◌∷◌, ◌++◌, length, drop, reverse, is_some, Option, None, Some, IfSome, slice_get, if◌then◌else◌, refl, sym, ap, ◌∙◌, subst, arith, eq-eqb}
 use Rattle.std.specs.List.{list_any}
-use Rattle.std.proofs.lemmas.Bool.{and_parts, cond_both, ltb-true}
+use Rattle.std.proofs.lemmas.Bool.{and_parts, cond_both}
 use Rattle.std.proofs.lemmas.List.Folds.{list_any-append}
 use Rattle.txn_core.specs.declared.stamp.Stamp.{Stamp}
 use Rattle.txn_core.specs.declared.fate.Fate.{Fate}
@@ -90,18 +90,6 @@ module _ {K V A F C D Q B : Type 0} (S : Service K V A F C D Q B) where
   preparing es d place is next =
       let turn = prepare_next is.told place (next is.told is.told_so) in
       undecided_is is.told.fate (and_parts (is_undecided is.told.fate) (nat_lt (length is.told.verdicts) is.told.actions) turn.0).0
-
-  -- the action that is prepared next is there
-  pub place_within : (es : History S) (d : Driver A V F) (place : ℕ) → IsDriver S es d → IsNext d.course (Move.Prepare place) → place < length d.actions.items
-  place_within es d place is next =
-      let turn = prepare_next is.told place (next is.told is.told_so) in
-      let parts = and_parts (is_undecided is.told.fate) (nat_lt (length is.told.verdicts) is.told.actions) turn.0 in
-      let below = ltb-true (length is.told.verdicts) is.told.actions parts.1 in
-      let many = is.knows.many in
-      let its = ap length is.begun.its_actions in
-      let whole = ap length (has_all es d is (preparing es d place is next)) in
-      let at = turn.1 in
-      omega arith
 
   with_table : (o : Option ℕ) (place : ℕ) (b c : Bool) → is_some o ≡ b → is_some (if c then Some place else o) ≡ (b || c)
   with_table o place b true h = sym (or_true b)

@@ -5,7 +5,7 @@ use Rattle.std.proofs.lemmas.Bool.{or_right}
 use Rattle.std.proofs.lemmas.List.{append-nil}
 use Rattle.std.proofs.lemmas.List.Elements.{filter-append}
 use Rattle.turnstile.specs.Histories.{Has, Trail}
-use Rattle.turnstile.specs.Passes.{PassView, TurnstileView}
+use Rattle.turnstile.specs.Passes.{PassView}
 use Rattle.turnstile.proofs.Histories.{trail_on}
 use Rattle.txn_core.specs.declared.message.Message.{Message}
 use Rattle.txn_core.specs.declared.answer.Answer.{Answer}
@@ -28,7 +28,7 @@ use Rattle.coordinator.proofs.Finishing.{some_weaker}
 use Rattle.coordinator.proofs.Leaving.{is_cut, both_leave, end_leaves, quiet_leaves}
 use Rattle.coordinator.proofs.Moving.{added_after, added_by, exactly, until_added, until_exact}
 use Rattle.coordinator.proofs.Alike.{IsBegunAlike, alike_stays, running_is_alike}
-use Rattle.coordinator.proofs.Writing.{none_by, same_pass}
+use Rattle.coordinator.proofs.Writing.{none_by}
 
 module _ {V F : Type 0} where
   -- so is the end of a turn, where it is one
@@ -240,19 +240,6 @@ module _ {K V A F C D Q B : Type 0} (S : Service K V A F C D Q B) (token : Optio
         few = omega arith;
         leaves = λ _. quiet_leaves S [] (λ n. refl);
       }
-
-  -- the pass is of the same turnstile then
-  pub turn_turnstile :
-      (p q : PassView (Event S)) (end : Option (TransactEnd V F)) (c : TurnstileView) → Turns S token actions p end q → p.turnstile ≡ c.id
-      → q.turnstile ≡ c.id
-  turn_turnstile p q end c turn is = ap (λ (z : PassView (Event S)). z.turnstile) (turn_part p q end turn).added.pass ∙ is
-
-  pub writes_turnstile :
-      (p q : PassView (Event S)) (end : TransactEnd V F) (c : TurnstileView) → Writes S token actions p end q → p.turnstile ≡ c.id
-      → q.turnstile ≡ c.id
-  writes_turnstile p q end c h is =
-      turn_turnstile h.last q (Some end) c h.turn
-      (ap (λ (z : PassView (Event S)). z.turnstile) (same_pass S token actions p h.again h.last h.before) ∙ is)
 
   -- one after which the Begin is sent again drew nothing
   again_by :
