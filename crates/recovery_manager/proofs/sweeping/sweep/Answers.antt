@@ -10,29 +10,6 @@ use Rattle.recovery_manager.proofs.Told.{held_until}
 use Rattle.recovery_manager.proofs.Swept.{drives_pass, releases_pass, left_in_lists, left_at_numbers, numbers_begun, left_in_drives, left_in_releases, swept, never_stopped, never_stopped_by_memory}
 use Rattle.recovery_manager.proofs.sweeping.sweep.Goals as goal
 
-pub facts-requires : goal.facts-requires
-facts-requires g c =
-    let n = c.args.cluster.now.id.slots - 1 in
-    let S = g.R.Rules.protocol n in
-    let p = c.args.pass.now in
-    ap (λ z. z.turnstile)
-    (drives_pass S c.deref-2.result.now c.unfinished_numbers.new.pass c.drive_all-driven.new.pass (λ gone. contains nat_cmp gone)
-    c.drive_all-driven.result c.drive_all-driven.ensures.ok c.drive_all-driven.ensures.err)
-    ∙ (ap (λ z. z.turnstile) c.in_ok-unfinished.ensures.ok.counts.pass
-    ∙ (ap (λ z. z.turnstile) c.in_ok-items.ensures.ok.counts.pass ∙ c.requires.of))
-
-pub facts-requires-2 : goal.facts-requires-2
-facts-requires-2 g c =
-    let n = c.args.cluster.now.id.slots - 1 in
-    let S = g.R.Rules.protocol n in
-    let p = c.args.pass.now in
-    ap (λ z. z.turnstile)
-    (releases_pass S (contains nat_cmp c.in_ok-gone.gone) c.in_ok-items.items.items c.drive_all-driven.new.pass c.release_all-released.new.pass
-    c.release_all-released.result c.release_all-released.ensures.ok c.release_all-released.ensures.err)
-    ∙ (ap (λ z. z.turnstile) c.in_ok-gone.ensures.ok.drives.added.pass
-    ∙ (ap (λ z. z.turnstile) c.in_ok-unfinished.ensures.ok.counts.pass
-    ∙ (ap (λ z. z.turnstile) c.in_ok-items.ensures.ok.counts.pass ∙ c.requires.of)))
-
 pub drive_all-driven-requires-clause-begun : goal.drive_all-driven-requires-clause-begun
 drive_all-driven-requires-clause-begun g c =
     let n = c.args.cluster.now.id.slots - 1 in
