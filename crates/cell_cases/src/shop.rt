@@ -249,6 +249,15 @@ pub(crate) const ROW_COMES_SECOND: Change = Change {
     after: Some(EIGHT),
 };
 
+/// The same as of a source that is no partition.
+pub(crate) const ROW_FROM_NOWHERE: Change = Change {
+    source: 16,
+    sequence: 1,
+    index: 2,
+    row_key: ROW_OF_A,
+    after: Some(EIGHT),
+};
+
 /// The second change: the row goes.
 pub(crate) const ROW_GOES: Change = Change {
     source: 1,

@@ -15,8 +15,8 @@ use crate::shop::{
     A, B, C, CHECK_B, DELETE_A, DROP_ORDERS, DROP_PAYMENTS, EIGHT, FIRST, FIVE, MAKE_INDEX,
     MAKE_ORDERS, MAKE_PAYMENTS, MOVE_A, MOVED, MOVED_ROW, NEW_B, NEW_ROW, NEW_ROW_GOES,
     NEW_ROW_TOO_EARLY, NOBODYS_A, ORDERS_0, ORDERS_1, PAYMENT, PAYMENTS_0, PUT_A, PUT_B, PUT_C,
-    ROW_COMES, ROW_COMES_AS_FIVE, ROW_COMES_SECOND, ROW_GOES, ROW_OF_A, ROWS_4, ROWS_9, SECOND,
-    TAKE_SIX_OF_A, TAKE_THREE_OF_A, WRITTEN,
+    ROW_COMES, ROW_COMES_AS_FIVE, ROW_COMES_SECOND, ROW_FROM_NOWHERE, ROW_GOES, ROW_OF_A, ROWS_4,
+    ROWS_9, SECOND, TAKE_SIX_OF_A, TAKE_THREE_OF_A, WRITTEN,
 };
 use case_rules::{Fault, Name};
 use std::test::Fail;
@@ -355,6 +355,19 @@ static BROKEN: &[Case] = &[
             At(4, Feed(ROW_COMES_AS_FIVE), Fed),
         ],
         Some((4, IndexOrder)),
+    ),
+    // Of a source that is no partition, which may not be sent: where the index is there it is as if nothing of it was fed before.
+    (
+        &[Orders, Index, At(4, Feed(ROW_FROM_NOWHERE), Fed)],
+        Some((2, IndexOrder)),
+    ),
+    (
+        &[Orders, Index, At(4, Feed(ROW_FROM_NOWHERE), Already)],
+        Some((2, WrongAnswer)),
+    ),
+    (
+        &[Orders, At(4, Feed(ROW_FROM_NOWHERE), Already)],
+        Some((1, IndexOrder)),
     ),
 ];
 

@@ -1,7 +1,12 @@
-pub mod Rightly
-pub mod Sequences
-pub mod Times
+pub mod Lists
 pub mod Holding
-pub mod Obstacles
-pub mod Numbering
+pub mod Equal
+pub mod Single
+pub mod Unmarked
+pub mod Staying
+pub mod Asked
+pub mod Commanded
+pub mod Judged
+pub mod Replayed
+pub mod Times
 pub mod Ending

@@ -1,161 +1,113 @@
-//! The answers to commands.
-ghost use Rattle.std.specs.Prelude.{◌≡◌, ◌↔◌, ℕ, IfOk, IsTrue, None, length, slice_index_or};
-ghost use Rattle.txn_core.specs.Legal.{ruling_answer};
-ghost use Rattle.txn_core.specs.declared.answer.Answer.{Answer};
-ghost use Rattle.txn_replay.specs.Ways.{is_before, first_of_two, obstacle_in, IsFirstOf};
-ghost use Rattle.txn_replay.specs.Judging.{ruled_answer, JudgesRuling, JudgesCommand};
+//! What all cells answer to a command, and what becomes of them.
 
-use answer_check::is_held;
-use replay_state::Slot;
+ghost use Rattle.std.specs.Prelude.{◌≡◌, ◌≤◌, ℕ, Some, IfOk, OnOk, length};
+ghost use Rattle.txn_core.specs.declared.message.Message.{Message};
+ghost use Rattle.txn_core.specs.Service.{History};
+ghost use Rattle.txn_replay.specs.Standing.{own, CarriesAll, CarriesHere, EachCarries, EachStands, Leads, Tells, TellsFirst};
+
+use crate::cells::CellsOf;
+use control_cell::{CatalogPlan, others_leave_it};
+use partition::{CellRules, CommandRules, PartitionOf, commit_catalog, plan_catalog};
 use std::alloc::{AllocError as NoMemory, Global};
-use txn_core::{Answer, Reply, Rules, Ruling};
+use txn_core::{Answer, Reply};
 
-/// An item that is held in a command's way.
-#[derive(Clone, Copy, Drop)]
-pub struct Obstacle {
-    /// Its cell.
-    pub cell: u32,
-    /// The number of the transaction that holds it.
-    pub number: u64,
-}
-
-/// Whether one comes before the other: by its cell, then by its number.
-fn is_before(one: Obstacle, other: Obstacle) -> bool
-    ensures { result ≡ is_before one other }
+/// Who stands in a command's way: the least number of those that hold an item of its table in the first cell in which one is
+/// held.
+fn in_the_way<R: CommandRules>(cells: &[PartitionOf<R>], command: &R::Command) -> Option<u64>
+    ensures { (n : ℕ) (es : History (R.protocol n)) → 1 ≤ n → EachStands (R.protocol n) R.locals cells.now es
+        → TellsFirst (R.protocol n) (own (R.protocol n) es) command.now result }
 {
-    one.cell < other.cell || (one.cell == other.cell && one.number < other.number)
+    for cell in cells {
+        let holder = partition::first_holder::<R>(cell, command);
+        if holder.is_some() {
+            return holder;
+        }
+    }
+    None
 }
 
-/// The first of two, where there are two.
-fn first_of_two(one: Option<Obstacle>, other: Option<Obstacle>) -> Option<Obstacle>
-    ensures { result ≡ first_of_two one other }
-{
-    let Some(first) = one else {
-        return other;
-    };
-    let Some(second) = other else {
-        return Some(first);
-    };
-    if is_before(second, first) {
-        Some(second)
-    } else {
-        Some(first)
-    }
-}
-
-/// What a slot puts in the command's way.
-fn obstacle_in<R: Rules>(
-    command: &R::Command,
-    catalog: &R::Catalog,
-    slot: &Slot<R>,
-) -> Option<Obstacle>
-    ensures { (n : ℕ) → result ≡ obstacle_in (R.protocol n) command.now catalog.now slot.now }
-{
-    let Some(tracked) = slot else {
-        return None;
-    };
-    if !R::concerns(command, catalog, &tracked.key) {
-        return None;
-    }
-    match tracked.item.holder() {
-        Some(number) => Some(Obstacle {
-            cell: tracked.home,
-            number,
-        }),
-        None => None,
-    }
-}
-
-/// What stands first in the command's way.
-fn first_obstacle<R: Rules>(
-    command: &R::Command,
-    catalog: &R::Catalog,
-    slots: &[Slot<R>],
-) -> Option<Obstacle>
-    ensures { (n : ℕ) → IsFirstOf (λ k. obstacle_in (R.protocol n) command.now catalog.now (slice_index_or slots.now k None)) (length slots.now) result }
-{
-    let mut first = None;
-    for slot in slots {
-        first = first_of_two(first, obstacle_in::<R>(command, catalog, slot));
-    }
-    first
-}
-
-fn is_refused<R: Rules>(told: &R::Told, answer: &Reply<R>) -> bool
-    ensures { IsTrue result ↔ (answer.now ≡ Answer.Refused told.now) }
-{
-    match answer {
-        Answer::Refused { told: given } => R::are_equal_told(given, told),
-        _ => false,
-    }
-}
-
-fn is_carried<R: Rules>(told: &R::Told, answer: &Reply<R>) -> bool
-    ensures { IsTrue result ↔ (answer.now ≡ Answer.Changed told.now) }
-{
-    match answer {
-        Answer::Changed { told: given } => R::are_equal_told(given, told),
-        _ => false,
-    }
-}
-
-/// Whether a command that nothing stands in the way of is answered so.
-fn is_ruled<R: Rules>(ruling: &Ruling<R::Told>, answer: &Reply<R>) -> bool
-    ensures { (n : ℕ) → (IsTrue result ↔ (answer.now ≡ ruling_answer (R.protocol n) ruling.now)) }
-{
-    match ruling {
-        Ruling::Carries { told } => is_carried::<R>(told, answer),
-        Ruling::Refuses { told } => is_refused::<R>(told, answer),
-    }
-}
-
-/// Whether a command is answered by the catalog.
-fn is_ruled_so<R: Rules>(
+/// Plans a command in a partition, whose number is `here`, and carries it out there.
+fn carry_out_in<R: CommandRules>(
     alloc: Global,
-    catalog: &R::Catalog,
+    cell: &mut PartitionOf<R>,
+    here: u32,
     command: &R::Command,
     moment: u64,
-    answer: &Reply<R>,
-) -> Result<bool, NoMemory>
-    ensures { IfOk result (λ right. (n : ℕ) → (IsTrue right ↔ (answer.now ≡ ruled_answer (R.protocol n) catalog.now command.now moment))) }
+) -> Result<(), NoMemory>
+    ensures { OnOk result ((n : ℕ) → CarriesHere (R.protocol n) R.locals here cell.old cell.new command.now moment) }
 {
-    let ruling = R::rule(alloc, command, moment, catalog)?;
-    Ok(is_ruled::<R>(&ruling, answer))
+    plan_catalog::<R>(alloc, cell, here, command, moment)?;
+    commit_catalog::<R>(cell);
+    Ok(())
 }
 
-/// Whether a command that isn't refused by its name or number is answered so: by who holds an item
-/// of its table, else by the catalog.
-fn is_answer_to<R: Rules>(
+/// Carries a command out in each partition.
+fn carry_out_each<R: CommandRules>(
     alloc: Global,
-    catalog: &R::Catalog,
-    slots: &[Slot<R>],
+    cells: &mut Vec<PartitionOf<R>>,
+    partitions: u32,
     command: &R::Command,
     moment: u64,
-    answer: &Reply<R>,
-) -> Result<bool, NoMemory>
-    ensures { IfOk result (λ right. (n : ℕ) → JudgesRuling (R.protocol n) catalog.now slots.now command.now moment answer.now right) }
+) -> Result<(), NoMemory>
+    requires { length cells.old.items ≡ partitions }
+    ensures count { OnOk result (length cells.new.items ≡ partitions) }
+    ensures carried { OnOk result (EachCarries (R.protocol partitions) R.locals cells.old.items cells.new.items command.now moment) }
 {
-    match first_obstacle::<R>(command, catalog, slots) {
-        Some(obstacle) => Ok(is_held::<R>(obstacle.number, answer)),
-        None => is_ruled_so::<R>(alloc, catalog, command, moment, answer),
+    for place in 0..partitions {
+        carry_out_in::<R>(alloc, &mut cells[place as usize], place, command, moment)?;
     }
+    Ok(())
 }
 
-/// Whether a command is answered so: by the refusal of its name or number, else by who holds an
-/// item of its table, else by the catalog.
-pub fn is_command_answer<R: Rules>(
+/// Carries a command out in all cells, to which this is the catalog afterwards.
+fn carry_out<R: CommandRules>(
     alloc: Global,
-    catalog: &R::Catalog,
-    slots: &[Slot<R>],
+    cells: &mut CellsOf<R>,
+    partitions: u32,
     command: &R::Command,
     moment: u64,
-    answer: &Reply<R>,
-) -> Result<bool, NoMemory>
-    ensures { IfOk result (λ right. (n : ℕ) → JudgesCommand (R.protocol n) catalog.now slots.now command.now moment answer.now right) }
+    catalog: R::Catalog,
+) -> Result<(), NoMemory>
+    requires { length cells.old.partitions.items ≡ partitions }
+    ensures count { OnOk result (length cells.new.partitions.items ≡ partitions) }
+    ensures carried { OnOk result (CarriesAll (R.protocol partitions) R.locals cells.old cells.new command.now moment catalog) }
 {
-    let refusal = R::refuses(alloc, command, catalog)?;
-    match refusal {
-        Some(told) => Ok(is_refused::<R>(&told, answer)),
-        None => is_answer_to::<R>(alloc, catalog, slots, command, moment, answer),
+    carry_out_each::<R>(alloc, &mut cells.partitions, partitions, command, moment)?;
+    cells.catalog = R::change(alloc, command, moment, &cells.catalog)?;
+    cells.control.commit_catalog(catalog);
+    Ok(())
+}
+
+/// What the cells answer to a command, and each as it is afterwards: it is refused by its name, else by who stands in its way,
+/// else by the catalog, or it is carried out.
+pub(crate) fn rule<R: CommandRules>(
+    alloc: Global,
+    cells: &mut CellsOf<R>,
+    partitions: u32,
+    command: &R::Command,
+    moment: u64,
+) -> Result<Reply<R>, NoMemory>
+    requires some { 1 ≤ partitions }
+    requires count { length cells.old.partitions.items ≡ partitions }
+    ensures count { OnOk result (length cells.new.partitions.items ≡ partitions) }
+    ensures tells { IfOk result (λ a. Tells (R.protocol partitions) R.locals cells.old (Message.Command command.now) moment (Some a)) }
+    ensures leads { IfOk result (λ a. Leads (R.protocol partitions) R.locals cells.old cells.new (Message.Command command.now) moment (Some a)) }
+{
+    others_leave_it::<R>();
+    let holder = in_the_way::<R>(cells.partitions.as_slice(), command);
+    let plan = cells.control.plan_catalog(alloc, command, moment)?;
+    match plan {
+        CatalogPlan::Refused { told } => Ok(Answer::Refused { told }),
+        CatalogPlan::Denied { told } => match holder {
+            Some(number) => Ok(Answer::Held { number }),
+            None => Ok(Answer::Refused { told }),
+        },
+        CatalogPlan::Carried { told, catalog } => match holder {
+            Some(number) => Ok(Answer::Held { number }),
+            None => {
+                carry_out::<R>(alloc, cells, partitions, command, moment, catalog)?;
+                Ok(Answer::Changed { told })
+            }
+        },
     }
 }

@@ -1,44 +1,20 @@
-//! Where messages go, and the answers that the catalog alone decides.
-ghost use Rattle.std.specs.Prelude.{◌≡◌, ◌↔◌, ◌≤◌, ◌<◌, ℕ, IfOk, IsTrue};
+//! Where messages go.
+
+ghost use Rattle.std.specs.Prelude.{◌≡◌, ◌↔◌, ◌≤◌, IsTrue};
 ghost use Rattle.txn_core.specs.Legal.{sent_to};
 ghost use Rattle.txn_core.specs.Breaks.{IsAt};
-ghost use Rattle.txn_core.specs.declared.answer.Answer.{Answer};
 
-use std::alloc::{AllocError as NoMemory, Global};
-use txn_core::{Answer, Asked, Message, Reply, Rules};
+use txn_core::{Asked, Message, Rules};
 
-fn is_told<R: Rules>(told: &R::Told, answer: &Reply<R>) -> bool
-    ensures { IsTrue result ↔ (answer.now ≡ Answer.Told told.now) }
+/// The number of the control cell, which comes after the partitions.
+fn control<R: Rules>(partitions: u32) -> u32
+    ensures { result ≡ (R.protocol partitions).control }
 {
-    match answer {
-        Answer::Told { told: given } => R::are_equal_told(given, told),
-        _ => false,
-    }
-}
-
-/// Whether a question is answered by the catalog.
-pub fn is_ask<R: Rules>(
-    alloc: Global,
-    catalog: &R::Catalog,
-    question: &R::Question,
-    answer: &Reply<R>,
-) -> Result<bool, NoMemory>
-    ensures { IfOk result (λ right. (n : ℕ) → (IsTrue right ↔ (answer.now ≡ Answer.Told ((R.protocol n).tell catalog.now question.now)))) }
-{
-    let told = R::tell(alloc, catalog, question)?;
-    Ok(is_told::<R>(&told, answer))
-}
-
-/// Whether a number is that of a partition.
-pub fn is_partition<R: Rules>(partitions: u32, cell: u32) -> bool
-    requires { 1 ≤ partitions }
-    ensures { IsTrue result ↔ (cell < (R.protocol partitions).control) }
-{
-    cell < R::control(partitions)
+    partitions
 }
 
 /// The cell that a message goes to, or none for all cells.
-pub fn sent_to<R: Rules>(partitions: u32, message: &Asked<R>) -> Option<u32>
+pub(crate) fn sent_to<R: Rules>(partitions: u32, message: &Asked<R>) -> Option<u32>
     requires { 1 ≤ partitions }
     ensures { result ≡ sent_to (R.protocol partitions) message.now }
 {
@@ -56,12 +32,12 @@ pub fn sent_to<R: Rules>(partitions: u32, message: &Asked<R>) -> Option<u32>
         Message::ApplyIndex { row_key, .. } => Some(R::cell_of(partitions, row_key)),
         Message::Ack { source, .. } => Some(*source),
         Message::Command { .. } => None,
-        _ => Some(R::control(partitions)),
+        _ => Some(control::<R>(partitions)),
     }
 }
 
 /// Whether both are one cell, where both are cells.
-pub fn is_at(cell: Option<u32>, other: Option<u32>) -> bool
+pub(crate) fn is_at(cell: Option<u32>, other: Option<u32>) -> bool
     ensures { IsTrue result ↔ IsAt cell other }
 {
     match (cell, other) {

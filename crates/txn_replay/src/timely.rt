@@ -12,7 +12,7 @@ fn is_later<R: Rules>(entry: &Event<R>, pass: u32, moment: u64) -> bool
 }
 
 /// Whether no entry of the pass has a later moment.
-pub fn is_timely<R: Rules>(past: &[Event<R>], pass: u32, moment: u64) -> bool
+pub(crate) fn is_timely<R: Rules>(past: &[Event<R>], pass: u32, moment: u64) -> bool
     ensures { IsTrue result ↔ IsTimely (reverse past.now) pass moment }
 {
     for entry in past {

@@ -1,8 +1,0 @@
-pub mod Alike
-pub mod Steps
-pub mod Leaving
-pub mod Folding
-pub mod Entering
-pub mod Sequences
-pub mod Advancing
-pub mod FedSteps
