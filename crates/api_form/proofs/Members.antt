@@ -75,6 +75,6 @@ list_found m name es v n is found e = e ∙ ap list_count (member_found name es 
 pub list_missed : (m : Name) (name : List ℕ) (es : List Entry) → name ≡ text_of m → None ≡ in_map name es → 0 ≡ list_count (get_member (text_of m) (members_view es))
 list_missed m name es is missed = ap list_count (member_missed name es missed) ∙ ap (λ k. list_count (get_member k (members_view es))) is
 
-pub list_range : (form of : Form) (least most n : ℕ) (vs : List Value) → n ≡ length vs
-    → is_between least most n ≡ is_in_range form (rule.List of least most) (array (items_view vs))
-list_range form of least most n vs e = rw (item_count-length vs, e) refl
+pub list_range : (of : Form) (least most n : ℕ) (vs : List Value) → n ≡ length vs
+    → is_between least most n ≡ is_in_range (rule.List of least most) (array (items_view vs))
+list_range of least most n vs e = rw (item_count-length vs, e) refl

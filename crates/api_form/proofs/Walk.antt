@@ -5,14 +5,13 @@ use Rattle.serde_json.specs.Data.{Data, null, boolean, number, string, array, ob
 use Rattle.serde_json.specs.Find.{as_null}
 use Rattle.serde_json.specs.View.{view, members_view}
 use Rattle.serde_json.specs.declared.value.Value.{Value}
-use Rattle.api_form.specs.declared.form.Form.{Form}
+use Rattle.api_form.specs.declared.form.Rule.{Rule}
 use Rattle.api_form.specs.declared.form.Member.{Member}
 use Rattle.api_form.specs.declared.name.Name.{Name}
 use Rattle.api_form.specs.declared.spelling.Spelling.{Spelling}
 use Rattle.api_form.specs.declared.fault.Stage.{Stage}
 use Rattle.api_form.specs.declared.fault.Fault.{Fault}
 use Rattle.api_form.specs.Names.{text_of}
-use Rattle.api_form.specs.Forms.{rule_of}
 use Rattle.api_form.specs.Faults.{first, own_faults, key_faults, beside_faults, list_faults, object_faults, faults, element_faults, entry_faults, asked_at, Asked, is_null, absence, member_faults, stated_faults}
 use Rattle.api_form.proofs.Members.{Entry, in_map, is_null-as_null}
 
@@ -27,29 +26,29 @@ rest_wins [] ys e = refl
 rest_wins (x ∷ xs) ys e = cc
 
 -- the faults inside a value
-abbrev pub inside : Data → Stage → Name → Form → List Fault
-inside (array ds) stage name form = list_faults (rule_of form) (element_faults ds stage name)
-inside (object ms) stage name form = object_faults stage form (rule_of form) ms (asked_at ms) (entry_faults ms stage name)
-inside _ stage name form = []
+abbrev pub inside : Data → Stage → Name → Rule → List Fault
+inside (array ds) stage name rule = list_faults rule (element_faults ds stage name)
+inside (object ms) stage name rule = object_faults stage rule ms (asked_at ms) (entry_faults ms stage name)
+inside _ stage name rule = []
 
 -- the value's own fault comes first
-pub own_wins : (d : Data) (stage : Stage) (name : Name) (form : Form) (x : Fault) → Some x ≡ first (own_faults stage name form d)
-    → Some x ≡ first (faults d stage name form)
-own_wins (array ds) stage name form x e = front_wins x _ _ e
-own_wins (object ms) stage name form x e = front_wins x _ _ e
-own_wins null stage name form x e = e
-own_wins (boolean b) stage name form x e = e
-own_wins (number n) stage name form x e = e
-own_wins (string s) stage name form x e = e
+pub own_wins : (d : Data) (stage : Stage) (name : Name) (rule : Rule) (x : Fault) → Some x ≡ first (own_faults stage name rule d)
+    → Some x ≡ first (faults d stage name rule)
+own_wins (array ds) stage name rule x e = front_wins x _ _ e
+own_wins (object ms) stage name rule x e = front_wins x _ _ e
+own_wins null stage name rule x e = e
+own_wins (boolean b) stage name rule x e = e
+own_wins (number n) stage name rule x e = e
+own_wins (string s) stage name rule x e = e
 
-pub inside_wins : (d : Data) (stage : Stage) (name : Name) (form : Form) → None ≡ first (own_faults stage name form d)
-    → first (inside d stage name form) ≡ first (faults d stage name form)
-inside_wins (array ds) stage name form e = rest_wins _ _ e
-inside_wins (object ms) stage name form e = rest_wins _ _ e
-inside_wins null stage name form e = e
-inside_wins (boolean b) stage name form e = e
-inside_wins (number n) stage name form e = e
-inside_wins (string s) stage name form e = e
+pub inside_wins : (d : Data) (stage : Stage) (name : Name) (rule : Rule) → None ≡ first (own_faults stage name rule d)
+    → first (inside d stage name rule) ≡ first (faults d stage name rule)
+inside_wins (array ds) stage name rule e = rest_wins _ _ e
+inside_wins (object ms) stage name rule e = rest_wins _ _ e
+inside_wins null stage name rule e = e
+inside_wins (boolean b) stage name rule e = e
+inside_wins (number n) stage name rule e = e
+inside_wins (string s) stage name rule e = e
 
 -- ---- the members of an object by name
 
@@ -108,7 +107,7 @@ member_null m es stage name r v b is here test holds e =
 
 pub member_there : (m : Member) (es : List Entry) (stage : Stage) (name : List ℕ) (r : Option Fault) (v : Value) (b : Bool) → name ≡ text_of m.0
     → Some v ≡ in_map name es → b ≡ is_some (as_null (view v)) → b ≡ false
-    → r ≡ first (faults (view v) stage m.0 m.2 ++ beside_faults stage m.2 (members_view es))
+    → r ≡ first (faults (view v) stage m.0 m.2 ++ beside_faults stage m.0 (members_view es))
     → r ≡ first (member_faults stage m (members_view es) (asked_at (members_view es) (text_of m.0)))
 member_there m es stage name r v b is here test holds e =
     e ∙ ap (λ o. first (member_faults stage m (members_view es) o))
@@ -131,18 +130,18 @@ table_step table i d ms at stage h e =
 
 -- ---- a step of the loop over a map
 
-pub key_found : (e : Entry) (es all : List Entry) (stage : Stage) (name : Name) (names : Spelling) (form : Form) (x : Fault) → all ≡ e ∷ es
-    → Some x ≡ first (key_faults stage name names (string_bytes e.0)) → Some x ≡ first (entry_faults (members_view all) stage name names form)
-key_found e es all stage name names form x is found = rw is (front_wins x _ _ found)
+pub key_found : (e : Entry) (es all : List Entry) (stage : Stage) (name : Name) (names : Spelling) (rule : Rule) (x : Fault) → all ≡ e ∷ es
+    → Some x ≡ first (key_faults stage name names (string_bytes e.0)) → Some x ≡ first (entry_faults (members_view all) stage name names rule)
+key_found e es all stage name names rule x is found = rw is (front_wins x _ _ found)
 
-pub value_found : (e : Entry) (es all : List Entry) (stage : Stage) (name : Name) (names : Spelling) (form : Form) (x : Fault) → all ≡ e ∷ es
-    → None ≡ first (key_faults stage name names (string_bytes e.0)) → Some x ≡ first (faults (view e.1) stage name form)
-    → Some x ≡ first (entry_faults (members_view all) stage name names form)
-value_found e es all stage name names form x is none found =
-    rw is (front_wins x (faults (view e.1) stage name form) (entry_faults (members_view es) stage name names form) found ∙ rest_wins (key_faults stage name names (string_bytes e.0)) _ none)
+pub value_found : (e : Entry) (es all : List Entry) (stage : Stage) (name : Name) (names : Spelling) (rule : Rule) (x : Fault) → all ≡ e ∷ es
+    → None ≡ first (key_faults stage name names (string_bytes e.0)) → Some x ≡ first (faults (view e.1) stage name rule)
+    → Some x ≡ first (entry_faults (members_view all) stage name names rule)
+value_found e es all stage name names rule x is none found =
+    rw is (front_wins x (faults (view e.1) stage name rule) (entry_faults (members_view es) stage name names rule) found ∙ rest_wins (key_faults stage name names (string_bytes e.0)) _ none)
 
-pub entry_step : (e : Entry) (es all : List Entry) (stage : Stage) (name : Name) (names : Spelling) (form : Form) → all ≡ e ∷ es
-    → None ≡ first (key_faults stage name names (string_bytes e.0)) → None ≡ first (faults (view e.1) stage name form)
-    → first (entry_faults (members_view es) stage name names form) ≡ first (entry_faults (members_view all) stage name names form)
-entry_step e es all stage name names form is none passed =
-    rw is (rest_wins (faults (view e.1) stage name form) (entry_faults (members_view es) stage name names form) passed ∙ rest_wins (key_faults stage name names (string_bytes e.0)) _ none)
+pub entry_step : (e : Entry) (es all : List Entry) (stage : Stage) (name : Name) (names : Spelling) (rule : Rule) → all ≡ e ∷ es
+    → None ≡ first (key_faults stage name names (string_bytes e.0)) → None ≡ first (faults (view e.1) stage name rule)
+    → first (entry_faults (members_view es) stage name names rule) ≡ first (entry_faults (members_view all) stage name names rule)
+entry_step e es all stage name names rule is none passed =
+    rw is (rest_wins (faults (view e.1) stage name rule) (entry_faults (members_view es) stage name names rule) passed ∙ rest_wins (key_faults stage name names (string_bytes e.0)) _ none)

@@ -4,7 +4,6 @@ use Rattle.std.specs.Option.{is_some}
 use Rattle.serde_json.specs.Data.{Data, null, boolean, number, string, array, object, Items, no_items, item, Members, no_members, member, unsigned, negative}
 use Rattle.serde_json.specs.Find.{get_member, as_number, as_str, as_u64}
 use Rattle.api_form.specs.declared.form.Form.{Form}
-use Rattle.api_form.specs.declared.form.Form.TheVariants as form
 use Rattle.api_form.specs.declared.form.Need.{Need}
 use Rattle.api_form.specs.declared.form.Need.TheVariants as need
 use Rattle.api_form.specs.declared.form.Rule.{Rule}
@@ -106,14 +105,14 @@ element_count table (item d ds) = inner_count table d + element_count table ds
 
 -- whether the value is of the JSON kind that the rule states; an attribute value and a legacy member may be anything
 abbrev pub has_kind : Rule → Data → Bool
-has_kind rule.Object (object ms) = true
-has_kind rule.OneOf (object ms) = true
+has_kind (rule.Object form) (object ms) = true
+has_kind (rule.OneOf form) (object ms) = true
 has_kind (rule.Map names of) (object ms) = true
 has_kind (rule.Tables of most) (object ms) = true
 has_kind (rule.List of least most) (array ds) = true
 has_kind (rule.AtMostOne of) (array ds) = true
 has_kind (rule.Text spelling) (string s) = true
-has_kind rule.Word (string s) = true
+has_kind (rule.Word words) (string s) = true
 has_kind (rule.Whole least most) (number (unsigned n)) = true
 has_kind (rule.Whole least most) (number (negative z)) = true
 has_kind rule.Flag (boolean b) = true
@@ -122,16 +121,16 @@ has_kind rule.Legacy d = true
 has_kind _ _ = false
 
 -- whether the value itself, not what is inside it, is in its range
-abbrev pub is_in_range : Form → Rule → Data → Bool
-is_in_range form rule.OneOf (object ms) = nat_eq (stated_count (members_of form) ms) 1
-is_in_range form (rule.Tables of most) (object ms) = is_between 1 most (total_count ms)
-is_in_range form (rule.List of least most) (array ds) = is_between least most (item_count ds)
-is_in_range form (rule.AtMostOne of) (array ds) = nat_le (element_count (members_of of) ds) 1
-is_in_range form (rule.Text spelling) (string s) = is_spelled spelling s
-is_in_range form rule.Word (string s) = has_word form s
-is_in_range form (rule.Whole least most) (number (unsigned n)) = is_between least most n
-is_in_range form (rule.Whole least most) (number (negative z)) = false
-is_in_range form _ _ = true
+abbrev pub is_in_range : Rule → Data → Bool
+is_in_range (rule.OneOf form) (object ms) = nat_eq (stated_count (members_of form) ms) 1
+is_in_range (rule.Tables of most) (object ms) = is_between 1 most (total_count ms)
+is_in_range (rule.List of least most) (array ds) = is_between least most (item_count ds)
+is_in_range (rule.AtMostOne of) (array ds) = nat_le (element_count (members_of of) ds) 1
+is_in_range (rule.Text spelling) (string s) = is_spelled spelling s
+is_in_range (rule.Word words) (string s) = has_word words s
+is_in_range (rule.Whole least most) (number (unsigned n)) = is_between least most n
+is_in_range (rule.Whole least most) (number (negative z)) = false
+is_in_range _ _ = true
 
 -- a fault where the test fails
 abbrev pub unless : Bool → Fault → List Fault
@@ -143,17 +142,17 @@ bad_value None = []
 bad_value (Some f) = fault.BadValue f ∷ []
 
 -- the fault of the value itself in the last stage
-abbrev pub range_faults : Name → Form → Rule → Data → List Fault
-range_faults name form rule.Legacy d = fault.Legacy name ∷ []
-range_faults name form rule.Value d = bad_value (value_fault d)
-range_faults name form rule d = unless (is_in_range form rule d) (fault.OutOfRange name)
+abbrev pub range_faults : Name → Rule → Data → List Fault
+range_faults name rule.Legacy d = fault.Legacy name ∷ []
+range_faults name rule.Value d = bad_value (value_fault d)
+range_faults name rule d = unless (is_in_range rule d) (fault.OutOfRange name)
 
 -- the fault of the value itself, at a stage: Any is the others at once, by which a body without a fault is told
-abbrev pub own_faults : Stage → Name → Form → Data → List Fault
-own_faults stage.Kinds name form d = unless (has_kind (rule_of form) d) fault.Kind
-own_faults stage.Absent name form d = []
-own_faults stage.Ranges name form d = range_faults name form (rule_of form) d
-own_faults stage.Any name form d = unless (has_kind (rule_of form) d) fault.Kind ++ range_faults name form (rule_of form) d
+abbrev pub own_faults : Stage → Name → Rule → Data → List Fault
+own_faults stage.Kinds name rule d = unless (has_kind rule d) fault.Kind
+own_faults stage.Absent name rule d = []
+own_faults stage.Ranges name rule d = range_faults name rule d
+own_faults stage.Any name rule d = unless (has_kind rule d) fault.Kind ++ range_faults name rule d
 
 -- the fault of a name in a map
 abbrev pub key_faults : Stage → Name → Spelling → List ℕ → List Fault
@@ -162,24 +161,24 @@ key_faults stage.Any name spelling key = unless (is_spelled spelling key) (fault
 key_faults _ name spelling key = []
 
 -- what a member has to be beside others of its object
-abbrev pub sibling_faults : Form → Members → List Fault
-sibling_faults form.Select ms =
+abbrev pub sibling_faults : Name → Members → List Fault
+sibling_faults name.Select ms =
     unless (is_selection (text_at name.Select ms) (is_there name.IndexName ms) (is_there name.ProjectionExpression ms)) fault.Select
-sibling_faults form.TotalSegments ms =
+sibling_faults name.TotalSegments ms =
     unless (is_below (whole_at name.Segment ms) (whole_at name.TotalSegments ms)) (fault.OutOfRange name.Segment)
-sibling_faults form ms = []
+sibling_faults name ms = []
 
 -- the fault of a member beside others of its object, behind its own
-abbrev pub beside_faults : Stage → Form → Members → List Fault
-beside_faults stage.Ranges form ms = sibling_faults form ms
-beside_faults stage.Any form ms = sibling_faults form ms
-beside_faults _ form ms = []
+abbrev pub beside_faults : Stage → Name → Members → List Fault
+beside_faults stage.Ranges name ms = sibling_faults name ms
+beside_faults stage.Any name ms = sibling_faults name ms
+beside_faults _ name ms = []
 
 -- ---- the walk
 
--- the faults of a value, still to be asked by stage, by the name of the member that it stands in, and by form
+-- the faults of a value, still to be asked by stage, by the name of the member that it stands in, and by rule
 abbrev pub Asked : Type 0
-Asked = Stage → Name → Form → List Fault
+Asked = Stage → Name → Rule → List Fault
 
 -- whether a member has to be there
 abbrev pub is_needed : Need → Members → Bool
@@ -196,61 +195,65 @@ absence _ m ms = []
 -- the faults of one stated member, by those of the value that stands there
 abbrev pub member_faults : Stage → Member → Members → Option Asked → List Fault
 member_faults stage m ms None = absence stage m ms
-member_faults stage m ms (Some faults) = faults stage m.0 m.2 ++ beside_faults stage m.2 ms
+member_faults stage m ms (Some faults) = faults stage m.0 m.2 ++ beside_faults stage m.0 ms
 
 -- the faults of the stated members, in the order of the table, by those of the values that stand at the names
 abbrev pub stated_faults : Stage → List Member → Members → (List ℕ → Option Asked) → List Fault
 stated_faults stage [] ms at = []
 stated_faults stage (m ∷ table) ms at = member_faults stage m ms (at (text_of m.0)) ++ stated_faults stage table ms at
 
--- the faults inside an object: by its table, or one form for all members
-abbrev pub object_faults : Stage → Form → Rule → Members → (List ℕ → Option Asked) → (Spelling → Form → List Fault) → List Fault
-object_faults stage form rule.Object ms at all = stated_faults stage (members_of form) ms at
-object_faults stage form rule.OneOf ms at all = stated_faults stage (members_of form) ms at
-object_faults stage form (rule.Map names of) ms at all = all names of
-object_faults stage form (rule.Tables of most) ms at all = all spelling.TableName of
-object_faults stage form _ ms at all = []
+-- the faults inside an object: by its table, or one rule for all members
+abbrev pub object_faults : Stage → Rule → Members → (List ℕ → Option Asked) → (Spelling → Rule → List Fault) → List Fault
+object_faults stage (rule.Object form) ms at all = stated_faults stage (members_of form) ms at
+object_faults stage (rule.OneOf form) ms at all = stated_faults stage (members_of form) ms at
+object_faults stage (rule.Map names of) ms at all = all names (rule_of of)
+object_faults stage (rule.Tables of most) ms at all = all spelling.TableName (rule_of of)
+object_faults stage _ ms at all = []
 
--- the faults inside a list, whose elements have one form
-abbrev pub list_faults : Rule → (Form → List Fault) → List Fault
-list_faults (rule.List of least most) all = all of
-list_faults (rule.AtMostOne of) all = all of
+-- the faults inside a list, with one rule for all elements
+abbrev pub list_faults : Rule → (Rule → List Fault) → List Fault
+list_faults (rule.List of least most) all = all (rule_of of)
+list_faults (rule.AtMostOne of) all = all (rule_of of)
 list_faults _ all = []
 
 abbrev mutual
   -- the faults of a value at a stage: its own, and then those inside it
-  pub faults : Data → Stage → Name → Form → List Fault
-  faults null stage name form = own_faults stage name form null
-  faults (boolean b) stage name form = own_faults stage name form (boolean b)
-  faults (number n) stage name form = own_faults stage name form (number n)
-  faults (string s) stage name form = own_faults stage name form (string s)
-  faults (array ds) stage name form =
-      own_faults stage name form (array ds) ++ list_faults (rule_of form) (element_faults ds stage name)
-  faults (object ms) stage name form =
-      own_faults stage name form (object ms)
-      ++ object_faults stage form (rule_of form) ms (asked_at ms) (entry_faults ms stage name)
+  pub faults : Data → Stage → Name → Rule → List Fault
+  faults null stage name rule = own_faults stage name rule null
+  faults (boolean b) stage name rule = own_faults stage name rule (boolean b)
+  faults (number n) stage name rule = own_faults stage name rule (number n)
+  faults (string s) stage name rule = own_faults stage name rule (string s)
+  faults (array ds) stage name rule =
+      own_faults stage name rule (array ds) ++ list_faults rule (element_faults ds stage name)
+  faults (object ms) stage name rule =
+      own_faults stage name rule (object ms)
+      ++ object_faults stage rule ms (asked_at ms) (entry_faults ms stage name)
 
   -- the faults of the elements of a list, which are named by the member that holds the list
-  pub element_faults : Items → Stage → Name → Form → List Fault
-  element_faults no_items stage name form = []
-  element_faults (item d ds) stage name form = faults d stage name form ++ element_faults ds stage name form
+  pub element_faults : Items → Stage → Name → Rule → List Fault
+  element_faults no_items stage name rule = []
+  element_faults (item d ds) stage name rule = faults d stage name rule ++ element_faults ds stage name rule
 
   -- the faults of the members of a map, each with its name, which are named by the member that holds the map
-  pub entry_faults : Members → Stage → Name → Spelling → Form → List Fault
-  entry_faults no_members stage name names form = []
-  entry_faults (member k d ms) stage name names form =
-      key_faults stage name names k ++ (faults d stage name form ++ entry_faults ms stage name names form)
+  pub entry_faults : Members → Stage → Name → Spelling → Rule → List Fault
+  entry_faults no_members stage name names rule = []
+  entry_faults (member k d ms) stage name names rule =
+      key_faults stage name names k ++ (faults d stage name rule ++ entry_faults ms stage name names rule)
 
   -- the faults of the value at a name, unless none is there or null
-  pub asked_at : Members → List ℕ → Option (Stage → Name → Form → List Fault)
+  pub asked_at : Members → List ℕ → Option (Stage → Name → Rule → List Fault)
   asked_at no_members key = None
   asked_at (member k d ms) key =
       if bytes_eq key k then (if is_null d then None else Some (faults d)) else asked_at ms key
 
--- all faults of a body: stage after stage
+-- all faults of a value: stage after stage
+abbrev pub all_faults : Rule → Data → List Fault
+all_faults rule d =
+    faults d stage.Kinds name.Body rule ++ (faults d stage.Absent name.Body rule ++ faults d stage.Ranges name.Body rule)
+
+-- all faults of a body
 abbrev pub body_faults : Form → Data → List Fault
-body_faults form d =
-    faults d stage.Kinds name.Body form ++ (faults d stage.Absent name.Body form ++ faults d stage.Ranges name.Body form)
+body_faults form d = all_faults (rule_of form) d
 
 -- the first of them
 abbrev pub first : List Fault → Option Fault

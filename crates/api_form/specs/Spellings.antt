@@ -33,6 +33,7 @@ abbrev pub is_spelled : Spelling → List ℕ → Bool
 is_spelled spelling.Any text = true
 is_spelled spelling.Filled text = nat_le 1 (length text)
 is_spelled spelling.TableName text = is_table_name text
+is_spelled spelling.AttributeName text = is_between 1 255 (length text)
 is_spelled spelling.NamePlaceholder text = is_placeholder 35 text
 is_spelled spelling.ValuePlaceholder text = is_placeholder 58 text
 is_spelled spelling.Token text = is_between 1 36 (length (chars text))

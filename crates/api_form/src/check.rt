@@ -3,8 +3,8 @@
 ghost use Rattle.std.specs.Prelude.{◌≡◌, IfOk};
 ghost use Rattle.serde_json.specs.View.{view, items_view, members_view};
 ghost use Rattle.api_form.specs.Names.{text_of};
-ghost use Rattle.api_form.specs.Forms.{rule_of};
-ghost use Rattle.api_form.specs.Faults.{first, body_faults, faults, element_faults, entry_faults, asked_at, stated_faults, member_faults, object_faults};
+ghost use Rattle.api_form.specs.Faults.{first, body_faults, all_faults};
+ghost use Rattle.api_form.specs.Faults.{faults, element_faults, entry_faults, asked_at, stated_faults, member_faults, object_faults};
 
 use crate::fault::{Fault, Stage};
 use crate::form::{Form, Member, Rule, members, stated_rule};
@@ -24,17 +24,24 @@ use std::alloc::{AllocError as NoMemory, Global};
 pub fn check_body(alloc: Global, form: Form, json: &Value) -> Result<Option<Fault>, NoMemory>
     ensures { IfOk result (λ fault. fault ≡ first (body_faults form (view json.now))) }
 {
-    match first_fault(alloc, json, Stage::Any, Name::Body, form)? {
+    check_value(alloc, json, stated_rule(form))
+}
+
+/// The first fault of a body against its rule, None where it has none.
+fn check_value(alloc: Global, json: &Value, rule: Rule) -> Result<Option<Fault>, NoMemory>
+    ensures { IfOk result (λ fault. fault ≡ first (all_faults rule (view json.now))) }
+{
+    match first_fault(alloc, json, Stage::Any, Name::Body, rule)? {
         None => return Ok(None),
         Some(_) => {}
     }
-    if let Some(fault) = first_fault(alloc, json, Stage::Kinds, Name::Body, form)? {
+    if let Some(fault) = first_fault(alloc, json, Stage::Kinds, Name::Body, rule)? {
         return Ok(Some(fault));
     }
-    if let Some(fault) = first_fault(alloc, json, Stage::Absent, Name::Body, form)? {
+    if let Some(fault) = first_fault(alloc, json, Stage::Absent, Name::Body, rule)? {
         return Ok(Some(fault));
     }
-    first_fault(alloc, json, Stage::Ranges, Name::Body, form)
+    first_fault(alloc, json, Stage::Ranges, Name::Body, rule)
 }
 
 /// The first fault of a value at a stage. The name is that of the member that it stands in.
@@ -44,20 +51,20 @@ fn first_fault(
     json: &Value,
     stage: Stage,
     name: Name,
-    form: Form,
+    rule: Rule,
 ) -> Result<Option<Fault>, NoMemory>
-    ensures { IfOk result (λ fault. fault ≡ first (faults (view json.now) stage name form)) }
+    ensures { IfOk result (λ fault. fault ≡ first (faults (view json.now) stage name rule)) }
 {
-    if let Some(fault) = own_fault(alloc, json, stage, name, form)? {
+    if let Some(fault) = own_fault(alloc, json, stage, name, rule)? {
         return Ok(Some(fault));
     }
     match json {
-        Value::Array(items) => match stated_rule(form) {
-            Rule::List { of, .. } => first_in_list(alloc, items, stage, name, of),
-            Rule::AtMostOne { of } => first_in_list(alloc, items, stage, name, of),
+        Value::Array(items) => match rule {
+            Rule::List { of, .. } => first_in_list(alloc, items, stage, name, stated_rule(of)),
+            Rule::AtMostOne { of } => first_in_list(alloc, items, stage, name, stated_rule(of)),
             _ => Ok(None),
         },
-        Value::Object(map) => first_in_object(alloc, map, stage, name, form),
+        Value::Object(map) => first_in_object(alloc, map, stage, name, rule),
         _ => Ok(None),
     }
 }
@@ -69,41 +76,49 @@ fn first_in_object(
     map: &Map<String, Value>,
     stage: Stage,
     name: Name,
-    form: Form,
+    rule: Rule,
 ) -> Result<Option<Fault>, NoMemory>
     ensures { let ms = members_view map.now.entries in
-        IfOk result (λ fault. fault ≡ first (object_faults stage form (rule_of form) ms (asked_at ms) (entry_faults ms stage name))) }
+        IfOk result (λ fault. fault ≡ first (object_faults stage rule ms (asked_at ms) (entry_faults ms stage name))) }
 {
-    match stated_rule(form) {
-        Rule::Object | Rule::OneOf => first_stated(alloc, map, stage, members(form)),
-        Rule::Map { names, of } => first_in_map(alloc, map, stage, name, names, of),
+    match rule {
+        Rule::Object(form) => first_stated(alloc, map, stage, members(form)),
+        Rule::OneOf(form) => first_stated(alloc, map, stage, members(form)),
+        Rule::Map { names, of } => { first_in_map(alloc, map, stage, name, names, stated_rule(of)) }
         Rule::Tables { of, .. } => {
-            first_in_map(alloc, map, stage, name, Spelling::TableName, of)
+            first_in_map(
+                alloc,
+                map,
+                stage,
+                name,
+                Spelling::TableName,
+                stated_rule(of),
+            )
         }
         _ => Ok(None),
     }
 }
 
-/// The first fault of the elements of a list.
+/// The first fault of the elements of a list, which all have one rule.
 #[cycle(walk)]
 fn first_in_list(
     alloc: Global,
     items: &[Value],
     stage: Stage,
     name: Name,
-    of: Form,
+    rule: Rule,
 ) -> Result<Option<Fault>, NoMemory>
-    ensures { IfOk result (λ fault. fault ≡ first (element_faults (items_view items.now) stage name of)) }
+    ensures { IfOk result (λ fault. fault ≡ first (element_faults (items_view items.now) stage name rule)) }
 {
     for element in items {
-        if let Some(fault) = first_fault(alloc, element, stage, name, of)? {
+        if let Some(fault) = first_fault(alloc, element, stage, name, rule)? {
             return Ok(Some(fault));
         }
     }
     Ok(None)
 }
 
-/// The first fault of the members of an object that all have one form.
+/// The first fault of the members of an object that all have one rule.
 #[cycle(walk)]
 fn first_in_map(
     alloc: Global,
@@ -111,15 +126,15 @@ fn first_in_map(
     stage: Stage,
     name: Name,
     names: Spelling,
-    of: Form,
+    rule: Rule,
 ) -> Result<Option<Fault>, NoMemory>
-    ensures { IfOk result (λ fault. fault ≡ first (entry_faults (members_view map.now.entries) stage name names of)) }
+    ensures { IfOk result (λ fault. fault ≡ first (entry_faults (members_view map.now.entries) stage name names rule)) }
 {
     for (key, value) in map.iter() {
         if let Some(fault) = key_fault(stage, name, names, key) {
             return Ok(Some(fault));
         }
-        if let Some(fault) = first_fault(alloc, value, stage, name, of)? {
+        if let Some(fault) = first_fault(alloc, value, stage, name, rule)? {
             return Ok(Some(fault));
         }
     }
@@ -165,5 +180,5 @@ fn first_of_member(
     if let Some(fault) = first_fault(alloc, value, stage, member.0, member.2)? {
         return Ok(Some(fault));
     }
-    Ok(beside_fault(map, stage, member.2))
+    Ok(beside_fault(map, stage, member.0))
 }

@@ -1,13 +1,15 @@
-//! Forms and their rules. A form is a name; what it states is its rule, and the members of its table.
+//! Forms and rules. A form is a name: it states a rule, and where that is of an object, the members of a table. The rule of each
+//! member stands in its row.
 
 ghost use Rattle.std.specs.Prelude.{◌≡◌, IsTrue};
-ghost use Rattle.api_form.specs.Forms.{rule_of, rule_list, members_of, ascends, has_word};
+ghost use Rattle.api_form.specs.Forms.{rule_of, members_of, ascends};
 
 use crate::name::Name;
 use crate::spelling::Spelling;
 use crate::tables;
+use crate::words::Words;
 
-/// The forms of bodies and of what stands in them.
+/// The forms of bodies, and of what stands in objects, lists and maps.
 #[derive(Clone, Copy)]
 pub enum Form {
     // bodies
@@ -16,6 +18,8 @@ pub enum Form {
     UpdateTable,
     DescribeTable,
     ListTables,
+    UpdateTimeToLive,
+    DescribeTimeToLive,
     PutItem,
     GetItem,
     UpdateItem,
@@ -27,65 +31,32 @@ pub enum Form {
     TransactWriteItems,
     TransactGetItems,
     // schemas
-    Definitions,
     Definition,
-    KeySchema,
     KeyElement,
-    Indexes,
     Index,
     Projection,
-    NonKeyAttributes,
     Throughput,
-    IndexUpdates,
     IndexUpdate,
     DeletedIndex,
+    TimeToLiveSpecification,
     // batches and transactions
-    RequestedKeys,
     KeysAndAttributes,
-    Keys,
-    RequestedWrites,
     WriteRequests,
     WriteRequest,
     PutRequest,
     DeleteRequest,
-    TransactWrites,
     TransactWrite,
     ConditionCheck,
     Delete,
     Put,
     Update,
-    TransactGets,
     TransactGet,
     Get,
-    // values
+    // values and texts
     Item,
     Value,
-    Names,
-    Values,
-    // texts
     Text,
     FilledText,
-    TableName,
-    IndexName,
-    Token,
-    // words
-    AttributeType,
-    BillingMode,
-    ConsumedCapacity,
-    KeyType,
-    OldImage,
-    ProjectionType,
-    Select,
-    UpdateImage,
-    // numbers and flags
-    Limit,
-    TableLimit,
-    Units,
-    Segment,
-    TotalSegments,
-    Flag,
-    // members that expressions have taken the place of
-    Legacy,
 }
 
 /// Whether a member has to be there.
@@ -99,15 +70,15 @@ pub enum Need {
 
 /// A stated member of an object.
 #[derive(Clone, Copy)]
-pub struct Member(pub Name, pub Need, pub Form);
+pub struct Member(pub Name, pub Need, pub Rule);
 
-/// What a form states.
+/// What is stated of a value.
 #[derive(Clone, Copy)]
 pub enum Rule {
     /// An object with the members of the form's table. Others are ignored.
-    Object,
+    Object(Form),
     /// An object with exactly one of the members of the form's table.
-    OneOf,
+    OneOf(Form),
     /// A list of this many elements of one form.
     List { of: Form, least: u64, most: u64 },
     /// A list of objects of one form that have at most one of the members of its table, all together.
@@ -119,8 +90,8 @@ pub enum Rule {
     Tables { of: Form, most: u64 },
     /// A text.
     Text(Spelling),
-    /// One of the form's words.
-    Word,
+    /// One of these words.
+    Word(Words),
     /// A whole number in a range.
     Whole { least: u64, most: u64 },
     /// True or false.
@@ -136,93 +107,13 @@ pub fn stated_rule(form: Form) -> Rule
     ensures { result ≡ rule_of form }
 {
     match form {
-        Form::Definitions => list_of(Form::Definition),
-        Form::KeySchema => list_of(Form::KeyElement),
-        Form::Indexes => list_of(Form::Index),
-        Form::NonKeyAttributes => list_of(Form::Text),
-        Form::IndexUpdates => Rule::AtMostOne {
-            of: Form::IndexUpdate,
-        },
-        Form::RequestedKeys => Rule::Tables {
-            of: Form::KeysAndAttributes,
-            most: 100,
-        },
-        Form::Keys => list_of(Form::Item),
-        Form::RequestedWrites => Rule::Tables {
-            of: Form::WriteRequests,
-            most: 25,
-        },
-        Form::WriteRequests => list_of(Form::WriteRequest),
-        Form::WriteRequest | Form::TransactWrite => Rule::OneOf,
-        Form::TransactWrites => Rule::List {
-            of: Form::TransactWrite,
-            least: 1,
-            most: 100,
-        },
-        Form::TransactGets => Rule::List {
-            of: Form::TransactGet,
-            least: 1,
-            most: 100,
-        },
-        Form::Item => Rule::Map {
-            names: Spelling::Filled,
-            of: Form::Value,
-        },
+        Form::Item => tables::ITEM,
         Form::Value => Rule::Value,
-        Form::Names => Rule::Map {
-            names: Spelling::NamePlaceholder,
-            of: Form::FilledText,
-        },
-        Form::Values => Rule::Map {
-            names: Spelling::ValuePlaceholder,
-            of: Form::Value,
-        },
-        Form::Text => Rule::Text(Spelling::Any),
-        Form::FilledText => Rule::Text(Spelling::Filled),
-        Form::TableName | Form::IndexName => Rule::Text(Spelling::TableName),
-        Form::Token => Rule::Text(Spelling::Token),
-        Form::AttributeType
-        | Form::BillingMode
-        | Form::ConsumedCapacity
-        | Form::KeyType
-        | Form::OldImage
-        | Form::ProjectionType
-        | Form::Select
-        | Form::UpdateImage => Rule::Word,
-        Form::Limit => Rule::Whole {
-            least: 1,
-            most: u64::MAX,
-        },
-        Form::TableLimit => Rule::Whole {
-            least: 1,
-            most: 100,
-        },
-        Form::Units => Rule::Whole {
-            least: 0,
-            most: u64::MAX,
-        },
-        Form::Segment => Rule::Whole {
-            least: 0,
-            most: 999_999,
-        },
-        Form::TotalSegments => Rule::Whole {
-            least: 1,
-            most: 1_000_000,
-        },
-        Form::Flag => Rule::Flag,
-        Form::Legacy => Rule::Legacy,
-        _ => Rule::Object,
-    }
-}
-
-/// A list of any length.
-fn list_of(of: Form) -> Rule
-    ensures { result ≡ rule_list of }
-{
-    Rule::List {
-        of,
-        least: 0,
-        most: u64::MAX,
+        Form::Text => tables::TEXT,
+        Form::FilledText => tables::FILLED_TEXT,
+        Form::WriteRequests => tables::WRITE_REQUESTS,
+        Form::WriteRequest | Form::TransactWrite => Rule::OneOf(form),
+        _ => Rule::Object(form),
     }
 }
 
@@ -233,9 +124,10 @@ pub fn members(form: Form) -> &'static [Member]
 {
     match form {
         Form::CreateTable => &tables::CREATE_TABLE,
-        Form::DeleteTable | Form::DescribeTable => &tables::NAMED_TABLE,
+        Form::DeleteTable | Form::DescribeTable | Form::DescribeTimeToLive => &tables::NAMED_TABLE,
         Form::UpdateTable => &tables::UPDATE_TABLE,
         Form::ListTables => &tables::LIST_TABLES,
+        Form::UpdateTimeToLive => &tables::UPDATE_TIME_TO_LIVE,
         Form::PutItem => &tables::PUT_ITEM,
         Form::GetItem => &tables::GET_ITEM,
         Form::UpdateItem => &tables::UPDATE_ITEM,
@@ -253,6 +145,7 @@ pub fn members(form: Form) -> &'static [Member]
         Form::Throughput => &tables::THROUGHPUT,
         Form::IndexUpdate => &tables::INDEX_UPDATE,
         Form::DeletedIndex => &tables::DELETED_INDEX,
+        Form::TimeToLiveSpecification => &tables::TIME_TO_LIVE_SPECIFICATION,
         Form::KeysAndAttributes => &tables::KEYS_AND_ATTRIBUTES,
         Form::WriteRequest => &tables::WRITE_REQUEST,
         Form::PutRequest => &tables::PUT_REQUEST,
@@ -265,33 +158,5 @@ pub fn members(form: Form) -> &'static [Member]
         Form::TransactGet => &tables::TRANSACT_GET,
         Form::Get => &tables::GET,
         _ => &tables::NO_MEMBERS,
-    }
-}
-
-/// Whether the text is one of the form's words.
-pub fn has_word(form: Form, text: &str) -> bool
-    ensures { result ≡ has_word form text.now }
-{
-    match form {
-        Form::AttributeType => text == "S" || text == "N" || text == "B",
-        Form::BillingMode => text == "PROVISIONED" || text == "PAY_PER_REQUEST",
-        Form::ConsumedCapacity => text == "INDEXES" || text == "TOTAL" || text == "NONE",
-        Form::KeyType => text == "HASH" || text == "RANGE",
-        Form::OldImage => text == "NONE" || text == "ALL_OLD",
-        Form::ProjectionType => text == "KEYS_ONLY" || text == "INCLUDE" || text == "ALL",
-        Form::Select => {
-            text == "ALL_ATTRIBUTES"
-                || text == "ALL_PROJECTED_ATTRIBUTES"
-                || text == "SPECIFIC_ATTRIBUTES"
-                || text == "COUNT"
-        }
-        Form::UpdateImage => {
-            text == "NONE"
-                || text == "ALL_OLD"
-                || text == "UPDATED_OLD"
-                || text == "ALL_NEW"
-                || text == "UPDATED_NEW"
-        }
-        _ => false,
     }
 }

@@ -18,6 +18,7 @@ mod name;
 mod own;
 mod spelling;
 mod tables;
+mod words;
 
 pub use attr_json::JsonFault;
 pub use check::check_body;

@@ -10,9 +10,10 @@ ghost use Rattle.api_form.specs.Faults.{first, own_faults, range_faults, bad_val
 
 use crate::count::{has_at_most_one, has_requests, is_below, is_there, stated_count, text_at};
 use crate::fault::{Fault, Stage};
-use crate::form::{Form, Member, Need, Rule, has_word, members, stated_rule};
+use crate::form::{Member, Need, Rule, members};
 use crate::name::Name;
 use crate::spelling::{Spelling, is_between, is_spelled};
+use crate::words::has_word;
 use attr_json::value_fault;
 use serde_json::{Map, Number, Value};
 use std::alloc::{AllocError as NoMemory, Global};
@@ -23,32 +24,26 @@ pub fn own_fault(
     json: &Value,
     stage: Stage,
     name: Name,
-    form: Form,
+    rule: Rule,
 ) -> Result<Option<Fault>, NoMemory>
-    ensures { IfOk result (λ fault. fault ≡ first (own_faults stage name form (view json.now))) }
+    ensures { IfOk result (λ fault. fault ≡ first (own_faults stage name rule (view json.now))) }
 {
     match stage {
-        Stage::Kinds => Ok(unless(has_kind(stated_rule(form), json), Fault::Kind)),
+        Stage::Kinds => Ok(unless(has_kind(rule, json), Fault::Kind)),
         Stage::Absent => Ok(None),
-        Stage::Ranges => range_fault(alloc, json, name, form, stated_rule(form)),
-        Stage::Any => any_fault(alloc, json, name, form, stated_rule(form)),
+        Stage::Ranges => range_fault(alloc, json, name, rule),
+        Stage::Any => any_fault(alloc, json, name, rule),
     }
 }
 
 /// The fault of the value's kind, and else that of the last stage.
-fn any_fault(
-    alloc: Global,
-    json: &Value,
-    name: Name,
-    form: Form,
-    rule: Rule,
-) -> Result<Option<Fault>, NoMemory>
-    ensures { IfOk result (λ found. found ≡ first (unless (has_kind rule (view json.now)) fault.Kind ++ range_faults name form rule (view json.now))) }
+fn any_fault(alloc: Global, json: &Value, name: Name, rule: Rule) -> Result<Option<Fault>, NoMemory>
+    ensures { IfOk result (λ found. found ≡ first (unless (has_kind rule (view json.now)) fault.Kind ++ range_faults name rule (view json.now))) }
 {
     if !has_kind(rule, json) {
         return Ok(Some(Fault::Kind));
     }
-    range_fault(alloc, json, name, form, rule)
+    range_fault(alloc, json, name, rule)
 }
 
 /// Whether the value is of the JSON kind that the rule states.
@@ -56,9 +51,10 @@ fn has_kind(rule: Rule, json: &Value) -> bool
     ensures { result ≡ has_kind rule (view json.now) }
 {
     match rule {
-        Rule::Object | Rule::OneOf | Rule::Map { .. } | Rule::Tables { .. } => json.is_object(),
+        Rule::Object(_) | Rule::OneOf(_) | Rule::Map { .. } | Rule::Tables { .. } =>
+            json.is_object(),
         Rule::List { .. } | Rule::AtMostOne { .. } => json.is_array(),
-        Rule::Text(_) | Rule::Word => json.is_string(),
+        Rule::Text(_) | Rule::Word(_) => json.is_string(),
         Rule::Whole { .. } => json.is_u64() || json.is_i64(),
         Rule::Flag => json.is_boolean(),
         Rule::Value | Rule::Legacy => true,
@@ -70,15 +66,14 @@ fn range_fault(
     alloc: Global,
     json: &Value,
     name: Name,
-    form: Form,
     rule: Rule,
 ) -> Result<Option<Fault>, NoMemory>
-    ensures { IfOk result (λ fault. fault ≡ first (range_faults name form rule (view json.now))) }
+    ensures { IfOk result (λ fault. fault ≡ first (range_faults name rule (view json.now))) }
 {
     match rule {
         Rule::Legacy => Ok(Some(Fault::Legacy(name))),
         Rule::Value => bad_value(alloc, json),
-        _ => Ok(unless(is_in_range(json, form, rule), Fault::OutOfRange(name))),
+        _ => Ok(unless(is_in_range(json, rule), Fault::OutOfRange(name))),
     }
 }
 
@@ -92,30 +87,30 @@ fn bad_value(alloc: Global, json: &Value) -> Result<Option<Fault>, NoMemory>
 }
 
 /// Whether the value itself, not what is inside it, is in its range.
-fn is_in_range(json: &Value, form: Form, rule: Rule) -> bool
-    ensures { result ≡ is_in_range form rule (view json.now) }
+fn is_in_range(json: &Value, rule: Rule) -> bool
+    ensures { result ≡ is_in_range rule (view json.now) }
 {
     match json {
-        Value::String(text) => text_in_range(text, form, rule),
-        Value::Number(number) => number_in_range(number, form, rule),
-        Value::Array(items) => list_in_range(items, form, rule),
-        Value::Object(map) => object_in_range(map, form, rule),
+        Value::String(text) => text_in_range(text, rule),
+        Value::Number(number) => number_in_range(number, rule),
+        Value::Array(items) => list_in_range(items, rule),
+        Value::Object(map) => object_in_range(map, rule),
         Value::Null | Value::Bool(_) => true,
     }
 }
 
-fn text_in_range(text: &str, form: Form, rule: Rule) -> bool
-    ensures { result ≡ is_in_range form rule (json.string text.now) }
+fn text_in_range(text: &str, rule: Rule) -> bool
+    ensures { result ≡ is_in_range rule (json.string text.now) }
 {
     match rule {
         Rule::Text(spelling) => is_spelled(spelling, text),
-        Rule::Word => has_word(form, text),
+        Rule::Word(words) => has_word(words, text),
         _ => true,
     }
 }
 
-fn number_in_range(number: &Number, form: Form, rule: Rule) -> bool
-    ensures { result ≡ is_in_range form rule (json.number (number_view number.now)) }
+fn number_in_range(number: &Number, rule: Rule) -> bool
+    ensures { result ≡ is_in_range rule (json.number (number_view number.now)) }
 {
     let Rule::Whole { least, most } = rule else {
         return true;
@@ -126,8 +121,8 @@ fn number_in_range(number: &Number, form: Form, rule: Rule) -> bool
     }
 }
 
-fn list_in_range(items: &[Value], form: Form, rule: Rule) -> bool
-    ensures { result ≡ is_in_range form rule (json.array (items_view items.now)) }
+fn list_in_range(items: &[Value], rule: Rule) -> bool
+    ensures { result ≡ is_in_range rule (json.array (items_view items.now)) }
 {
     match rule {
         Rule::List { least, most, .. } => is_between(least, most, items.len() as u64),
@@ -136,11 +131,11 @@ fn list_in_range(items: &[Value], form: Form, rule: Rule) -> bool
     }
 }
 
-fn object_in_range(map: &Map<String, Value>, form: Form, rule: Rule) -> bool
-    ensures { result ≡ is_in_range form rule (json.object (members_view map.now.entries)) }
+fn object_in_range(map: &Map<String, Value>, rule: Rule) -> bool
+    ensures { result ≡ is_in_range rule (json.object (members_view map.now.entries)) }
 {
     match rule {
-        Rule::OneOf => stated_count(map, members(form)) == 1,
+        Rule::OneOf(form) => stated_count(map, members(form)) == 1,
         Rule::Tables { most, .. } => has_requests(map, most),
         _ => true,
     }
@@ -157,12 +152,12 @@ pub fn key_fault(stage: Stage, name: Name, spelling: Spelling, key: &str) -> Opt
 }
 
 /// The fault of a member beside others of its object, behind its own.
-pub fn beside_fault(map: &Map<String, Value>, stage: Stage, form: Form) -> Option<Fault>
-    ensures { result ≡ first (beside_faults stage form (members_view map.now.entries)) }
+pub fn beside_fault(map: &Map<String, Value>, stage: Stage, name: Name) -> Option<Fault>
+    ensures { result ≡ first (beside_faults stage name (members_view map.now.entries)) }
 {
-    match (stage, form) {
-        (Stage::Ranges | Stage::Any, Form::Select) => unless(is_selection(map), Fault::Select),
-        (Stage::Ranges | Stage::Any, Form::TotalSegments) => unless(
+    match (stage, name) {
+        (Stage::Ranges | Stage::Any, Name::Select) => unless(is_selection(map), Fault::Select),
+        (Stage::Ranges | Stage::Any, Name::TotalSegments) => unless(
             is_below(map, Name::Segment, Name::TotalSegments),
             Fault::OutOfRange(Name::Segment),
         ),

@@ -12,6 +12,8 @@ pub enum Spelling {
     Filled,
     /// The name of a table or an index: 3 to 255 letters, digits, `_`, `.` and `-` (Developer Guide, "Naming rules").
     TableName,
+    /// The name of an attribute that a table names: 1 to 255 bytes (API Reference, TimeToLiveSpecification).
+    AttributeName,
     /// `#` and one or more letters, digits and `_` (Developer Guide, "Expression attribute names").
     NamePlaceholder,
     /// `:` and one or more letters, digits and `_` (Developer Guide, "Expression attribute values").
@@ -28,6 +30,7 @@ pub fn is_spelled(spelling: Spelling, text: &str) -> bool
         Spelling::Any => true,
         Spelling::Filled => !text.is_empty(),
         Spelling::TableName => is_table_name(text.as_bytes()),
+        Spelling::AttributeName => is_between(1, 255, text.len() as u64),
         Spelling::NamePlaceholder => is_placeholder(b'#', text.as_bytes()),
         Spelling::ValuePlaceholder => is_placeholder(b':', text.as_bytes()),
         Spelling::Token => is_between(1, 36, text.chars().count() as u64),

@@ -1,293 +1,477 @@
-//! The tables of the forms: a row a member, with its name, whether it has to be there, and its form. Rows stand in the
-//! order of the names' bytes. Each table names its page of the DynamoDB API Reference, and has of it the members that
-//! this server knows.
+//! The tables of the forms, and what they share. A table has a row a member: its name, whether it has to be there, and what
+//! is stated of it. Rows stand in the order of the names' bytes. Each table names its page of the DynamoDB API Reference, and
+//! has of it the members that this server knows.
 
 use crate::form::Need::{Optional, Required, With};
-use crate::form::{Form, Member};
+use crate::form::{Form, Member, Rule};
 use crate::name::Name;
+use crate::spelling::Spelling;
+use crate::words::Words;
+
+// The rules of the forms that have no table.
+pub const TEXT: Rule = Rule::Text(Spelling::Any);
+
+pub const FILLED_TEXT: Rule = Rule::Text(Spelling::Filled);
+
+pub const ITEM: Rule = Rule::Map {
+    names: Spelling::Filled,
+    of: Form::Value,
+};
+
+pub const WRITE_REQUESTS: Rule = Rule::List {
+    of: Form::WriteRequest,
+    least: 0,
+    most: u64::MAX,
+};
+
+// Rules of members of several tables.
+const TABLE_NAME: Rule = Rule::Text(Spelling::TableName);
+
+const OLD_IMAGE: Rule = Rule::Word(Words::OldImage);
+
+const LIMIT: Rule = Rule::Whole {
+    least: 1,
+    most: u64::MAX,
+};
+
+const UNITS: Rule = Rule::Whole {
+    least: 0,
+    most: u64::MAX,
+};
+
+const DEFINITIONS: Rule = Rule::List {
+    of: Form::Definition,
+    least: 0,
+    most: u64::MAX,
+};
+
+const KEY_SCHEMA: Rule = Rule::List {
+    of: Form::KeyElement,
+    least: 0,
+    most: u64::MAX,
+};
+
+const INDEXES: Rule = Rule::List {
+    of: Form::Index,
+    least: 0,
+    most: u64::MAX,
+};
 
 // Members that many tables have.
 const CAPACITY: Member = Member(
     Name::ReturnConsumedCapacity,
     Optional,
-    Form::ConsumedCapacity,
+    Rule::Word(Words::ConsumedCapacity),
 );
 
-const METRICS: Member = Member(Name::ReturnItemCollectionMetrics, Optional, Form::Text);
+const METRICS: Member = Member(Name::ReturnItemCollectionMetrics, Optional, TEXT);
+
 /// Of a request of the catalog, which uses no capacity that could be told.
-const IDLE_CAPACITY: Member = Member(Name::ReturnConsumedCapacity, Optional, Form::Text);
+const IDLE_CAPACITY: Member = Member(Name::ReturnConsumedCapacity, Optional, TEXT);
 
-const CONDITION: Member = Member(Name::ConditionExpression, Optional, Form::Text);
+const CONDITION: Member = Member(Name::ConditionExpression, Optional, TEXT);
 
-const NAMES: Member = Member(Name::ExpressionAttributeNames, Optional, Form::Names);
+const NAMES: Member = Member(
+    Name::ExpressionAttributeNames,
+    Optional,
+    Rule::Map {
+        names: Spelling::NamePlaceholder,
+        of: Form::FilledText,
+    },
+);
 
-const VALUES: Member = Member(Name::ExpressionAttributeValues, Optional, Form::Values);
+const VALUES: Member = Member(
+    Name::ExpressionAttributeValues,
+    Optional,
+    Rule::Map {
+        names: Spelling::ValuePlaceholder,
+        of: Form::Value,
+    },
+);
 
-const PROJECTED: Member = Member(Name::ProjectionExpression, Optional, Form::Text);
+const PROJECTED: Member = Member(Name::ProjectionExpression, Optional, TEXT);
 
-const FILTER: Member = Member(Name::FilterExpression, Optional, Form::Text);
+const FILTER: Member = Member(Name::FilterExpression, Optional, TEXT);
 
 const FAILED_IMAGE: Member = Member(
     Name::ReturnValuesOnConditionCheckFailure,
     Optional,
-    Form::OldImage,
+    OLD_IMAGE,
 );
 
 pub const NO_MEMBERS: [Member; 0] = [];
 
 /// API Reference: CreateTable. Its names are judged with the whole schema.
 pub const CREATE_TABLE: [Member; 9] = [
-    Member(Name::AttributeDefinitions, Required, Form::Definitions),
-    Member(Name::BillingMode, Optional, Form::BillingMode),
-    Member(Name::GlobalSecondaryIndexes, Optional, Form::Indexes),
-    Member(Name::KeySchema, Required, Form::KeySchema),
-    Member(Name::LocalSecondaryIndexes, Optional, Form::Indexes),
-    Member(Name::ProvisionedThroughput, Optional, Form::Throughput),
+    Member(Name::AttributeDefinitions, Required, DEFINITIONS),
+    Member(Name::BillingMode, Optional, Rule::Word(Words::BillingMode)),
+    Member(Name::GlobalSecondaryIndexes, Optional, INDEXES),
+    Member(Name::KeySchema, Required, KEY_SCHEMA),
+    Member(Name::LocalSecondaryIndexes, Optional, INDEXES),
+    Member(
+        Name::ProvisionedThroughput,
+        Optional,
+        Rule::Object(Form::Throughput),
+    ),
     IDLE_CAPACITY,
     METRICS,
-    Member(Name::TableName, Required, Form::Text),
+    Member(Name::TableName, Required, TEXT),
 ];
 
-/// API Reference: DeleteTable, DescribeTable.
+/// API Reference: DeleteTable, DescribeTable, DescribeTimeToLive.
 pub const NAMED_TABLE: [Member; 3] = [
     IDLE_CAPACITY,
     METRICS,
-    Member(Name::TableName, Required, Form::TableName),
+    Member(Name::TableName, Required, TABLE_NAME),
 ];
 
 /// API Reference: UpdateTable.
 pub const UPDATE_TABLE: [Member; 7] = [
-    Member(Name::AttributeDefinitions, Optional, Form::Definitions),
-    Member(Name::BillingMode, Optional, Form::BillingMode),
+    Member(Name::AttributeDefinitions, Optional, DEFINITIONS),
+    Member(Name::BillingMode, Optional, Rule::Word(Words::BillingMode)),
     Member(
         Name::GlobalSecondaryIndexUpdates,
         Optional,
-        Form::IndexUpdates,
+        Rule::AtMostOne {
+            of: Form::IndexUpdate,
+        },
     ),
-    Member(Name::ProvisionedThroughput, Optional, Form::Throughput),
+    Member(
+        Name::ProvisionedThroughput,
+        Optional,
+        Rule::Object(Form::Throughput),
+    ),
     IDLE_CAPACITY,
     METRICS,
-    Member(Name::TableName, Required, Form::TableName),
+    Member(Name::TableName, Required, TABLE_NAME),
 ];
 
 /// API Reference: ListTables.
 pub const LIST_TABLES: [Member; 4] = [
-    Member(Name::ExclusiveStartTableName, Optional, Form::TableName),
-    Member(Name::Limit, Optional, Form::TableLimit),
+    Member(Name::ExclusiveStartTableName, Optional, TABLE_NAME),
+    Member(
+        Name::Limit,
+        Optional,
+        Rule::Whole {
+            least: 1,
+            most: 100,
+        },
+    ),
     IDLE_CAPACITY,
     METRICS,
 ];
 
+/// API Reference: UpdateTimeToLive.
+pub const UPDATE_TIME_TO_LIVE: [Member; 4] = [
+    IDLE_CAPACITY,
+    METRICS,
+    Member(Name::TableName, Required, TABLE_NAME),
+    Member(
+        Name::TimeToLiveSpecification,
+        Required,
+        Rule::Object(Form::TimeToLiveSpecification),
+    ),
+];
+
 /// API Reference: PutItem.
-pub const PUT_ITEM: [Member; 10] = [
+pub const PUT_ITEM: [Member; 11] = [
     CONDITION,
-    Member(Name::ConditionalOperator, Optional, Form::Legacy),
-    Member(Name::Expected, Optional, Form::Legacy),
+    Member(Name::ConditionalOperator, Optional, Rule::Legacy),
+    Member(Name::Expected, Optional, Rule::Legacy),
     NAMES,
     VALUES,
-    Member(Name::Item, Required, Form::Item),
+    Member(Name::Item, Required, ITEM),
     CAPACITY,
     METRICS,
-    Member(Name::ReturnValues, Optional, Form::OldImage),
-    Member(Name::TableName, Required, Form::TableName),
+    Member(Name::ReturnValues, Optional, OLD_IMAGE),
+    FAILED_IMAGE,
+    Member(Name::TableName, Required, TABLE_NAME),
 ];
 
 /// API Reference: GetItem.
 pub const GET_ITEM: [Member; 8] = [
-    Member(Name::AttributesToGet, Optional, Form::Legacy),
-    Member(Name::ConsistentRead, Optional, Form::Flag),
+    Member(Name::AttributesToGet, Optional, Rule::Legacy),
+    Member(Name::ConsistentRead, Optional, Rule::Flag),
     NAMES,
-    Member(Name::Key, Required, Form::Item),
+    Member(Name::Key, Required, ITEM),
     PROJECTED,
     CAPACITY,
     METRICS,
-    Member(Name::TableName, Required, Form::TableName),
+    Member(Name::TableName, Required, TABLE_NAME),
 ];
 
 /// API Reference: UpdateItem.
-pub const UPDATE_ITEM: [Member; 12] = [
-    Member(Name::AttributeUpdates, Optional, Form::Legacy),
+pub const UPDATE_ITEM: [Member; 13] = [
+    Member(Name::AttributeUpdates, Optional, Rule::Legacy),
     CONDITION,
-    Member(Name::ConditionalOperator, Optional, Form::Legacy),
-    Member(Name::Expected, Optional, Form::Legacy),
+    Member(Name::ConditionalOperator, Optional, Rule::Legacy),
+    Member(Name::Expected, Optional, Rule::Legacy),
     NAMES,
     VALUES,
-    Member(Name::Key, Required, Form::Item),
+    Member(Name::Key, Required, ITEM),
     CAPACITY,
     METRICS,
-    Member(Name::ReturnValues, Optional, Form::UpdateImage),
-    Member(Name::TableName, Required, Form::TableName),
-    Member(Name::UpdateExpression, Optional, Form::Text),
+    Member(Name::ReturnValues, Optional, Rule::Word(Words::UpdateImage)),
+    FAILED_IMAGE,
+    Member(Name::TableName, Required, TABLE_NAME),
+    Member(Name::UpdateExpression, Optional, TEXT),
 ];
 
 /// API Reference: DeleteItem.
-pub const DELETE_ITEM: [Member; 10] = [
+pub const DELETE_ITEM: [Member; 11] = [
     CONDITION,
-    Member(Name::ConditionalOperator, Optional, Form::Legacy),
-    Member(Name::Expected, Optional, Form::Legacy),
+    Member(Name::ConditionalOperator, Optional, Rule::Legacy),
+    Member(Name::Expected, Optional, Rule::Legacy),
     NAMES,
     VALUES,
-    Member(Name::Key, Required, Form::Item),
+    Member(Name::Key, Required, ITEM),
     CAPACITY,
     METRICS,
-    Member(Name::ReturnValues, Optional, Form::OldImage),
-    Member(Name::TableName, Required, Form::TableName),
+    Member(Name::ReturnValues, Optional, OLD_IMAGE),
+    FAILED_IMAGE,
+    Member(Name::TableName, Required, TABLE_NAME),
 ];
 
 /// API Reference: BatchGetItem.
 pub const BATCH_GET_ITEM: [Member; 3] = [
-    Member(Name::RequestItems, Required, Form::RequestedKeys),
+    Member(
+        Name::RequestItems,
+        Required,
+        Rule::Tables {
+            of: Form::KeysAndAttributes,
+            most: 100,
+        },
+    ),
     CAPACITY,
     METRICS,
 ];
 
 /// API Reference: BatchWriteItem.
 pub const BATCH_WRITE_ITEM: [Member; 3] = [
-    Member(Name::RequestItems, Required, Form::RequestedWrites),
+    Member(
+        Name::RequestItems,
+        Required,
+        Rule::Tables {
+            of: Form::WriteRequests,
+            most: 25,
+        },
+    ),
     CAPACITY,
     METRICS,
 ];
 
 /// API Reference: Query.
 pub const QUERY: [Member; 18] = [
-    Member(Name::AttributesToGet, Optional, Form::Legacy),
-    Member(Name::ConditionalOperator, Optional, Form::Legacy),
-    Member(Name::ConsistentRead, Optional, Form::Flag),
-    Member(Name::ExclusiveStartKey, Optional, Form::Item),
+    Member(Name::AttributesToGet, Optional, Rule::Legacy),
+    Member(Name::ConditionalOperator, Optional, Rule::Legacy),
+    Member(Name::ConsistentRead, Optional, Rule::Flag),
+    Member(Name::ExclusiveStartKey, Optional, ITEM),
     NAMES,
     VALUES,
     FILTER,
-    Member(Name::IndexName, Optional, Form::IndexName),
-    Member(Name::KeyConditionExpression, Required, Form::Text),
-    Member(Name::KeyConditions, Optional, Form::Legacy),
-    Member(Name::Limit, Optional, Form::Limit),
+    Member(Name::IndexName, Optional, TABLE_NAME),
+    Member(Name::KeyConditionExpression, Required, TEXT),
+    Member(Name::KeyConditions, Optional, Rule::Legacy),
+    Member(Name::Limit, Optional, LIMIT),
     PROJECTED,
-    Member(Name::QueryFilter, Optional, Form::Legacy),
+    Member(Name::QueryFilter, Optional, Rule::Legacy),
     CAPACITY,
     METRICS,
-    Member(Name::ScanIndexForward, Optional, Form::Flag),
-    Member(Name::Select, Optional, Form::Select),
-    Member(Name::TableName, Required, Form::TableName),
+    Member(Name::ScanIndexForward, Optional, Rule::Flag),
+    Member(Name::Select, Optional, Rule::Word(Words::Select)),
+    Member(Name::TableName, Required, TABLE_NAME),
 ];
 
 /// API Reference: Scan.
 pub const SCAN: [Member; 17] = [
-    Member(Name::AttributesToGet, Optional, Form::Legacy),
-    Member(Name::ConditionalOperator, Optional, Form::Legacy),
-    Member(Name::ConsistentRead, Optional, Form::Flag),
-    Member(Name::ExclusiveStartKey, Optional, Form::Item),
+    Member(Name::AttributesToGet, Optional, Rule::Legacy),
+    Member(Name::ConditionalOperator, Optional, Rule::Legacy),
+    Member(Name::ConsistentRead, Optional, Rule::Flag),
+    Member(Name::ExclusiveStartKey, Optional, ITEM),
     NAMES,
     VALUES,
     FILTER,
-    Member(Name::IndexName, Optional, Form::IndexName),
-    Member(Name::Limit, Optional, Form::Limit),
+    Member(Name::IndexName, Optional, TABLE_NAME),
+    Member(Name::Limit, Optional, LIMIT),
     PROJECTED,
     CAPACITY,
     METRICS,
-    Member(Name::ScanFilter, Optional, Form::Legacy),
-    Member(Name::Segment, With(Name::TotalSegments), Form::Segment),
-    Member(Name::Select, Optional, Form::Select),
-    Member(Name::TableName, Required, Form::TableName),
+    Member(Name::ScanFilter, Optional, Rule::Legacy),
+    Member(
+        Name::Segment,
+        With(Name::TotalSegments),
+        Rule::Whole {
+            least: 0,
+            most: 999_999,
+        },
+    ),
+    Member(Name::Select, Optional, Rule::Word(Words::Select)),
+    Member(Name::TableName, Required, TABLE_NAME),
     Member(
         Name::TotalSegments,
         With(Name::Segment),
-        Form::TotalSegments,
+        Rule::Whole {
+            least: 1,
+            most: 1_000_000,
+        },
     ),
 ];
 
 /// API Reference: TransactWriteItems.
 pub const TRANSACT_WRITE_ITEMS: [Member; 4] = [
-    Member(Name::ClientRequestToken, Optional, Form::Token),
+    Member(
+        Name::ClientRequestToken,
+        Optional,
+        Rule::Text(Spelling::Token),
+    ),
     CAPACITY,
     METRICS,
-    Member(Name::TransactItems, Required, Form::TransactWrites),
+    Member(
+        Name::TransactItems,
+        Required,
+        Rule::List {
+            of: Form::TransactWrite,
+            least: 1,
+            most: 100,
+        },
+    ),
 ];
 
 /// API Reference: TransactGetItems.
 pub const TRANSACT_GET_ITEMS: [Member; 3] = [
     CAPACITY,
     METRICS,
-    Member(Name::TransactItems, Required, Form::TransactGets),
+    Member(
+        Name::TransactItems,
+        Required,
+        Rule::List {
+            of: Form::TransactGet,
+            least: 1,
+            most: 100,
+        },
+    ),
 ];
 
 /// API Reference: AttributeDefinition.
 pub const DEFINITION: [Member; 2] = [
-    Member(Name::AttributeName, Required, Form::Text),
-    Member(Name::AttributeType, Required, Form::AttributeType),
+    Member(Name::AttributeName, Required, TEXT),
+    Member(
+        Name::AttributeType,
+        Required,
+        Rule::Word(Words::AttributeType),
+    ),
 ];
 
 /// API Reference: KeySchemaElement.
 pub const KEY_ELEMENT: [Member; 2] = [
-    Member(Name::AttributeName, Required, Form::Text),
-    Member(Name::KeyType, Required, Form::KeyType),
+    Member(Name::AttributeName, Required, TEXT),
+    Member(Name::KeyType, Required, Rule::Word(Words::KeyType)),
 ];
 
 /// API Reference: LocalSecondaryIndex, GlobalSecondaryIndex, CreateGlobalSecondaryIndexAction. An index's own
 /// throughput is ignored.
 pub const INDEX: [Member; 3] = [
-    Member(Name::IndexName, Required, Form::Text),
-    Member(Name::KeySchema, Required, Form::KeySchema),
-    Member(Name::Projection, Required, Form::Projection),
+    Member(Name::IndexName, Required, TEXT),
+    Member(Name::KeySchema, Required, KEY_SCHEMA),
+    Member(Name::Projection, Required, Rule::Object(Form::Projection)),
 ];
 
 /// API Reference: Projection.
 pub const PROJECTION: [Member; 2] = [
-    Member(Name::NonKeyAttributes, Optional, Form::NonKeyAttributes),
-    Member(Name::ProjectionType, Required, Form::ProjectionType),
+    Member(
+        Name::NonKeyAttributes,
+        Optional,
+        Rule::List {
+            of: Form::Text,
+            least: 0,
+            most: u64::MAX,
+        },
+    ),
+    Member(
+        Name::ProjectionType,
+        Required,
+        Rule::Word(Words::ProjectionType),
+    ),
 ];
 
 /// API Reference: ProvisionedThroughput.
 pub const THROUGHPUT: [Member; 2] = [
-    Member(Name::ReadCapacityUnits, Optional, Form::Units),
-    Member(Name::WriteCapacityUnits, Optional, Form::Units),
+    Member(Name::ReadCapacityUnits, Optional, UNITS),
+    Member(Name::WriteCapacityUnits, Optional, UNITS),
 ];
 
 /// API Reference: GlobalSecondaryIndexUpdate. A change of an index's throughput is ignored.
 pub const INDEX_UPDATE: [Member; 2] = [
-    Member(Name::Create, Optional, Form::Index),
-    Member(Name::Delete, Optional, Form::DeletedIndex),
+    Member(Name::Create, Optional, Rule::Object(Form::Index)),
+    Member(Name::Delete, Optional, Rule::Object(Form::DeletedIndex)),
 ];
 
 /// API Reference: DeleteGlobalSecondaryIndexAction.
-pub const DELETED_INDEX: [Member; 1] = [Member(Name::IndexName, Required, Form::IndexName)];
+pub const DELETED_INDEX: [Member; 1] = [Member(Name::IndexName, Required, TABLE_NAME)];
+
+/// API Reference: TimeToLiveSpecification.
+pub const TIME_TO_LIVE_SPECIFICATION: [Member; 2] = [
+    Member(
+        Name::AttributeName,
+        Required,
+        Rule::Text(Spelling::AttributeName),
+    ),
+    Member(Name::Enabled, Required, Rule::Flag),
+];
 
 /// API Reference: KeysAndAttributes.
 pub const KEYS_AND_ATTRIBUTES: [Member; 5] = [
-    Member(Name::AttributesToGet, Optional, Form::Legacy),
-    Member(Name::ConsistentRead, Optional, Form::Flag),
+    Member(Name::AttributesToGet, Optional, Rule::Legacy),
+    Member(Name::ConsistentRead, Optional, Rule::Flag),
     NAMES,
-    Member(Name::Keys, Required, Form::Keys),
+    Member(
+        Name::Keys,
+        Required,
+        Rule::List {
+            of: Form::Item,
+            least: 0,
+            most: u64::MAX,
+        },
+    ),
     PROJECTED,
 ];
 
 /// API Reference: WriteRequest.
 pub const WRITE_REQUEST: [Member; 2] = [
-    Member(Name::DeleteRequest, Optional, Form::DeleteRequest),
-    Member(Name::PutRequest, Optional, Form::PutRequest),
+    Member(
+        Name::DeleteRequest,
+        Optional,
+        Rule::Object(Form::DeleteRequest),
+    ),
+    Member(Name::PutRequest, Optional, Rule::Object(Form::PutRequest)),
 ];
 
 /// API Reference: PutRequest.
-pub const PUT_REQUEST: [Member; 1] = [Member(Name::Item, Required, Form::Item)];
+pub const PUT_REQUEST: [Member; 1] = [Member(Name::Item, Required, ITEM)];
 
 /// API Reference: DeleteRequest.
-pub const DELETE_REQUEST: [Member; 1] = [Member(Name::Key, Required, Form::Item)];
+pub const DELETE_REQUEST: [Member; 1] = [Member(Name::Key, Required, ITEM)];
 
 /// API Reference: TransactWriteItem.
 pub const TRANSACT_WRITE: [Member; 4] = [
-    Member(Name::ConditionCheck, Optional, Form::ConditionCheck),
-    Member(Name::Delete, Optional, Form::Delete),
-    Member(Name::Put, Optional, Form::Put),
-    Member(Name::Update, Optional, Form::Update),
+    Member(
+        Name::ConditionCheck,
+        Optional,
+        Rule::Object(Form::ConditionCheck),
+    ),
+    Member(Name::Delete, Optional, Rule::Object(Form::Delete)),
+    Member(Name::Put, Optional, Rule::Object(Form::Put)),
+    Member(Name::Update, Optional, Rule::Object(Form::Update)),
 ];
 
 /// API Reference: ConditionCheck.
 pub const CONDITION_CHECK: [Member; 6] = [
-    Member(Name::ConditionExpression, Required, Form::Text),
+    Member(Name::ConditionExpression, Required, TEXT),
     NAMES,
     VALUES,
-    Member(Name::Key, Required, Form::Item),
+    Member(Name::Key, Required, ITEM),
     FAILED_IMAGE,
-    Member(Name::TableName, Required, Form::TableName),
+    Member(Name::TableName, Required, TABLE_NAME),
 ];
 
 /// API Reference: Delete.
@@ -295,9 +479,9 @@ pub const DELETE: [Member; 6] = [
     CONDITION,
     NAMES,
     VALUES,
-    Member(Name::Key, Required, Form::Item),
+    Member(Name::Key, Required, ITEM),
     FAILED_IMAGE,
-    Member(Name::TableName, Required, Form::TableName),
+    Member(Name::TableName, Required, TABLE_NAME),
 ];
 
 /// API Reference: Put.
@@ -305,9 +489,9 @@ pub const PUT: [Member; 6] = [
     CONDITION,
     NAMES,
     VALUES,
-    Member(Name::Item, Required, Form::Item),
+    Member(Name::Item, Required, ITEM),
     FAILED_IMAGE,
-    Member(Name::TableName, Required, Form::TableName),
+    Member(Name::TableName, Required, TABLE_NAME),
 ];
 
 /// API Reference: Update.
@@ -315,19 +499,19 @@ pub const UPDATE: [Member; 7] = [
     CONDITION,
     NAMES,
     VALUES,
-    Member(Name::Key, Required, Form::Item),
+    Member(Name::Key, Required, ITEM),
     FAILED_IMAGE,
-    Member(Name::TableName, Required, Form::TableName),
-    Member(Name::UpdateExpression, Required, Form::Text),
+    Member(Name::TableName, Required, TABLE_NAME),
+    Member(Name::UpdateExpression, Required, TEXT),
 ];
 
 /// API Reference: TransactGetItem.
-pub const TRANSACT_GET: [Member; 1] = [Member(Name::Get, Required, Form::Get)];
+pub const TRANSACT_GET: [Member; 1] = [Member(Name::Get, Required, Rule::Object(Form::Get))];
 
 /// API Reference: Get.
 pub const GET: [Member; 4] = [
     NAMES,
-    Member(Name::Key, Required, Form::Item),
+    Member(Name::Key, Required, ITEM),
     PROJECTED,
-    Member(Name::TableName, Required, Form::TableName),
+    Member(Name::TableName, Required, TABLE_NAME),
 ];

@@ -1,7 +1,6 @@
 -- What is found by a batch, and what of it was left undone, in the shape of the request (API Reference: BatchGetItem,
 -- BatchWriteItem).
-use Rattle.std.specs.Prelude.{ℕ, List, codes, Option, option_map}
-use Rattle.serde_json.specs.Data as json
+use Rattle.std.specs.Prelude.{List, codes, option_map}
 use Rattle.serde_json.specs.Data.{Data, no_members, member, object, string, boolean}
 use Rattle.attr_value.specs.Tree.{Attributes}
 use Rattle.attr_json.specs.Written.{members_of}
@@ -23,7 +22,7 @@ items t = list_of item t.items
 abbrev pub names : List NamePair → Data
 names pairs = object_of (λ pair. pair.placeholder) (λ pair. string pair.name) pairs
 
--- keys that were not read, and how they were to be read
+-- keys that were not read, and how they were to be read; attributes in place of an expression are not told
 abbrev pub unread : TableKeys → Data
 unread t =
     object

@@ -1,6 +1,5 @@
 -- The body of every reply (API Reference: each operation's response elements).
 use Rattle.std.specs.Prelude.{ℕ, List, ◌++◌, codes, Option, None, Some, option_map}
-use Rattle.serde_json.specs.Data as json
 use Rattle.serde_json.specs.Data.{Data, no_members, member, object, string}
 use Rattle.serde_json.specs.Written.{compact_text}
 use Rattle.attr_value.specs.Tree.{Attributes}
@@ -18,7 +17,7 @@ use Rattle.table_model.specs.declared.reply.TableNames.{TableNames}
 use Rattle.request_parts.specs.declared.refusal.Refusal.{Refusal as EdgeRefusal}
 use Rattle.api_reply.specs.declared.kind.ErrorKind.TheVariants as kind
 use Rattle.api_reply.specs.Batches.{item, items, unread, unwritten}
-use Rattle.api_reply.specs.Descriptions.{description}
+use Rattle.api_reply.specs.Descriptions.{description, specification, time_to_live}
 use Rattle.api_reply.specs.Edge.{edge_kind, edge_message}
 use Rattle.api_reply.specs.Errors.{error, typed}
 use Rattle.api_reply.specs.Json.{whole, optional, list_of, object_of}
@@ -55,7 +54,15 @@ cancelled reasons message =
     (member (codes "CancellationReasons") (list_of reason_data reasons)
     (member (codes "Message") (string message) (typed kind.TransactionCanceled no_members)))
 
+-- a condition that was false, with the item of which it was where that is shown
+abbrev pub failed : Option Attributes → List ℕ → Data
+failed old message =
+    object
+    (optional (codes "Item") (option_map item old)
+    (typed kind.ConditionalCheckFailed (member (codes "message") (string message) no_members)))
+
 abbrev pub refusal_data : Refusal → Data
+refusal_data (refusal.ConditionFailed old) = failed old (message_of (refusal.ConditionFailed old))
 refusal_data (refusal.Cancelled reasons) = cancelled reasons (message_of (refusal.Cancelled reasons))
 refusal_data why = error (kind_of why) (message_of why)
 
@@ -91,17 +98,20 @@ page p =
 abbrev pub transact_read : List (Option Attributes) → Data
 transact_read found = object (member (codes "Responses") (list_of (shown (codes "Item")) found) no_members)
 
+-- what was consumed of the tables' capacity is not told
 abbrev pub data_of : Reply → Data
 data_of (reply.Described schema) = object (member (codes "TableDescription") (description schema) no_members)
 data_of (reply.Table schema) = object (member (codes "Table") (description schema) no_members)
 data_of (reply.Tables names) = tables names
-data_of (reply.Written attributes) = shown (codes "Attributes") attributes
-data_of (reply.Read attributes) = shown (codes "Item") attributes
-data_of (reply.BatchRead found rest) = batch_read found rest
-data_of (reply.BatchWritten rest) = batch_written rest
-data_of (reply.Page p) = page p
-data_of reply.TransactWritten = object no_members
-data_of (reply.TransactRead found) = transact_read found
+data_of (reply.TimeToLiveSet name enabled) = object (member (codes "TimeToLiveSpecification") (specification name enabled) no_members)
+data_of (reply.TimeToLive name) = object (member (codes "TimeToLiveDescription") (time_to_live name) no_members)
+data_of (reply.Written attributes consumed) = shown (codes "Attributes") attributes
+data_of (reply.Read attributes consumed) = shown (codes "Item") attributes
+data_of (reply.BatchRead found rest consumed) = batch_read found rest
+data_of (reply.BatchWritten rest consumed) = batch_written rest
+data_of (reply.Page p consumed) = page p
+data_of (reply.TransactWritten consumed) = object no_members
+data_of (reply.TransactRead found consumed) = transact_read found
 data_of (reply.Refused why) = refusal_data why
 
 -- ---- bodies and statuses

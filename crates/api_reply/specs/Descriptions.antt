@@ -1,7 +1,7 @@
--- How a table is described (API Reference: TableDescription).
-use Rattle.std.specs.Prelude.{ℕ, ◌/◌, List, [], ◌∷◌, ◌++◌, codes, Bool, true, false, Option, None, Some}
+-- How a table is described (API Reference: TableDescription, TimeToLiveSpecification, TimeToLiveDescription).
+use Rattle.std.specs.Prelude.{ℕ, ◌/◌, List, [], ◌∷◌, ◌++◌, codes, Bool, true, false, Option, None, Some, option_map}
 use Rattle.serde_json.specs.Data as json
-use Rattle.serde_json.specs.Data.{Data, Members, no_members, member, object, string}
+use Rattle.serde_json.specs.Data.{Data, Members, no_members, member, object, string, boolean}
 use Rattle.table_schema.specs.declared.definition.Definition.{Definition}
 use Rattle.table_schema.specs.declared.definition.KeyKind.{KeyKind}
 use Rattle.table_schema.specs.declared.definition.KeyKind.TheVariants as kind
@@ -109,3 +109,20 @@ description s =
     (member (codes "TableArn") (string (arn s.name))
     (member (codes "TableName") (string s.name)
     (member (codes "TableStatus") (string (codes "ACTIVE")) no_members))))))))))
+
+-- ---- time to live
+
+-- as it was stated
+abbrev pub specification : List ℕ → Bool → Data
+specification name enabled = object (member (codes "AttributeName") (string name) (member (codes "Enabled") (boolean enabled) no_members))
+
+abbrev pub ttl_status : Option (List ℕ) → List ℕ
+ttl_status None = codes "DISABLED"
+ttl_status (Some name) = codes "ENABLED"
+
+-- the attribute by which items expire, where they do
+abbrev pub time_to_live : Option (List ℕ) → Data
+time_to_live name =
+    object
+    (optional (codes "AttributeName") (option_map string name)
+    (member (codes "TimeToLiveStatus") (string (ttl_status name)) no_members))

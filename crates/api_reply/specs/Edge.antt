@@ -1,5 +1,5 @@
 -- What people are told of a message that is refused before the tables are looked at. The texts are this project's own.
-use Rattle.std.specs.Prelude.{ℕ, List, [], ◌++◌, codes, decimal}
+use Rattle.std.specs.Prelude.{ℕ, List, ◌++◌, codes, decimal}
 use Rattle.table_schema.specs.FaultName.{name_of as schema_fault}
 use Rattle.attr_json.specs.Names.{name_of as json_fault}
 use Rattle.expr_words.specs.declared.parse_end.Clause.{Clause}

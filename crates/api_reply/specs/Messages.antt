@@ -1,6 +1,5 @@
 -- What people are told of a refusal that hangs on the tables. The texts are this project's own.
 use Rattle.std.specs.Prelude.{ℕ, List, [], ◌∷◌, ◌++◌, codes}
-use Rattle.attr_value.specs.Tree.{Attributes}
 use Rattle.number38.specs.declared.number.NumberFault.{NumberFault}
 use Rattle.number38.specs.declared.number.NumberFault.TheVariants as number
 use Rattle.table_schema.specs.FaultName.{name_of as schema_fault}
@@ -10,6 +9,8 @@ use Rattle.update_eval.specs.declared.fault.EvalFault.{EvalFault}
 use Rattle.update_eval.specs.declared.fault.EvalFault.TheVariants as eval
 use Rattle.table_model.specs.declared.refusal.Invalid.{Invalid}
 use Rattle.table_model.specs.declared.refusal.Invalid.TheVariants as invalid
+use Rattle.table_model.specs.declared.refusal.TtlFault.{TtlFault}
+use Rattle.table_model.specs.declared.refusal.TtlFault.TheVariants as ttl
 use Rattle.table_model.specs.declared.refusal.Reason.{Reason}
 use Rattle.table_model.specs.declared.refusal.Reason.TheVariants as reason
 use Rattle.table_model.specs.declared.refusal.Refusal.{Refusal}
@@ -52,6 +53,11 @@ eval_fault eval.IndexKey = codes "IndexKey"
 
 -- ---- whole requests
 
+abbrev pub ttl_fault : TtlFault → List ℕ
+ttl_fault ttl.AlreadyEnabled = codes "AlreadyEnabled"
+ttl_fault ttl.AlreadyDisabled = codes "AlreadyDisabled"
+ttl_fault ttl.OtherAttribute = codes "OtherAttribute"
+
 abbrev pub invalid_message : Invalid → List ℕ
 invalid_message (invalid.Schema fault) = codes "Table schema is not valid: " ++ schema_fault fault
 invalid_message (invalid.Key fault) = codes "The provided key is not valid: " ++ key_fault fault
@@ -66,6 +72,7 @@ invalid_message invalid.StartKey = codes "The start key is not valid"
 invalid_message invalid.Twice = codes "Two operations on one item"
 invalid_message (invalid.Evaluation fault) = codes "Update is not valid: " ++ eval_fault fault
 invalid_message invalid.ItemTooLarge = codes "Item size has exceeded the maximum allowed size"
+invalid_message (invalid.TimeToLive fault) = codes "Time to live is not valid: " ++ ttl_fault fault
 
 abbrev pub message_of : Refusal → List ℕ
 message_of (refusal.Invalid why) = invalid_message why
@@ -73,7 +80,7 @@ message_of (refusal.NoTable name) = codes "Requested resource not found: Table: 
 message_of (refusal.NoIndex name) = codes "Requested resource not found: Index: " ++ name ++ codes " not found"
 message_of (refusal.TableExists name) = codes "Table already exists: " ++ name
 message_of (refusal.TableHeld name) = codes "A transaction holds an item of table: " ++ name
-message_of refusal.ConditionFailed = codes "The conditional request failed"
+message_of (refusal.ConditionFailed old) = codes "The conditional request failed"
 message_of (refusal.Cancelled reasons) =
     codes "Transaction cancelled, please refer cancellation reasons for specific reasons [" ++ codes_of reasons ++ codes "]"
 message_of (refusal.Conflict number) = codes "Transaction is ongoing for the item"
@@ -86,7 +93,7 @@ kind_of (refusal.NoTable name) = kind.ResourceNotFound
 kind_of (refusal.NoIndex name) = kind.ResourceNotFound
 kind_of (refusal.TableExists name) = kind.ResourceInUse
 kind_of (refusal.TableHeld name) = kind.ResourceInUse
-kind_of refusal.ConditionFailed = kind.ConditionalCheckFailed
+kind_of (refusal.ConditionFailed old) = kind.ConditionalCheckFailed
 kind_of (refusal.Cancelled reasons) = kind.TransactionCanceled
 kind_of (refusal.Conflict number) = kind.TransactionConflict
 kind_of refusal.Mismatch = kind.IdempotentParameterMismatch

@@ -2,12 +2,13 @@
 
 ghost use Rattle.std.specs.Prelude.{◌≡◌, ◌++◌, OnOk};
 ghost use Rattle.attr_json.specs.Text.{tokens_of};
-ghost use Rattle.api_reply.specs.Bodies.{cancelled, refusal_data};
+ghost use Rattle.api_reply.specs.Bodies.{cancelled, failed, refusal_data};
 ghost use Rattle.api_reply.specs.Errors.{error, text_first, type_first};
 
 use crate::kind::ErrorKind;
 use crate::message::{kind_of, message_of};
-use crate::to_json::{ToJson, write_list_member, write_text};
+use crate::to_json::{ToJson, write_list_member, write_optional, write_text};
+use attr_value::SharedItem;
 use base_types::Seq;
 use json::Writer;
 use std::alloc::{AllocError as NoMemory, Global};
@@ -61,6 +62,9 @@ impl ToJson for Refusal {
             Refusal::Cancelled(reasons) => {
                 write_cancelled(alloc, writer, reasons, message.as_str())
             }
+            Refusal::ConditionFailed { old } => {
+                write_failed(alloc, writer, old, message.as_str())
+            }
             _ => write_error(writer, kind_of(self), message.as_str()),
         }
     }
@@ -80,5 +84,26 @@ fn write_cancelled(
     write_list_member(alloc, writer, "CancellationReasons", reasons)?;
     write_text(writer, "Message", message)?;
     write_text(writer, "__type", ErrorKind::TransactionCanceled.type_name())?;
+    writer.end_object()
+}
+
+/// Writes the error of a condition that was false, with the item where it is shown.
+fn write_failed(
+    alloc: Global,
+    writer: &mut Writer,
+    old: &Option<SharedItem>,
+    message: &str,
+) -> Result<(), NoMemory>
+    ensures tokens { OnOk result (writer.new.tokens ≡ writer.old.tokens ++ tokens_of (failed old.now message.now)) }
+    ensures before { writer.new.before ≡ writer.old.before }
+{
+    writer.begin_object()?;
+    write_optional(alloc, writer, "Item", old)?;
+    write_text(
+        writer,
+        "__type",
+        ErrorKind::ConditionalCheckFailed.type_name(),
+    )?;
+    write_text(writer, "message", message)?;
     writer.end_object()
 }

@@ -16,6 +16,7 @@ mod kind;
 mod message;
 mod reason;
 mod reply;
+mod time_to_live;
 mod to_json;
 
 pub use kind::ErrorKind;

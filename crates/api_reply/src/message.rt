@@ -1,12 +1,12 @@
 //! What people are told of a refusal that hangs on the tables.
 
 ghost use Rattle.std.specs.Prelude.{◌≡◌, ◌++◌, IfOk, OnOk, codes, string_bytes};
-ghost use Rattle.api_reply.specs.Messages.{code_of, codes_of, eval_fault, invalid_message, kind_of, message_of};
+ghost use Rattle.api_reply.specs.Messages.{code_of, codes_of, eval_fault, invalid_message, kind_of, message_of, ttl_fault};
 
 use crate::kind::ErrorKind;
 use number38::NumberFault;
 use std::alloc::{AllocError as NoMemory, Global};
-use table_model::{Invalid, Reason, Refusal};
+use table_model::{Invalid, Reason, Refusal, TtlFault};
 use update_eval::EvalFault;
 
 /// The kind of the error.
@@ -17,7 +17,7 @@ pub fn kind_of(refusal: &Refusal) -> ErrorKind
         Refusal::Invalid(_) => ErrorKind::Validation,
         Refusal::NoTable(_) | Refusal::NoIndex(_) => ErrorKind::ResourceNotFound,
         Refusal::TableExists(_) | Refusal::TableHeld(_) => ErrorKind::ResourceInUse,
-        Refusal::ConditionFailed => ErrorKind::ConditionalCheckFailed,
+        Refusal::ConditionFailed { .. } => ErrorKind::ConditionalCheckFailed,
         Refusal::Cancelled(_) => ErrorKind::TransactionCanceled,
         Refusal::Conflict { .. } => ErrorKind::TransactionConflict,
         Refusal::Mismatch => ErrorKind::IdempotentParameterMismatch,
@@ -41,7 +41,9 @@ pub fn message_of(alloc: Global, refusal: &Refusal) -> Result<String, NoMemory>
         Refusal::TableHeld(name) => {
             format!(in alloc; "A transaction holds an item of table: {name}")
         }
-        Refusal::ConditionFailed => String::from_str(alloc, "The conditional request failed"),
+        Refusal::ConditionFailed { .. } => {
+            String::from_str(alloc, "The conditional request failed")
+        }
         Refusal::Cancelled(reasons) => cancelled_message(alloc, reasons.as_slice()),
         Refusal::Conflict { .. } => String::from_str(alloc, "Transaction is ongoing for the item"),
         Refusal::Mismatch => String::from_str(
@@ -77,6 +79,26 @@ fn invalid_message(alloc: Global, why: &Invalid) -> Result<String, NoMemory>
         Invalid::ItemTooLarge => {
             String::from_str(alloc, "Item size has exceeded the maximum allowed size")
         }
+        Invalid::TimeToLive(fault) => ttl_message(alloc, *fault),
+    }
+}
+
+/// The text of a time to live that a table can't have.
+fn ttl_message(alloc: Global, fault: TtlFault) -> Result<String, NoMemory>
+    ensures { IfOk result (λ text. string_bytes text ≡ codes "Time to live is not valid: " ++ ttl_fault fault) }
+{
+    let name = ttl_fault(fault);
+    format!(in alloc; "Time to live is not valid: {name}")
+}
+
+/// The fault's name.
+fn ttl_fault(fault: TtlFault) -> &'static str
+    ensures { result.now ≡ ttl_fault fault }
+{
+    match fault {
+        TtlFault::AlreadyEnabled => "AlreadyEnabled",
+        TtlFault::AlreadyDisabled => "AlreadyDisabled",
+        TtlFault::OtherAttribute => "OtherAttribute",
     }
 }
 

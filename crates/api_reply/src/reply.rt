@@ -11,6 +11,7 @@ ghost use Rattle.api_reply.specs.Json.{Adds, list_of, optional};
 use crate::edge::{edge_kind, edge_message};
 use crate::error::write_error;
 use crate::message::kind_of;
+use crate::time_to_live::{Description, Specification};
 use crate::to_json::{
     ToJson, write_list_member, write_named, write_object_member, write_optional, write_whole,
 };
@@ -32,7 +33,8 @@ pub fn status(reply: &Reply) -> u16
     }
 }
 
-/// The body of a reply: compact JSON, the members of each object in the order of their names.
+/// The body of a reply: compact JSON, the members of each object in the order of their names. What was consumed of the
+/// tables' capacity is not told.
 pub fn body(alloc: Global, reply: &Reply) -> Result<String, NoMemory>
     ensures { IfOk result (λ text. string_bytes text ≡ body_of reply.now) }
 {
@@ -86,13 +88,26 @@ impl ToJson for Reply {
             Reply::Described(schema) => write_named(alloc, writer, "TableDescription", schema),
             Reply::Table(schema) => write_named(alloc, writer, "Table", schema),
             Reply::Tables(names) => names.write(alloc, writer),
-            Reply::Written(item) => write_shown(alloc, writer, "Attributes", item),
-            Reply::Read(item) => write_shown(alloc, writer, "Item", item),
-            Reply::BatchRead { found, unread } => { write_batch_read(alloc, writer, found, unread) }
-            Reply::BatchWritten { unwritten } => { write_batch_written(alloc, writer, unwritten) }
-            Reply::Page(page) => page.write(alloc, writer),
-            Reply::TransactWritten => write_nothing(writer),
-            Reply::TransactRead(found) => write_responses(alloc, writer, found),
+            Reply::TimeToLiveSet { name, enabled } => {
+                let stated = Specification {
+                    name,
+                    enabled: *enabled,
+                };
+                write_named(alloc, writer, "TimeToLiveSpecification", &stated)
+            }
+            Reply::TimeToLive(name) => {
+                let described = Description { name };
+                write_named(alloc, writer, "TimeToLiveDescription", &described)
+            }
+            Reply::Written { shown, .. } => write_shown(alloc, writer, "Attributes", shown),
+            Reply::Read { shown, .. } => write_shown(alloc, writer, "Item", shown),
+            Reply::BatchRead { found, unread, .. } => {
+                write_batch_read(alloc, writer, found, unread)
+            }
+            Reply::BatchWritten { unwritten, .. } => write_batch_written(alloc, writer, unwritten),
+            Reply::Page { page, .. } => page.write(alloc, writer),
+            Reply::TransactWritten { .. } => write_nothing(writer),
+            Reply::TransactRead { shown, .. } => write_responses(alloc, writer, shown),
             Reply::Refused(refusal) => refusal.write(alloc, writer),
         }
     }

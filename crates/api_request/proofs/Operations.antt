@@ -29,7 +29,8 @@ one_missed o here others name is not_it missed = subst (λ os. Miss os name) (sy
 abbrev pub all : List Operation
 all = operation.PutItem ∷ operation.GetItem ∷ operation.UpdateItem ∷ operation.DeleteItem ∷ operation.Query ∷ operation.Scan
     ∷ operation.BatchGetItem ∷ operation.BatchWriteItem ∷ operation.TransactWriteItems ∷ operation.TransactGetItems
-    ∷ operation.CreateTable ∷ operation.DeleteTable ∷ operation.UpdateTable ∷ operation.DescribeTable ∷ operation.ListTables ∷ []
+    ∷ operation.CreateTable ∷ operation.DeleteTable ∷ operation.UpdateTable ∷ operation.DescribeTable ∷ operation.ListTables
+    ∷ operation.UpdateTimeToLive ∷ operation.DescribeTimeToLive ∷ []
 
 -- where none of them has it, no operation has
 pub no_operation : (name : List ℕ) → Miss all name → (o : Operation) → ¬ (name ≡ name_of o)
@@ -49,6 +50,8 @@ no_operation name none operation.DeleteTable = none.1.1.1.1.1.1.1.1.1.1.1.0
 no_operation name none operation.UpdateTable = none.1.1.1.1.1.1.1.1.1.1.1.1.0
 no_operation name none operation.DescribeTable = none.1.1.1.1.1.1.1.1.1.1.1.1.1.0
 no_operation name none operation.ListTables = none.1.1.1.1.1.1.1.1.1.1.1.1.1.1.0
+no_operation name none operation.UpdateTimeToLive = none.1.1.1.1.1.1.1.1.1.1.1.1.1.1.1.0
+no_operation name none operation.DescribeTimeToLive = none.1.1.1.1.1.1.1.1.1.1.1.1.1.1.1.1.0
 
 -- the texts before and behind a seam are known from the whole
 pub version_stripped : (version target name : List ℕ) → pointwise nat_eq (take (length version) target) version ≡ true

@@ -1,5 +1,5 @@
 -- The size of the actions of a transaction, as a number that stops at its limit.
-use Rattle.std.proofs.Common.{◌≡◌, ℕ, ◌+◌, ◌-◌, ◌^◌, ◌<◌, ◌≤◌, List, [], ◌∷◌, min, map, sum_by, refl, sym, ap, subst, ◌∙◌, inl, inr, Result, Ok, Err, arith}
+use Rattle.std.proofs.Common.{◌≡◌, ℕ, ◌+◌, ◌-◌, ◌^◌, ◌<◌, ◌≤◌, List, [], ◌∷◌, min, map, sum_by, refl, sym, ap, subst, ◌∙◌, inl, inr, None, Result, Ok, Err, arith}
 use Rattle.std.proofs.lemmas.List.Sums.{sum_by-cons}
 use Rattle.serde_json.specs.Data.{Data, Items, no_items, item}
 use Rattle.attr_value.specs.declared.value.Value.{Value}
@@ -107,11 +107,12 @@ write_refused d ds (Refused why) listed told = subst (λ x. IsWriteRefused x why
 write_refused d ds NoMemory listed told = tt
 
 pub write_stated : (d : Data) (ds : Items) (r : TransactWrite) → ds ≡ list_at name.TransactItems d
-    → AreActions ds (Ok r.actions) → r.token ≡ stated_text name.ClientRequestToken d → IsToldOf (IsTransactWrite d) (Ok r)
-write_stated d ds r listed told token = record {
+    → AreActions ds (Ok r.actions) → r.token ≡ stated_text name.ClientRequestToken d → r.consumed ≡ None → IsToldOf (IsTransactWrite d) (Ok r)
+write_stated d ds r listed told token none = record {
   room = subst (λ x. total_size x ≤ most_bytes) listed told.0;
   actions = subst (λ x. AreParts action_asks StatesActionIn x (Ok r.actions)) listed told.1;
   token = token;
+  consumed = none;
 }
 
 -- ---- all reads

@@ -1,6 +1,6 @@
 -- What the bodies of BatchGetItem and BatchWriteItem state (API Reference: BatchGetItem, BatchWriteItem). Tables come in
 -- the order of their names' bytes, as the members of the body's object do.
-use Rattle.std.specs.Prelude.{◌≡◌, ⊤, ℕ, List, [], ◌∷◌, Option, Some, None, option_map, option_and_then, Result, Ok, Err}
+use Rattle.std.specs.Prelude.{◌≡◌, ⊤, ℕ, List, [], ◌∷◌, false, Option, Some, None, option_map, option_and_then, Result, Ok, Err}
 use Rattle.serde_json.specs.Data.{Data, Members, no_members, member}
 use Rattle.serde_json.specs.Find.{as_object}
 use Rattle.attr_value.specs.Tree.{Attributes}
@@ -31,6 +31,7 @@ pub record StatesKeys (table : List ℕ) (d : Data) (r : TableKeys) : Type 0 whe
   pub consistent : r.consistent ≡ stated_flag name.ConsistentRead d
   pub expression : r.expression ≡ stated_text name.ProjectionExpression d
   pub names : r.names ≡ stated_names d
+  pub attributes : r.attributes ≡ None
 
 -- the expressions of the tables, in order
 abbrev pub table_asks : Members → List Asks
@@ -47,7 +48,7 @@ AreTables ms (Ok rs) = EachStatesKeys ms rs × AreAccepted (table_asks ms)
 AreTables ms (Err why) = IsFirstRefused (table_asks ms) why
 
 abbrev pub IsBatchGet : Data → Result BatchGet Refusal → Type 0
-IsBatchGet d (Ok r) = AreTables (members_in name.RequestItems d) (Ok r.tables)
+IsBatchGet d (Ok r) = AreTables (members_in name.RequestItems d) (Ok r.tables) × (r.capacity ≡ false)
 IsBatchGet d (Err why) = AreTables (members_in name.RequestItems d) (Err why)
 
 -- an item that is put, or else one that is dropped by its key
@@ -62,5 +63,6 @@ abbrev pub table_writes : Members → List TableWrites
 table_writes no_members = []
 table_writes (member k d ms) = record { table = k; writes = each write_in (elements d) } ∷ table_writes ms
 
-abbrev pub IsBatchWrite : Data → BatchWrite → Type 0
-IsBatchWrite d r = r.tables ≡ table_writes (members_in name.RequestItems d)
+pub record IsBatchWrite (d : Data) (r : BatchWrite) : Type 0 where
+  pub tables : r.tables ≡ table_writes (members_in name.RequestItems d)
+  pub capacity : r.capacity ≡ false

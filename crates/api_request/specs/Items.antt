@@ -1,5 +1,6 @@
--- What the bodies of requests of one item state (API Reference: PutItem, GetItem, UpdateItem, DeleteItem).
-use Rattle.std.specs.Prelude.{◌≡◌, List, ℕ, Result, map, codes, bytes_eq, if◌then◌else◌}
+-- What the bodies of requests of one item state (API Reference: PutItem, GetItem, UpdateItem, DeleteItem). No request asks
+-- for capacity: ReturnConsumedCapacity is read for its word alone.
+use Rattle.std.specs.Prelude.{◌≡◌, List, ℕ, Bool, false, Result, map, codes, bytes_eq, if◌then◌else◌}
 use Rattle.serde_json.specs.Data.{Data}
 use Rattle.attr_value.specs.View.{tree_of}
 use Rattle.api_form.specs.declared.name.Name.TheVariants as name
@@ -24,6 +25,10 @@ returns_named word =
     else (if bytes_eq word (codes "ALL_NEW") then returns.AllNew
     else (if bytes_eq word (codes "UPDATED_NEW") then returns.UpdatedNew else returns.None)))
 
+-- whether the item is shown where the condition is false of it
+abbrev pub shows_old : Data → Bool
+shows_old d = bytes_eq (text_at name.ReturnValuesOnConditionCheckFailure d) (codes "ALL_OLD")
+
 -- the expressions of an update
 abbrev pub update_asks : Data → Asks
 update_asks d = record {
@@ -37,6 +42,8 @@ pub record StatesPutItem (d : Data) (r : PutItem) : Type 0 where
   pub condition : StatesCondition (known d) name.ConditionExpression (stated_text name.ConditionExpression d) r.condition
   pub values : map tree_of r.values ≡ (known d).values
   pub return_values : r.return_values ≡ returns_named (text_at name.ReturnValues d)
+  pub show_old : r.show_old ≡ shows_old d
+  pub capacity : r.capacity ≡ false
 
 abbrev pub IsPutItem : Data → Result PutItem Refusal → Type 0
 IsPutItem = IsPart condition_asks StatesPutItem
@@ -46,6 +53,7 @@ pub record StatesGetItem (d : Data) (r : GetItem) : Type 0 where
   pub key : r.key ≡ item_at name.Key d
   pub projection : StatesPaths (known_names d) (stated_text name.ProjectionExpression d) r.projection
   pub consistent : r.consistent ≡ flag_at name.ConsistentRead d
+  pub capacity : r.capacity ≡ false
 
 abbrev pub IsGetItem : Data → Result GetItem Refusal → Type 0
 IsGetItem = IsPart projection_asks StatesGetItem
@@ -57,6 +65,8 @@ pub record StatesUpdateItem (d : Data) (r : UpdateItem) : Type 0 where
   pub condition : StatesCondition (known d) name.ConditionExpression (stated_text name.ConditionExpression d) r.condition
   pub values : map tree_of r.values ≡ (known d).values
   pub return_values : r.return_values ≡ returns_named (text_at name.ReturnValues d)
+  pub show_old : r.show_old ≡ shows_old d
+  pub capacity : r.capacity ≡ false
 
 abbrev pub IsUpdateItem : Data → Result UpdateItem Refusal → Type 0
 IsUpdateItem = IsPart update_asks StatesUpdateItem
@@ -67,6 +77,8 @@ pub record StatesDeleteItem (d : Data) (r : DeleteItem) : Type 0 where
   pub condition : StatesCondition (known d) name.ConditionExpression (stated_text name.ConditionExpression d) r.condition
   pub values : map tree_of r.values ≡ (known d).values
   pub return_values : r.return_values ≡ returns_named (text_at name.ReturnValues d)
+  pub show_old : r.show_old ≡ shows_old d
+  pub capacity : r.capacity ≡ false
 
 abbrev pub IsDeleteItem : Data → Result DeleteItem Refusal → Type 0
 IsDeleteItem = IsPart condition_asks StatesDeleteItem

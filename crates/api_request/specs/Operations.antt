@@ -22,6 +22,8 @@ name_of operation.DeleteTable = codes "DeleteTable"
 name_of operation.UpdateTable = codes "UpdateTable"
 name_of operation.DescribeTable = codes "DescribeTable"
 name_of operation.ListTables = codes "ListTables"
+name_of operation.UpdateTimeToLive = codes "UpdateTimeToLive"
+name_of operation.DescribeTimeToLive = codes "DescribeTimeToLive"
 
 -- the operation of a name, where there is one
 abbrev pub HasName : List ℕ → Option Operation → Type 0
@@ -60,3 +62,5 @@ form_of operation.DeleteTable = form.DeleteTable
 form_of operation.UpdateTable = form.UpdateTable
 form_of operation.DescribeTable = form.DescribeTable
 form_of operation.ListTables = form.ListTables
+form_of operation.UpdateTimeToLive = form.UpdateTimeToLive
+form_of operation.DescribeTimeToLive = form.DescribeTimeToLive

@@ -1,5 +1,5 @@
 -- What the bodies of Query and Scan state (API Reference: Query, Scan).
-use Rattle.std.specs.Prelude.{◌≡◌, ℕ, List, true, Option, option_map, unwrap_or, Result, Ok, map, codes, bytes_eq, if◌then◌else◌}
+use Rattle.std.specs.Prelude.{◌≡◌, ℕ, List, true, false, Option, option_map, unwrap_or, Result, Ok, map, codes, bytes_eq, if◌then◌else◌}
 use Rattle.serde_json.specs.Data.{Data}
 use Rattle.attr_value.specs.View.{tree_of}
 use Rattle.expr_words.specs.Trees.{tree}
@@ -42,6 +42,7 @@ pub record StatesPage (d : Data) (r : PageRequest) : Type 0 where
   pub limit : r.limit ≡ stated_whole name.Limit d
   pub start : r.start ≡ stated_item name.ExclusiveStartKey d
   pub consistent : r.consistent ≡ flag_at name.ConsistentRead d
+  pub capacity : r.capacity ≡ false
 
 -- the expressions of a Scan
 abbrev pub scan_asks : Data → Asks
@@ -97,3 +98,4 @@ pub record IsPageOf (at : Rows) (t : PageTrees) (vs : List Value) (r : PageReque
   pub limit : r.limit ≡ at.limit
   pub start : r.start ≡ at.start
   pub consistent : r.consistent ≡ at.consistent
+  pub capacity : r.capacity ≡ false

@@ -12,7 +12,7 @@ use Rattle.request_parts.specs.declared.refusal.Refusal.TheVariants as refusal
 use Rattle.api_request.specs.declared.operation.Operation.{Operation}
 use Rattle.api_request.specs.declared.operation.Operation.TheVariants as operation
 use Rattle.api_request.specs.Operations.{form_of, IsNamed}
-use Rattle.api_request.specs.Catalog.{IsDeleteTable, IsDescribeTable, IsListTables}
+use Rattle.api_request.specs.Catalog.{IsDeleteTable, IsDescribeTable, IsListTables, IsUpdateTimeToLive, IsDescribeTimeToLive}
 use Rattle.api_request.specs.Schemas.{IsCreateTable}
 use Rattle.api_request.specs.Tables.{IsUpdateTable}
 use Rattle.api_request.specs.Items.{IsPutItem, IsGetItem, IsUpdateItem, IsDeleteItem}
@@ -47,6 +47,8 @@ IsStated operation.DeleteTable d = IsOne request.DeleteTable (Always (IsDeleteTa
 IsStated operation.UpdateTable d = IsOne request.UpdateTable (IsUpdateTable d)
 IsStated operation.DescribeTable d = IsOne request.DescribeTable (Always (IsDescribeTable d))
 IsStated operation.ListTables d = IsOne request.ListTables (Always (IsListTables d))
+IsStated operation.UpdateTimeToLive d = IsOne request.UpdateTimeToLive (Always (IsUpdateTimeToLive d))
+IsStated operation.DescribeTimeToLive d = IsOne request.DescribeTimeToLive (Always (IsDescribeTimeToLive d))
 
 -- a fault of kinds says that the body is not of the shape of a request
 abbrev pub refusal_of : Fault → Refusal

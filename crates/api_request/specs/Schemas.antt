@@ -1,5 +1,5 @@
 -- What the body of a CreateTable states.
-use Rattle.std.specs.Prelude.{◌≡◌, ℕ, List, if◌then◌else◌, Option, unwrap_or, Result, Ok, Err, codes, bytes_eq}
+use Rattle.std.specs.Prelude.{◌≡◌, ℕ, List, if◌then◌else◌, Option, None, unwrap_or, Result, Ok, Err, codes, bytes_eq}
 use Rattle.serde_json.specs.Data.{Data}
 use Rattle.api_form.specs.declared.name.Name.{Name}
 use Rattle.api_form.specs.declared.name.Name.TheVariants as name
@@ -54,7 +54,7 @@ stated_index d = record {
 abbrev pub units_of : Name → Data → Option ℕ
 units_of unit d = stated_whole unit (inside name.ProvisionedThroughput d)
 
--- the schema as it is stated; units that are not count as 0
+-- the schema as it is stated; units that are not count as 0, and no item of a new table expires
 abbrev pub stated_schema : Data → StatedSchema
 stated_schema d = record {
   name = text_at name.TableName d;
@@ -66,6 +66,8 @@ stated_schema d = record {
   read_units = unwrap_or (units_of name.ReadCapacityUnits d) 0;
   write_units = unwrap_or (units_of name.WriteCapacityUnits d) 0;
   created = 0;
+  ttl = None;
+  stream = None;
 }
 
 -- the schema that is stated, where it keeps every rule, else the first rule that it breaks

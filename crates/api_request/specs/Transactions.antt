@@ -1,5 +1,5 @@
 -- What the bodies of TransactWriteItems and TransactGetItems state (API Reference: TransactWriteItems, TransactGetItems).
-use Rattle.std.specs.Prelude.{◌≡◌, ◌≤◌, ◌<◌, ◌+◌, ◌⊎◌, ℕ, List, Bool, map, sum_by, Option, Some, None, unwrap_or, Result, Ok, Err, codes, bytes_eq}
+use Rattle.std.specs.Prelude.{◌≡◌, ◌≤◌, ◌<◌, ◌+◌, ◌⊎◌, ℕ, List, false, map, sum_by, Option, Some, None, unwrap_or, Result, Ok, Err}
 use Rattle.serde_json.specs.Data.{Data, Items, no_items, item}
 use Rattle.attr_value.specs.declared.value.Value.{Value}
 use Rattle.attr_value.specs.Sizes.{size, item_size}
@@ -24,6 +24,7 @@ use Rattle.request_parts.specs.Expressions.{UpdateOf}
 use Rattle.request_parts.specs.Asks.{Asks, AreParts, IsFirstRefused, writing}
 use Rattle.request_parts.specs.Parts.{condition_asks, projection_asks}
 use Rattle.request_parts.specs.Trees.{StatesCondition, StatesPaths}
+use Rattle.api_request.specs.Items.{shows_old}
 
 -- ---- one action
 
@@ -76,10 +77,6 @@ IsChangeOf (ADelete d) (change.Delete key) = key ≡ item_at name.Key d
 IsChangeOf (ACheck d) (change.Check key) = key ≡ item_at name.Key d
 IsChangeOf _ _ = ⊥
 
--- whether the item is shown where the condition is false of it
-abbrev pub shows_old : Data → Bool
-shows_old d = bytes_eq (text_at name.ReturnValuesOnConditionCheckFailure d) (codes "ALL_OLD")
-
 pub record StatesAction (a : Action) (r : TransactAction) : Type 0 where
   pub table : r.table ≡ text_at name.TableName (body_of a)
   pub becomes : IsChangeOf a r.change
@@ -114,6 +111,7 @@ pub record StatesTransactWrite (d : Data) (r : TransactWrite) : Type 0 where
   pub room : total_size (list_at name.TransactItems d) ≤ most_bytes
   pub actions : AreParts action_asks StatesActionIn (list_at name.TransactItems d) (Ok r.actions)
   pub token : r.token ≡ stated_text name.ClientRequestToken d
+  pub consumed : r.consumed ≡ None
 
 -- the refusal of actions that are too large together
 abbrev pub too_large : Refusal
@@ -148,7 +146,7 @@ abbrev pub read_asks : Data → Asks
 read_asks d = projection_asks (get_in d)
 
 abbrev pub IsTransactGet : Data → Result TransactGet Refusal → Type 0
-IsTransactGet d (Ok r) = AreParts read_asks StatesRead (list_at name.TransactItems d) (Ok r.reads)
+IsTransactGet d (Ok r) = AreParts read_asks StatesRead (list_at name.TransactItems d) (Ok r.reads) × (r.capacity ≡ false)
 IsTransactGet d (Err why) = IsFirstRefused (each read_asks (list_at name.TransactItems d)) why
 
 -- ---- what the code hands on

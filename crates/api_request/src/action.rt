@@ -8,8 +8,9 @@ ghost use Rattle.request_parts.specs.Members.{item_at};
 ghost use Rattle.request_parts.specs.Placeholders.{known};
 ghost use Rattle.request_parts.specs.Ends.{IsToldOf};
 ghost use Rattle.request_parts.specs.Asks.{IsPart};
-ghost use Rattle.api_request.specs.Transactions.{APut, AnUpdate, ADelete, ACheck, action_in, of_code, asks_of, StatesAction, shows_old, size_of, total_size, value_size, read_size};
+ghost use Rattle.api_request.specs.Transactions.{APut, AnUpdate, ADelete, ACheck, action_in, of_code, asks_of, StatesAction, size_of, total_size, value_size, read_size};
 
+use crate::item::shows_old;
 use crate::part::Part;
 use api_form::Name;
 use attr_value::{Item, Value};
@@ -127,13 +128,6 @@ fn update_action(alloc: Global, json: &Json) -> Result<TransactAction, RequestEn
         values: placeholders.values,
         show_old: shows_old(json),
     })
-}
-
-/// Whether the item is shown where the condition is false of it.
-fn shows_old(json: &Json) -> bool
-    ensures { result ≡ shows_old (view json.now) }
-{
-    text_at(json, Name::ReturnValuesOnConditionCheckFailure) == "ALL_OLD"
 }
 
 /// The size of all actions together, or the most that a number holds.

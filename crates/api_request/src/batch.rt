@@ -29,10 +29,14 @@ pub fn batch_get(alloc: Global, json: &Value) -> Result<BatchGet, RequestEnd>
     match map_at(json, Name::RequestItems) {
         Some(members) => {
             let tables = all_keys(alloc, members)?;
-            Ok(BatchGet { tables })
+            Ok(BatchGet {
+                tables,
+                capacity: false,
+            })
         }
         None => Ok(BatchGet {
             tables: Seq::new(alloc),
+            capacity: false,
         }),
     }
 }
@@ -66,6 +70,7 @@ fn table_keys(alloc: Global, table: &str, json: &Value) -> Result<TableKeys, Req
         consistent: stated_flag(json, Name::ConsistentRead),
         expression,
         names,
+        attributes: None,
     })
 }
 
@@ -86,10 +91,14 @@ pub fn batch_write(alloc: Global, json: &Value) -> Result<BatchWrite, NoMemory>
     match map_at(json, Name::RequestItems) {
         Some(members) => {
             let tables = all_writes(alloc, members)?;
-            Ok(BatchWrite { tables })
+            Ok(BatchWrite {
+                tables,
+                capacity: false,
+            })
         }
         None => Ok(BatchWrite {
             tables: Seq::new(alloc),
+            capacity: false,
         }),
     }
 }

@@ -3,7 +3,7 @@
 ghost use Rattle.std.specs.Prelude.{◌≡◌};
 ghost use Rattle.serde_json.specs.View.{view};
 ghost use Rattle.request_parts.specs.Ends.{IsToldOf};
-ghost use Rattle.api_request.specs.Items.{returns_named, IsPutItem, IsGetItem, IsUpdateItem, IsDeleteItem};
+ghost use Rattle.api_request.specs.Items.{returns_named, shows_old, IsPutItem, IsGetItem, IsUpdateItem, IsDeleteItem};
 
 use api_form::Name;
 use request_parts::{
@@ -25,6 +25,8 @@ pub fn put_item(alloc: Global, json: &Value) -> Result<PutItem, RequestEnd>
         condition: parts.condition,
         values: parts.values,
         return_values: returns_named(text_at(json, Name::ReturnValues)),
+        show_old: shows_old(json),
+        capacity: false,
     })
 }
 
@@ -38,6 +40,7 @@ pub fn get_item(alloc: Global, json: &Value) -> Result<GetItem, RequestEnd>
         key: parts.placed.item,
         projection: parts.projection,
         consistent: flag_at(json, Name::ConsistentRead),
+        capacity: false,
     })
 }
 
@@ -57,6 +60,8 @@ pub fn update_item(alloc: Global, json: &Value) -> Result<UpdateItem, RequestEnd
         condition: trees.condition,
         values: placeholders.values,
         return_values: returns_named(text_at(json, Name::ReturnValues)),
+        show_old: shows_old(json),
+        capacity: false,
     })
 }
 
@@ -71,6 +76,8 @@ pub fn delete_item(alloc: Global, json: &Value) -> Result<DeleteItem, RequestEnd
         condition: parts.condition,
         values: parts.values,
         return_values: returns_named(text_at(json, Name::ReturnValues)),
+        show_old: shows_old(json),
+        capacity: false,
     })
 }
 
@@ -85,4 +92,11 @@ fn returns_named(word: &str) -> ReturnValues
         "UPDATED_NEW" => ReturnValues::UpdatedNew,
         _ => ReturnValues::None,
     }
+}
+
+/// Whether the item is shown where the condition is false of it.
+pub(crate) fn shows_old(json: &Value) -> bool
+    ensures { result ≡ shows_old (view json.now) }
+{
+    text_at(json, Name::ReturnValuesOnConditionCheckFailure) == "ALL_OLD"
 }

@@ -18,12 +18,5 @@ mod schema;
 mod stated;
 mod transaction;
 
-pub use batch::{batch_get, batch_write};
-pub use catalog::{delete_table, describe_table, list_tables};
-pub use change::update_table;
-pub use item::{delete_item, get_item, put_item, update_item};
 pub use message::read;
-pub use page::{query, scan};
 pub use request_parts::{Refusal, RequestEnd};
-pub use schema::create_table;
-pub use transaction::{transact_get, transact_write};

@@ -7,7 +7,9 @@ ghost use Rattle.request_parts.specs.Asks.{lent};
 ghost use Rattle.api_request.specs.Requests.{refusal_of, IsStated, IsOfData, IsOfBody, IsRequest};
 
 use crate::batch::{batch_get, batch_write};
-use crate::catalog::{delete_table, describe_table, list_tables};
+use crate::catalog::{
+    delete_table, describe_table, describe_time_to_live, list_tables, update_time_to_live,
+};
 use crate::change::update_table;
 use crate::item::{delete_item, get_item, put_item, update_item};
 use crate::operation::{Operation, form_of, operation_named};
@@ -88,5 +90,11 @@ fn stated(alloc: Global, operation: Operation, json: &Value) -> Result<Request, 
         Operation::UpdateTable => Ok(Request::UpdateTable(update_table(alloc, json)?)),
         Operation::DescribeTable => Ok(Request::DescribeTable(describe_table(alloc, json)?)),
         Operation::ListTables => Ok(Request::ListTables(list_tables(alloc, json)?)),
+        Operation::UpdateTimeToLive => Ok(Request::UpdateTimeToLive(update_time_to_live(
+            alloc, json,
+        )?)),
+        Operation::DescribeTimeToLive => Ok(Request::DescribeTimeToLive(describe_time_to_live(
+            alloc, json,
+        )?)),
     }
 }

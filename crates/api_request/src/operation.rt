@@ -24,10 +24,12 @@ pub(crate) enum Operation {
     UpdateTable,
     DescribeTable,
     ListTables,
+    UpdateTimeToLive,
+    DescribeTimeToLive,
 }
 
 /// All operations.
-const OPERATIONS: [Operation; 15] = [
+const OPERATIONS: [Operation; 17] = [
     Operation::PutItem,
     Operation::GetItem,
     Operation::UpdateItem,
@@ -43,6 +45,8 @@ const OPERATIONS: [Operation; 15] = [
     Operation::UpdateTable,
     Operation::DescribeTable,
     Operation::ListTables,
+    Operation::UpdateTimeToLive,
+    Operation::DescribeTimeToLive,
 ];
 
 impl Operation {
@@ -66,6 +70,8 @@ impl Operation {
             Operation::UpdateTable => "UpdateTable",
             Operation::DescribeTable => "DescribeTable",
             Operation::ListTables => "ListTables",
+            Operation::UpdateTimeToLive => "UpdateTimeToLive",
+            Operation::DescribeTimeToLive => "DescribeTimeToLive",
         }
     }
 }
@@ -123,5 +129,7 @@ pub(crate) fn form_of(operation: Operation) -> Form
         Operation::UpdateTable => Form::UpdateTable,
         Operation::DescribeTable => Form::DescribeTable,
         Operation::ListTables => Form::ListTables,
+        Operation::UpdateTimeToLive => Form::UpdateTimeToLive,
+        Operation::DescribeTimeToLive => Form::DescribeTimeToLive,
     }
 }

@@ -79,6 +79,7 @@ fn page_of(rows: Rows, trees: PageTrees, values: Seq<Value>) -> PageRequest
         limit: rows.limit,
         start: rows.start,
         consistent: rows.consistent,
+        capacity: false,
     }
 }
 

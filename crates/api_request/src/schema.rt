@@ -43,6 +43,8 @@ fn stated_schema(alloc: Global, json: &Value) -> Result<StatedSchema, NoMemory>
         read_units: units_of(json, Name::ReadCapacityUnits).unwrap_or(0),
         write_units: units_of(json, Name::WriteCapacityUnits).unwrap_or(0),
         created: 0,
+        ttl: None,
+        stream: None,
     })
 }
 

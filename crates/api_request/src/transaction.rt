@@ -28,7 +28,11 @@ pub fn transact_write(alloc: Global, json: &Value) -> Result<TransactWrite, Requ
 {
     let token = stated_copy(alloc, json, Name::ClientRequestToken)?;
     let actions = read_actions(alloc, list_at(json, Name::TransactItems))?;
-    Ok(TransactWrite { actions, token })
+    Ok(TransactWrite {
+        actions,
+        token,
+        consumed: None,
+    })
 }
 
 /// The actions that elements state, or why they are refused: they are too large together, or else an expression is refused.
@@ -94,7 +98,10 @@ pub fn transact_get(alloc: Global, json: &Value) -> Result<TransactGet, RequestE
     ensures { IsToldOf (IsTransactGet (view json.now)) result }
 {
     let reads = read_parts::<TransactRead>(alloc, list_at(json, Name::TransactItems))?;
-    Ok(TransactGet { reads })
+    Ok(TransactGet {
+        reads,
+        capacity: false,
+    })
 }
 
 impl Part for TransactRead {

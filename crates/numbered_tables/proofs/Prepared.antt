@@ -84,7 +84,7 @@ or_turned false true = refl
 or_turned false false = refl
 
 -- a text is another where the other is it
-turned : (x y : List ℕ) → at y x ≡ bytes_eq x y
+pub turned : (x y : List ℕ) → at y x ≡ bytes_eq x y
 turned x y = both (at y x) (at x y) (λ h. subst (λ (z : List ℕ). at x z ≡ true) (sym (at_is y x h)) (self x)) (λ h. subst (λ (z : List ℕ). at y z ≡ true) (sym (at_is x y h)) (self y)) ∙ is_eq-slice_cmp x y
   where
     self : (z : List ℕ) → at z z ≡ true

@@ -5,14 +5,16 @@
 //! what a request does.
 //!
 //! [`change_all`] first prepares every change in its table, which takes all memory, and then makes what is prepared, which
-//! takes none. So a transaction is whole or not there, and so is a batch. `specs/Changes.antt` says what the changes make of
-//! a database.
+//! takes none. So a transaction is whole or not there, and so are a batch and [`sweep`], which takes out what is expired.
+//! `specs/Changes.antt` says what the changes make of a database.
 #![tactic(auto)]
 
 mod change;
+mod expired;
 mod made;
 mod table;
 
 pub use change::TableChange;
+pub use expired::sweep;
 pub use made::change_all;
 pub use table::NumberedTable;

@@ -26,17 +26,21 @@ use Rattle.table_request.specs.declared.tables.DeleteTable.{DeleteTable}
 use Rattle.table_request.specs.declared.tables.DescribeTable.{DescribeTable}
 use Rattle.table_request.specs.declared.tables.UpdateTable.{UpdateTable}
 use Rattle.table_request.specs.declared.tables.TableUpdate.{TableUpdate}
+use Rattle.table_request.specs.declared.time_to_live.UpdateTimeToLive.{UpdateTimeToLive}
+use Rattle.table_request.specs.declared.time_to_live.DescribeTimeToLive.{DescribeTimeToLive}
 use Rattle.table_model.specs.declared.reply.Reply.{Reply}
 use Rattle.table_model.specs.declared.reply.Reply.TheVariants as answer
 use Rattle.table_model.specs.declared.refusal.Refusal.{Refusal}
 use Rattle.table_model.specs.Database.{Database, Table, Effect, table_named, with_table, refused}
 use Rattle.table_model.specs.Catalog.{most_tables, with_new_table, made_at, create_if, create_table, delete_table, describe_table}
 use Rattle.table_model.specs.Catalog.{added_if, with_definitions, is_used, updated_schema, has_bad_definition, index_refusal}
+use Rattle.table_model.specs.Catalog.{ttl_refusal, with_ttl, update_time_to_live, describe_time_to_live}
+use Rattle.table_model.specs.Expired.{swept_tables}
 use Rattle.table_model.specs.Catalog.{IsUpdatedTo, IsBadlyDefinedOr, IsRefusedFirst, IsUpdateIn, IsUpdateTable}
-use Rattle.plain_database.specs.Keyed.{IsKeyed, HasRowsAtKeys}
+use Rattle.plain_database.specs.Keyed.{IsKeyed, AreKeyed, HasRowsAtKeys}
 use Rattle.plain_database.proofs.AllEntries.{all_inserted, all_removed}
 use Rattle.plain_database.proofs.Rows.{table_keyed, named_keyed}
-use Rattle.plain_database.proofs.Singles.{in_keyed}
+use Rattle.plain_database.proofs.Singles.{in_keyed, unless_keyed}
 
 -- ---- tables made and dropped
 
@@ -183,13 +187,15 @@ to_keyed db new name table schema (answer.Refused refusal) is rows all h = subst
 to_keyed db new name table schema (answer.Described s) is rows all h = changed_keyed db new name table schema is rows all h.1
 to_keyed db new name table schema (answer.Table s) is rows all h = changed_keyed db new name table schema is rows all h.1
 to_keyed db new name table schema (answer.Tables s) is rows all h = changed_keyed db new name table schema is rows all h.1
-to_keyed db new name table schema (answer.Written s) is rows all h = changed_keyed db new name table schema is rows all h.1
-to_keyed db new name table schema (answer.Read s) is rows all h = changed_keyed db new name table schema is rows all h.1
-to_keyed db new name table schema (answer.BatchRead s t) is rows all h = changed_keyed db new name table schema is rows all h.1
-to_keyed db new name table schema (answer.BatchWritten s) is rows all h = changed_keyed db new name table schema is rows all h.1
-to_keyed db new name table schema (answer.Page s) is rows all h = changed_keyed db new name table schema is rows all h.1
-to_keyed db new name table schema answer.TransactWritten is rows all h = changed_keyed db new name table schema is rows all h.1
-to_keyed db new name table schema (answer.TransactRead s) is rows all h = changed_keyed db new name table schema is rows all h.1
+to_keyed db new name table schema (answer.TimeToLiveSet s e) is rows all h = changed_keyed db new name table schema is rows all h.1
+to_keyed db new name table schema (answer.TimeToLive s) is rows all h = changed_keyed db new name table schema is rows all h.1
+to_keyed db new name table schema (answer.Written s c) is rows all h = changed_keyed db new name table schema is rows all h.1
+to_keyed db new name table schema (answer.Read s c) is rows all h = changed_keyed db new name table schema is rows all h.1
+to_keyed db new name table schema (answer.BatchRead s t c) is rows all h = changed_keyed db new name table schema is rows all h.1
+to_keyed db new name table schema (answer.BatchWritten s c) is rows all h = changed_keyed db new name table schema is rows all h.1
+to_keyed db new name table schema (answer.Page s c) is rows all h = changed_keyed db new name table schema is rows all h.1
+to_keyed db new name table schema (answer.TransactWritten c) is rows all h = changed_keyed db new name table schema is rows all h.1
+to_keyed db new name table schema (answer.TransactRead s c) is rows all h = changed_keyed db new name table schema is rows all h.1
 
 contradicted_keyed : (b : Bool) (db new : Database) (reply : Reply) (P : Type 0) → HasRowsAtKeys db → (P → HasRowsAtKeys new) → IsBadlyDefinedOr b db new reply P → HasRowsAtKeys new
 contradicted_keyed true db new reply P all later h = same_keyed db new reply _ all h
@@ -208,3 +214,28 @@ change_keyed db new r reply all h = go (table_named db r.table) refl h
         refused_keyed (index_refusal t.schema r.update.index) db new reply _ all
         (contradicted_keyed (has_bad_definition t.schema.definitions r.update.definitions) db new reply _ all
         (to_keyed db new r.table t (updated_schema t.schema r.update) reply is (updated_keyed t.schema r.update t.rows (named_keyed db r.table t is all)) all)) e
+
+-- ---- time to live
+
+pub ttl_keyed : (db : Database) (r : UpdateTimeToLive) → HasRowsAtKeys db → HasRowsAtKeys (update_time_to_live db r).0
+ttl_keyed db r all =
+    in_keyed db r.table (table_named db r.table) _ all
+    (λ t is. unless_keyed db (ttl_refusal t.schema r) _ all
+    (λ none. table_keyed db r.table (record t { schema = with_ttl t.schema r })
+    (rows_kept t.schema (with_ttl t.schema r) t.rows refl (λ name is_key kind has. has) (named_keyed db r.table t is all)) all))
+
+pub describe_ttl_keyed : (db : Database) (r : DescribeTimeToLive) → HasRowsAtKeys db → HasRowsAtKeys (describe_time_to_live db r).0
+describe_ttl_keyed db r all = in_keyed db r.table (table_named db r.table) _ all (λ t is. all)
+
+fresh_keyed : (schema : Schema) (p : RowKey × Attributes → Bool) (rows : Rows) → AreAtKeys schema rows → AreAtKeys schema (filter p rows)
+fresh_keyed schema p [] all = tt
+fresh_keyed schema p (row ∷ rows) all = go (p row) (fresh_keyed schema p rows all.1)
+  where
+    go : (b : Bool) → AreAtKeys schema (filter p rows) → AreAtKeys schema (cond b (row ∷ filter p rows) (filter p rows))
+    go true rest = (all.0, rest)
+    go false rest = rest
+
+-- what is left where expired items are gone
+pub swept_keyed : (second : ℕ) (tables : List (List ℕ × Table)) → AreKeyed tables → AreKeyed (swept_tables second tables)
+swept_keyed second [] all = tt
+swept_keyed second (e ∷ es) all = (fresh_keyed e.1.schema _ e.1.rows all.0, swept_keyed second es all.1)

@@ -10,3 +10,4 @@ pub mod KeyedCatalog
 pub mod Batches
 pub mod Transactions
 pub mod Requests
+pub mod TimeToLive

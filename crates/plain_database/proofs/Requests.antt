@@ -7,7 +7,7 @@ use Rattle.table_model.specs.Database.{Database, Effect}
 use Rattle.table_model.specs.Effect.{IsEffect}
 use Rattle.plain_database.specs.Keyed.{HasRowsAtKeys}
 use Rattle.plain_database.proofs.Singles.{put_keyed, get_keyed, update_keyed, delete_keyed}
-use Rattle.plain_database.proofs.KeyedCatalog.{create_keyed, drop_keyed, describe_keyed, change_keyed}
+use Rattle.plain_database.proofs.KeyedCatalog.{create_keyed, drop_keyed, describe_keyed, change_keyed, ttl_keyed, describe_ttl_keyed}
 use Rattle.plain_database.proofs.Batches.{batch_get_keyed, batch_write_keyed}
 use Rattle.plain_database.proofs.Transactions.{transact_write_keyed, transact_get_keyed}
 
@@ -20,6 +20,8 @@ stays_keyed db (request.DeleteTable r) moment new reply all is = along new reply
 stays_keyed db (request.UpdateTable r) moment new reply all is = change_keyed db new r reply all is
 stays_keyed db (request.DescribeTable r) moment new reply all is = along new reply _ is (describe_keyed db r all)
 stays_keyed db (request.ListTables r) moment new reply all is = along new reply _ is all
+stays_keyed db (request.UpdateTimeToLive r) moment new reply all is = along new reply _ is (ttl_keyed db r all)
+stays_keyed db (request.DescribeTimeToLive r) moment new reply all is = along new reply _ is (describe_ttl_keyed db r all)
 stays_keyed db (request.PutItem r) moment new reply all is = along new reply _ is (put_keyed db r all)
 stays_keyed db (request.GetItem r) moment new reply all is = along new reply _ is (get_keyed db r all)
 stays_keyed db (request.UpdateItem r) moment new reply all is = along new reply _ is (update_keyed db r all)

@@ -142,16 +142,16 @@ at_own_key schema item key e = at_its_key schema item key (without_others (has_o
 
 -- ---- writes
 
-written_keyed : (db : Database) (name : List ℕ) (table : Table) (key : Key) (fault : EvalFault → why.Invalid) (show : Option Attributes → Option Attributes) (o : Outcome)
-    → table_named db name ≡ Some table → FitsOutcome table.schema (row_key key) o → HasRowsAtKeys db → HasRowsAtKeys (written db name table key fault show o).0
-written_keyed db name table key fault show (becomes new) is fits all = row_keyed db name table (row_key key) new is fits all
-written_keyed db name table key fault show is_false is fits all = all
-written_keyed db name table key fault show (is_faulty why) is fits all = all
+written_keyed : (db : Database) (name : List ℕ) (table : Table) (key : Key) (lost : Option Attributes) (fault : EvalFault → why.Invalid) (show : Option Attributes → Option Attributes) (o : Outcome)
+    → table_named db name ≡ Some table → FitsOutcome table.schema (row_key key) o → HasRowsAtKeys db → HasRowsAtKeys (written db name table key lost fault show o).0
+written_keyed db name table key lost fault show (becomes new) is fits all = row_keyed db name table (row_key key) new is fits all
+written_keyed db name table key lost fault show is_false is fits all = all
+written_keyed db name table key lost fault show (is_faulty why) is fits all = all
 
 pub put_keyed : (db : Database) (r : PutItem) → HasRowsAtKeys db → HasRowsAtKeys (put_item db r).0
 put_keyed db r all =
     in_keyed db r.table (table_named db r.table) _ all (λ t is. key_keyed db (key_in t.schema t.schema.keys r.item) _ all (λ key has.
-    written_keyed db r.table t key _ _ _ is
+    written_keyed db r.table t key _ _ _ _ is
     (where_fits t.schema (row_key key) (is_met r.condition r.values (old_at t key)) (put_outcome t.schema r.item)
     (put_fits t.schema (row_key key) r.item (at_its_key t.schema r.item key has))) all))
 
@@ -159,7 +159,7 @@ pub update_keyed : (db : Database) (r : UpdateItem) → HasRowsAtKeys db → Has
 update_keyed db r all =
     in_keyed db r.table (table_named db r.table) _ all (λ t is. key_keyed db (key_alone t.schema t.schema.keys r.key) _ all (λ key has.
     unless_keyed db (key_update t.schema.keys r.update) (update_at db r t key) all (λ none.
-    written_keyed db r.table t key _ _ _ is
+    written_keyed db r.table t key _ _ _ _ is
     (where_fits t.schema (row_key key) (is_met r.condition r.values (old_at t key)) (update_outcome t.schema r.update r.values r.key (old_at t key))
     (update_fits t.schema (row_key key) r.update r.values r.key (old_at t key) none (at_own_key t.schema r.key key has)
     (item_fits t.schema t.rows (row_key key) (named_keyed db r.table t is all)))) all)))
@@ -167,7 +167,7 @@ update_keyed db r all =
 pub delete_keyed : (db : Database) (r : DeleteItem) → HasRowsAtKeys db → HasRowsAtKeys (delete_item db r).0
 delete_keyed db r all =
     in_keyed db r.table (table_named db r.table) _ all (λ t is. key_keyed db (key_alone t.schema t.schema.keys r.key) _ all (λ key has.
-    written_keyed db r.table t key _ _ _ is
+    written_keyed db r.table t key _ _ _ _ is
     (where_fits t.schema (row_key key) (is_met r.condition r.values (old_at t key)) delete_outcome tt) all))
 
 pub get_keyed : (db : Database) (r : GetItem) → HasRowsAtKeys db → HasRowsAtKeys (get_item db r).0

@@ -27,6 +27,8 @@ pub fn effect_slow(
         Request::UpdateTable(request) => db.update_table(alloc, request),
         Request::DescribeTable(request) => db.describe_table(request),
         Request::ListTables(request) => db.list_tables(alloc, &request),
+        Request::UpdateTimeToLive(request) => db.update_time_to_live(alloc, request),
+        Request::DescribeTimeToLive(request) => db.describe_time_to_live(request),
         Request::PutItem(request) => db.put_item(alloc, request),
         Request::GetItem(request) => db.get_item(alloc, request),
         Request::UpdateItem(request) => db.update_item(alloc, request),

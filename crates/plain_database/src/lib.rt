@@ -16,6 +16,7 @@ mod effect;
 mod item;
 mod laws;
 mod page;
+mod time_to_live;
 mod transaction;
 mod update_table;
 

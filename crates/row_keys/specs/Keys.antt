@@ -1,5 +1,5 @@
 -- The keys of rows, and their order (API Reference: Query, Scan).
-use Rattle.std.specs.Prelude.{ℕ, Option, None, Some}
+use Rattle.std.specs.Prelude.{Option, None, Some}
 use Rattle.std.specs.Ordering.{nat_cmp, ordering_then}
 use Rattle.std.specs.declared.cmp.Ordering.{Ordering}
 use Rattle.item_keys.specs.declared.key.Key.{Key}

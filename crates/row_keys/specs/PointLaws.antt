@@ -1,11 +1,8 @@
 -- The order of points is total.
-use Rattle.std.specs.Prelude.{◌≡◌, ℕ, ℤ, pos, List}
+use Rattle.std.specs.Prelude.{pos}
 use Rattle.std.specs.Cmp.{IsTotalOrder, nat_cmp_total, int_cmp_total, then_total, on_total}
-use Rattle.std.specs.Cmp.Lexicographic.{slice_cmp, nat_list_cmp_total}
-use Rattle.std.specs.Ordering.{nat_cmp, int_cmp, on, then_cmp}
-use Rattle.item_keys.specs.declared.value.KeyValue.{KeyValue}
+use Rattle.std.specs.Cmp.Lexicographic.{nat_list_cmp_total}
 use Rattle.item_keys.specs.declared.value.KeyValue.TheVariants.{N}
-use Rattle.row_keys.specs.declared.point.SortPoint.{SortPoint}
 use Rattle.row_keys.specs.Points.{marked, kind, number_in, bytes_in, values_order, rank, named_or, point_order}
 
 values_total : IsTotalOrder values_order

@@ -192,15 +192,15 @@ read_is db r items reply fit is told =
     let keys = both_none (first (map key_refusal (flat_map (asked_keys db) ts))) _ tables.1 in
     let count = read_count most_batch_bytes (flat_map (asked_items db) ts) in
     let shown : found_among ts (take count (flat_map (asked_items db) ts)) ≡ found db count ts = found_is db ts count (have_items db ts tables.0 keys.0) in
-    ap (λ (o : Option Refusal). unless db o (db, BatchRead (found db count ts) (unread count ts))) fit
-    ∙ sym ((λ i. (db, told i)) ∙ (λ i. (db, read_of ts (is i))) ∙ (λ i. (db, BatchRead (shown i) (unread count ts))))
+    ap (λ (o : Option Refusal). unless db o (db, BatchRead (found db count ts) (unread count ts) None)) fit
+    ∙ sym ((λ i. (db, told i)) ∙ (λ i. (db, read_of ts (is i))) ∙ (λ i. (db, BatchRead (shown i) (unread count ts) None)))
 
 -- and one that is refused is not
 pub refused_is : (db : Database) (r : BatchGet) (why : Refusal) → batch_get_refusal db r.tables ≡ Some why → batch_get db r ≡ (db, Refused why)
 refused_is db r why is =
     let ts = r.tables in
     let count = read_count most_batch_bytes (flat_map (asked_items db) ts) in
-    ap (λ (o : Option Refusal). unless db o (db, BatchRead (found db count ts) (unread count ts))) is
+    ap (λ (o : Option Refusal). unless db o (db, BatchRead (found db count ts) (unread count ts) None)) is
 
 -- the same of the tables that are kept
 pub answered :

@@ -163,14 +163,14 @@ of_all db other (t ∷ ts) alike =
 -- a request that is not refused is made by its changes
 pub written_is :
     (db new : Database) (r : BatchWrite) (changes : List TableChange) → batch_write_refusal db r.tables ≡ None
-    → changes ≡ flat_map (changes_in db) r.tables → new ≡ changed_all db changes → batch_write db r ≡ (new, BatchWritten [])
+    → changes ≡ flat_map (changes_in db) r.tables → new ≡ changed_all db changes → batch_write db r ≡ (new, BatchWritten [] None)
 written_is db new r changes fit are made =
     let all : new ≡ write_all db r.tables = made ∙ ap (changed_all db) are ∙ of_all db db r.tables (λ name. refl) in
-    ap (λ (o : Option Refusal). unless db o (write_all db r.tables, BatchWritten [])) fit ∙ (λ i. (sym all i, BatchWritten []))
+    ap (λ (o : Option Refusal). unless db o (write_all db r.tables, BatchWritten [] None)) fit ∙ (λ i. (sym all i, BatchWritten [] None))
 
 -- and one that is refused changes nothing
 pub refused_is : (db : Database) (r : BatchWrite) (why : Refusal) → batch_write_refusal db r.tables ≡ Some why → batch_write db r ≡ (db, Refused why)
-refused_is db r why is = ap (λ (o : Option Refusal). unless db o (write_all db r.tables, BatchWritten [])) is
+refused_is db r why is = ap (λ (o : Option Refusal). unless db o (write_all db r.tables, BatchWritten [] None)) is
 
 -- ---- refusals in their order
 
@@ -231,7 +231,7 @@ none_twice db ts is =
 
 pub answered :
     (old new : Kept) (r : BatchWrite) (changes : List TableChange) → batch_write_refusal (tables_alone old) r.tables ≡ None
-    → changes ≡ flat_map (changes_in (tables_alone old)) r.tables → IsChanged old changes new → IsWritten old r new (BatchWritten [])
+    → changes ≡ flat_map (changes_in (tables_alone old)) r.tables → IsChanged old changes new → IsWritten old r new (BatchWritten [] None)
 answered old new r changes fit are made = λ tokens count.
     written_is (database_in old tokens count) (database_in new tokens count) r changes fit are (made tokens count)
 

@@ -30,4 +30,4 @@ found_among (t ∷ ts) items =
 abbrev pub read_of : List TableKeys → List (Option Attributes) → Reply
 read_of ts items =
     let count = read_count most_batch_bytes items in
-    BatchRead (found_among ts (take count items)) (unread count ts)
+    BatchRead (found_among ts (take count items)) (unread count ts) None

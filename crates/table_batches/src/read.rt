@@ -107,7 +107,11 @@ fn read(
     let count = read_count(items);
     let found = found(alloc, requests.as_slice(), &items[..count])?;
     let unread = unread(alloc, requests, count)?;
-    Ok(Reply::BatchRead { found, unread })
+    Ok(Reply::BatchRead {
+        found,
+        unread,
+        consumed: None,
+    })
 }
 
 /// Reads the items at keys of several tables (API Reference: BatchGetItem). It is refused, in this order, for a table that

@@ -30,6 +30,7 @@ fn request_behind(asked: TableKeys, read: usize) -> Result<TableKeys, NoMemory>
         consistent,
         expression,
         names,
+        attributes,
     } = asked;
     Ok(TableKeys {
         table,
@@ -38,6 +39,7 @@ fn request_behind(asked: TableKeys, read: usize) -> Result<TableKeys, NoMemory>
         consistent,
         expression,
         names,
+        attributes,
     })
 }
 

@@ -92,7 +92,10 @@ pub fn batch_write(
         Ok(changes) => {
             change_all(tables, alloc, changes)?;
             let unwritten = Seq::new(alloc);
-            Ok(Reply::BatchWritten { unwritten })
+            Ok(Reply::BatchWritten {
+                unwritten,
+                consumed: None,
+            })
         }
         Err(refusal) => Ok(Reply::Refused(refusal)),
     }

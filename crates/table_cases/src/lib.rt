@@ -1,8 +1,10 @@
-//! The cells of real tables: a history of one table and its index, worked out by hand.
+//! Real tables: their cells, by a history of one table and its index that was worked out by hand; and items that expire.
 #![tactic(auto)]
 
 #[cfg(test)]
 mod cells;
+#[cfg(test)]
+mod expiry;
 #[cfg(test)]
 mod histories;
 #[cfg(test)]

@@ -51,6 +51,8 @@ pub(crate) fn schema(alloc: Global) -> Result<Schema, NoMemory> {
         read_units: 0,
         write_units: 0,
         created: MOMENT,
+        ttl: None,
+        stream: None,
     })
 }
 
@@ -63,7 +65,12 @@ pub(crate) fn row_key(alloc: Global, text: &str) -> Result<RowKey, NoMemory> {
     Ok(RowKey::from(key.placed(alloc)?))
 }
 
-fn attribute(alloc: Global, item: &mut Item, name: &str, text: &str) -> Result<(), NoMemory> {
+pub(crate) fn attribute(
+    alloc: Global,
+    item: &mut Item,
+    name: &str,
+    text: &str,
+) -> Result<(), NoMemory> {
     let name = Text::copied(alloc, name)?;
     let text = Text::copied(alloc, text)?;
     item.put(name, Value::S(text))

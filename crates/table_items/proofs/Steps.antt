@@ -28,7 +28,7 @@ use Rattle.table_model.specs.Writes.{put_item, put_at, put_fault, update_item, u
 use Rattle.table_items.specs.Effects.{table_at, HasTable, IsDone, IsTold}
 use Rattle.table_items.specs.Outcomes.{row_key_if}
 use Rattle.table_items.specs.Steps.{IsRefused, IsWritten, IsPut, IsUpdate, IsUpdateAt, IsUnless, IsDelete}
-use Rattle.table_items.proofs.Effects.{refused_is, written_is, idle_after, keyed, keyed_is, keyed_fault}
+use Rattle.table_items.proofs.Effects.{refused_is, written_is, idle_after, keyed_is, keyed_fault}
 
 -- one change that is prepared and made
 pub made_one :
@@ -42,10 +42,11 @@ made_one old held new change idle is made =
 
 -- what is written goes by the outcome
 pub along_outcome :
-    (old new : TableView) (key : RowKey) (fault : EvalFault → why.Invalid) (show : Option Attributes → Option Attributes) (reply : Reply)
-    (here wanted : Outcome) → here ≡ wanted → IsWritten old key fault show here new reply → IsWritten old key fault show wanted new reply
-along_outcome old new key fault show reply here wanted same =
-    let P : Outcome → Type 0 = λ outcome. IsWritten old key fault show outcome new reply in
+    (old new : TableView) (key : RowKey) (lost : Option Attributes) (fault : EvalFault → why.Invalid)
+    (show : Option Attributes → Option Attributes) (reply : Reply) (here wanted : Outcome) → here ≡ wanted
+    → IsWritten old key lost fault show here new reply → IsWritten old key lost fault show wanted new reply
+along_outcome old new key lost fault show reply here wanted same =
+    let P : Outcome → Type 0 = λ outcome. IsWritten old key lost fault show outcome new reply in
     subst P same
 
 -- ---- puts
@@ -58,11 +59,11 @@ pub put_done :
     → Ok key ≡ row_key_if (key_in old.schema old.schema.keys r.item) → IsPut r old key new reply
     → IsDone r.table (λ db. put_item db r) old new reply
 put_done r old new key reply idle is put = record {
-  idle = idle_after old new key _ _ _ reply idle put;
+  idle = idle_after old new key _ _ _ _ reply idle put;
   made =
       λ db number has.
       keyed_is db r.table number old key (put_key r) (λ db. put_at db r) _ has is
-      (λ found same. written_is db r.table number old new found put_fault _ _ reply has (subst (λ k. IsPut r old k new reply) same put));
+      (λ found same. written_is db r.table number old new found _ put_fault _ _ reply has (subst (λ k. IsPut r old k new reply) same put));
 }
 
 pub put_refused :
@@ -86,11 +87,11 @@ pub delete_done :
     → Ok key ≡ row_key_if (key_alone old.schema old.schema.keys r.key) → IsDelete r old key new reply
     → IsDone r.table (λ db. delete_item db r) old new reply
 delete_done r old new key reply idle is gone = record {
-  idle = idle_after old new key _ _ _ reply idle gone;
+  idle = idle_after old new key _ _ _ _ reply idle gone;
   made =
       λ db number has.
       keyed_is db r.table number old key (delete_key r) (λ db. delete_at db r) _ has is
-      (λ found same. written_is db r.table number old new found invalid.Evaluation _ _ reply has (subst (λ k. IsDelete r old k new reply) same gone));
+      (λ found same. written_is db r.table number old new found _ invalid.Evaluation _ _ reply has (subst (λ k. IsDelete r old k new reply) same gone));
 }
 
 pub delete_refused :
@@ -133,13 +134,13 @@ pub update_done :
 update_done r old new key reply idle is done = record {
   idle =
       unless_idle old new (key_update old.schema.keys r.update) reply (IsUpdate r old key new reply) idle
-      (λ update. idle_after old new key _ _ _ reply idle update) done;
+      (λ update. idle_after old new key _ _ _ _ reply idle update) done;
   made =
       λ db number has.
       keyed_is db r.table number old key (update_key r) (update_effect r) _ has is
       (λ found same.
       unless_is db r.table number old new (key_update old.schema.keys r.update) reply _ (IsUpdate r old (row_key found) new reply) has
-      (λ update. written_is db r.table number old new found invalid.Evaluation _ _ reply has update)
+      (λ update. written_is db r.table number old new found _ invalid.Evaluation _ _ reply has update)
       (subst (λ k. IsUpdateAt r old k new reply) same done));
 }
 
@@ -160,15 +161,15 @@ abbrev get_key : GetItem → Schema → Result Key KeyFault
 get_key r schema = key_alone schema schema.keys r.key
 
 abbrev get_effect : GetItem → Database → Table → Key → Effect
-get_effect r db table key = (db, Read (option_map (view r.projection) (old_at table key)))
+get_effect r db table key = (db, Read (option_map (view r.projection) (old_at table key)) None)
 
 pub get_told :
     (r : GetItem) (kept : TableView) (key : RowKey) (shown : Option Attributes) → Ok key ≡ row_key_if (key_alone kept.schema kept.schema.keys r.key)
-    → shown ≡ option_map (view r.projection) (item_at kept.rows key) → IsTold r.table (λ db. get_item db r) kept (Read shown)
+    → shown ≡ option_map (view r.projection) (item_at kept.rows key) → IsTold r.table (λ db. get_item db r) kept (Read shown None)
 get_told r kept key shown is found =
     λ db number has.
-    keyed_is db r.table number kept key (get_key r) (get_effect r) (db, Read shown) has is
-    (λ at same. ap (λ item. (db, Read item)) (ap (λ k. option_map (view r.projection) (item_at kept.rows k)) (sym same) ∙ sym found))
+    keyed_is db r.table number kept key (get_key r) (get_effect r) (db, Read shown None) has is
+    (λ at same. ap (λ item. (db, Read item None)) (ap (λ k. option_map (view r.projection) (item_at kept.rows k)) (sym same) ∙ sym found))
 
 pub get_refused :
     (r : GetItem) (kept : TableView) (fault : KeyFault) → Err fault ≡ row_key_if (key_alone kept.schema kept.schema.keys r.key)

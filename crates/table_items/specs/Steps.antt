@@ -1,5 +1,5 @@
 -- What a write at a key does to the table as it is kept.
-use Rattle.std.specs.Prelude.{◌≡◌, ℕ, List, Option, None, Some}
+use Rattle.std.specs.Prelude.{◌≡◌, ℕ, List, Bool, false, Option, None, Some}
 use Rattle.attr_value.specs.declared.value.Value.{Value}
 use Rattle.expr_words.specs.declared.tree.Condition.{Condition}
 use Rattle.expr_parse.specs.declared.tree.Update.{Update}
@@ -19,7 +19,7 @@ use Rattle.table_model.specs.declared.refusal.Refusal.TheVariants.{Invalid, Cond
 use Rattle.table_model.specs.declared.refusal.Invalid as why
 use Rattle.table_model.specs.declared.refusal.Invalid.TheVariants as invalid
 use Rattle.table_model.specs.Outcome.{Outcome, becomes, is_false, is_faulty, is_met, where_met, put_outcome, update_outcome, delete_outcome}
-use Rattle.table_model.specs.Writes.{shown, put_fault, key_update}
+use Rattle.table_model.specs.Writes.{shown, shown_if, put_fault, key_update}
 
 -- the table stays, and this is the refusal
 abbrev pub IsRefused : TableView → Refusal → TableView → Reply → Type 0
@@ -27,36 +27,46 @@ IsRefused old refusal new reply = (new ≡ old) × (reply ≡ Refused refusal)
 
 -- the item at a key is this one or none, and this is shown
 abbrev pub IsMade : TableView → RowKey → Option Attributes → Option Attributes → TableView → Reply → Type 0
-IsMade old key item shown new reply = (new ≡ record old { rows = with_item old.rows key item }) × (reply ≡ Written shown)
+IsMade old key item shown new reply = (new ≡ record old { rows = with_item old.rows key item }) × (reply ≡ Written shown None)
 
--- the outcome of a write at a key is made and told
-abbrev pub IsWritten : TableView → RowKey → (EvalFault → why.Invalid) → (Option Attributes → Option Attributes) → Outcome → TableView → Reply → Type 0
-IsWritten old key fault show (becomes item) new reply = IsMade old key item (show item) new reply
-IsWritten old key fault show is_false new reply = IsRefused old ConditionFailed new reply
-IsWritten old key fault show (is_faulty why) new reply = IsRefused old (Invalid (fault why)) new reply
+-- the outcome of a write at a key is made and told; `lost` is what is shown where the condition is false
+abbrev pub IsWritten :
+    TableView → RowKey → Option Attributes → (EvalFault → why.Invalid) → (Option Attributes → Option Attributes) → Outcome → TableView → Reply
+    → Type 0
+IsWritten old key lost fault show (becomes item) new reply = IsMade old key item (show item) new reply
+IsWritten old key lost fault show is_false new reply = IsRefused old (ConditionFailed lost) new reply
+IsWritten old key lost fault show (is_faulty why) new reply = IsRefused old (Invalid (fault why)) new reply
 
 -- a put of an item into the table of this name
-abbrev pub put_of : List ℕ → Attributes → Option Condition → List Value → ReturnValues → PutItem
-put_of name item condition values show =
-    record { table = name; item = item; condition = condition; values = values; return_values = show }
+abbrev pub put_of : List ℕ → Attributes → Option Condition → List Value → ReturnValues → Bool → PutItem
+put_of name item condition values show lost =
+    record { table = name; item = item; condition = condition; values = values; return_values = show; show_old = lost; capacity = false }
 
 -- a put at a key
 abbrev pub IsPut : PutItem → TableView → RowKey → TableView → Reply → Type 0
 IsPut r old key new reply =
     let item = item_at old.rows key in
-    IsWritten old key put_fault (shown r.return_values None item)
+    IsWritten old key (shown_if r.show_old item) put_fault (shown r.return_values None item)
     (where_met (is_met r.condition r.values item) (put_outcome old.schema r.item)) new reply
 
 -- an update of an item in the table of this name
-abbrev pub update_of : List ℕ → Attributes → Option Update → Option Condition → List Value → ReturnValues → UpdateItem
-update_of name key update condition values show =
-    record { table = name; key = key; update = update; condition = condition; values = values; return_values = show }
+abbrev pub update_of : List ℕ → Attributes → Option Update → Option Condition → List Value → ReturnValues → Bool → UpdateItem
+update_of name key update condition values show lost = record {
+  table = name;
+  key = key;
+  update = update;
+  condition = condition;
+  values = values;
+  return_values = show;
+  show_old = lost;
+  capacity = false;
+}
 
 -- an update at a key, which it does not write
 abbrev pub IsUpdate : UpdateItem → TableView → RowKey → TableView → Reply → Type 0
 IsUpdate r old key new reply =
     let item = item_at old.rows key in
-    IsWritten old key invalid.Evaluation (shown r.return_values r.update item)
+    IsWritten old key (shown_if r.show_old item) invalid.Evaluation (shown r.return_values r.update item)
     (where_met (is_met r.condition r.values item) (update_outcome old.schema r.update r.values r.key item)) new reply
 
 -- the refusal, or what is done where there is none
@@ -72,5 +82,5 @@ IsUpdateAt r old key new reply = IsUnless (key_update old.schema.keys r.update) 
 abbrev pub IsDelete : DeleteItem → TableView → RowKey → TableView → Reply → Type 0
 IsDelete r old key new reply =
     let item = item_at old.rows key in
-    IsWritten old key invalid.Evaluation (shown r.return_values None item)
+    IsWritten old key (shown_if r.show_old item) invalid.Evaluation (shown r.return_values None item)
     (where_met (is_met r.condition r.values item) delete_outcome) new reply

@@ -1,7 +1,6 @@
 -- The attributes of an item that an update writes, found among its paths in order.
 use Rattle.std.specs.Prelude.{ℕ, List, map, Bool}
 use Rattle.std.specs.List.{list_any}
-use Rattle.base_types.specs.declared.path.DocPath.{DocPath}
 use Rattle.base_types.specs.declared.path.Step.{Step}
 use Rattle.path_entries.specs.declared.key.Entry.{Entry}
 use Rattle.path_entries.specs.Entries.{begins, is_name}

@@ -24,5 +24,5 @@ mod write;
 pub use key::{key_of_item, key_of_key};
 pub use outcome::{Outcome, delete_outcome, is_met, is_too_large, put_outcome, update_outcome};
 pub use read::{get_item, view};
-pub use returned::{shown, touched_key};
+pub use returned::{shown, shown_old, touched_key};
 pub use write::{delete_item, put_item, update_item};

@@ -47,7 +47,13 @@ pub fn get_item(table: &TableRows, alloc: Global, request: &GetItem) -> Result<R
     ensures { IfOk result (IsTold request.now.table (λ db. get_item db request.now) table.now) }
 {
     match key_of_key(alloc, table.schema(), &request.key)? {
-        Ok(key) => Ok(Reply::Read(view_if(alloc, request.projection.as_ref(), table.get(&key))?)),
+        Ok(key) => {
+            let shown = view_if(alloc, request.projection.as_ref(), table.get(&key))?;
+            Ok(Reply::Read {
+                shown,
+                consumed: None,
+            })
+        }
         Err(fault) => Ok(Reply::Refused(Refusal::Invalid(Invalid::Key(fault)))),
     }
 }

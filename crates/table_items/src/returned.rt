@@ -2,7 +2,7 @@
 
 ghost use Rattle.std.specs.Prelude.{◌≡◌, IfOk, option_map};
 ghost use Rattle.std.specs.Option.{option_copied};
-ghost use Rattle.table_model.specs.Writes.{shown, some_of, touched_in, touched_key, touched_name};
+ghost use Rattle.table_model.specs.Writes.{shown, shown_if, some_of, touched_in, touched_key, touched_name};
 
 use crate::touched::only_touched;
 use attr_value::{Item, SharedItem, kept, lent};
@@ -35,6 +35,14 @@ pub fn shown(
         ReturnValues::UpdatedOld => kept(alloc, touched_in(alloc, update, lent(old))?),
         ReturnValues::UpdatedNew => kept(alloc, touched_in(alloc, update, lent(new))?),
     }
+}
+
+/// The item of which a condition was false, where it is to be shown (API Reference: PutItem,
+/// ReturnValuesOnConditionCheckFailure). It is not copied.
+pub fn shown_old(show_old: bool, old: Option<&SharedItem>) -> Result<Option<SharedItem>, NoMemory>
+    ensures { IfOk result (λ shown. shown ≡ shown_if show_old (option_copied old.entry)) }
+{
+    if show_old { shared(old) } else { Ok(None) }
 }
 
 fn shared(item: Option<&SharedItem>) -> Result<Option<SharedItem>, NoMemory>

@@ -2,13 +2,13 @@
 
 ghost use Rattle.std.specs.Prelude.{◌≡◌, ℕ, List, [], IfOk, OnErr};
 ghost use Rattle.std.specs.Option.{option_copied};
-ghost use Rattle.table_model.specs.Writes.{put_item, update_item, delete_item, put_fault};
+ghost use Rattle.table_model.specs.Writes.{put_item, update_item, delete_item, put_fault, shown_if};
 ghost use Rattle.table_items.specs.Effects.{IsDone};
 ghost use Rattle.table_items.specs.Steps.{IsMade, IsPut, IsUpdate, IsUpdateAt, IsDelete, put_of, update_of};
 
 use crate::key::{key_of_item, key_of_key};
 use crate::outcome::{Outcome, delete_outcome, put_outcome, update_outcome};
-use crate::returned::{shown, touched_key};
+use crate::returned::{shown, shown_old, touched_key};
 use attr_value::{Item, SharedItem, Value, kept};
 use base_types::Seq;
 use expr_parse::Update;
@@ -34,7 +34,10 @@ fn make(
 {
     table.prepare(alloc, key, new)?;
     table.commit();
-    Ok(Reply::Written(shown))
+    Ok(Reply::Written {
+        shown,
+        consumed: None,
+    })
 }
 
 /// What is told of a request that does not fit the table.
@@ -54,6 +57,14 @@ fn put_fault(fault: EvalFault) -> Invalid
     }
 }
 
+/// What is told where the condition is false of the item that may be there.
+fn failed(show_old: bool, old: Option<&SharedItem>) -> Result<Reply, NoMemory>
+    ensures { IfOk result (λ reply. reply ≡ Reply.Refused (Refusal.ConditionFailed (shown_if show_old (option_copied old.entry)))) }
+{
+    let old = shown_old(show_old, old)?;
+    Ok(Reply::Refused(Refusal::ConditionFailed { old }))
+}
+
 /// Puts the item at its key.
 fn put_at(
     table: &mut TableRows,
@@ -63,9 +74,10 @@ fn put_at(
     condition: Option<&Condition>,
     values: &Seq<Value>,
     return_values: ReturnValues,
+    show_old: bool,
 ) -> Result<Reply, NoMemory>
     requires { table.old.pending ≡ [] }
-    ensures done { IfOk result (IsPut (put_of [] item (option_copied condition.entry) values.now return_values) table.old key table.new) }
+    ensures done { IfOk result (IsPut (put_of [] item (option_copied condition.entry) values.now return_values show_old) table.old key table.new) }
     ensures err { OnErr result (table.new ≡ table.old) }
 {
     let old = table.get(&key);
@@ -75,7 +87,7 @@ fn put_at(
             let shown = shown(alloc, return_values, None, old, new.as_ref())?;
             make(table, alloc, key, new, shown)
         }
-        Outcome::False => Ok(Reply::Refused(Refusal::ConditionFailed)),
+        Outcome::False => failed(show_old, old),
         Outcome::Faulty(fault) => Ok(invalid(put_fault(fault))),
     }
 }
@@ -88,14 +100,24 @@ fn put(
     condition: Option<&Condition>,
     values: &Seq<Value>,
     return_values: ReturnValues,
+    show_old: bool,
 ) -> Result<Reply, NoMemory>
     requires { table.old.pending ≡ [] }
     ensures done { IfOk result (λ reply. (name : List ℕ) → IsDone name
-        (λ db. put_item db (put_of name item (option_copied condition.entry) values.now return_values)) table.old table.new reply) }
+        (λ db. put_item db (put_of name item (option_copied condition.entry) values.now return_values show_old)) table.old table.new reply) }
     ensures err { OnErr result (table.new ≡ table.old) }
 {
     match key_of_item(alloc, table.schema(), &item)? {
-        Ok(key) => put_at(table, alloc, key, item, condition, values, return_values),
+        Ok(key) => put_at(
+            table,
+            alloc,
+            key,
+            item,
+            condition,
+            values,
+            return_values,
+            show_old,
+        ),
         Err(fault) => Ok(invalid(Invalid::Key(fault))),
     }
 }
@@ -115,6 +137,8 @@ pub fn put_item(table: &mut TableRows, alloc: Global, request: PutItem) -> Resul
         condition,
         values,
         return_values,
+        show_old,
+        capacity: _,
     } = request;
     let done = put(
         table,
@@ -123,6 +147,7 @@ pub fn put_item(table: &mut TableRows, alloc: Global, request: PutItem) -> Resul
         condition.as_ref(),
         &values,
         return_values,
+        show_old,
     );
     drop(name);
     drop(condition);
@@ -140,10 +165,11 @@ fn update_row(
     condition: Option<&Condition>,
     values: &Seq<Value>,
     return_values: ReturnValues,
+    show_old: bool,
 ) -> Result<Reply, NoMemory>
     requires { table.old.pending ≡ [] }
     ensures done { IfOk result (IsUpdate
-        (update_of [] key (option_copied update.entry) (option_copied condition.entry) values.now return_values) table.old row table.new) }
+        (update_of [] key (option_copied update.entry) (option_copied condition.entry) values.now return_values show_old) table.old row table.new) }
     ensures err { OnErr result (table.new ≡ table.old) }
 {
     let old = table.get(&row);
@@ -154,7 +180,7 @@ fn update_row(
             let shown = shown(alloc, return_values, update, old, new.as_ref())?;
             make(table, alloc, row, new, shown)
         }
-        Outcome::False => Ok(Reply::Refused(Refusal::ConditionFailed)),
+        Outcome::False => failed(show_old, old),
         Outcome::Faulty(fault) => Ok(invalid(Invalid::Evaluation(fault))),
     }
 }
@@ -169,10 +195,11 @@ fn update_at(
     condition: Option<&Condition>,
     values: &Seq<Value>,
     return_values: ReturnValues,
+    show_old: bool,
 ) -> Result<Reply, NoMemory>
     requires { table.old.pending ≡ [] }
     ensures done { IfOk result (IsUpdateAt
-        (update_of [] key (option_copied update.entry) (option_copied condition.entry) values.now return_values) table.old row table.new) }
+        (update_of [] key (option_copied update.entry) (option_copied condition.entry) values.now return_values show_old) table.old row table.new) }
     ensures err { OnErr result (table.new ≡ table.old) }
 {
     match touched_key(&table.schema().keys, update) {
@@ -186,6 +213,7 @@ fn update_at(
             condition,
             values,
             return_values,
+            show_old,
         ),
     }
 }
@@ -199,10 +227,11 @@ fn update(
     condition: Option<&Condition>,
     values: &Seq<Value>,
     return_values: ReturnValues,
+    show_old: bool,
 ) -> Result<Reply, NoMemory>
     requires { table.old.pending ≡ [] }
     ensures done { IfOk result (λ reply. (name : List ℕ) → IsDone name
-        (λ db. update_item db (update_of name key (option_copied update.entry) (option_copied condition.entry) values.now return_values))
+        (λ db. update_item db (update_of name key (option_copied update.entry) (option_copied condition.entry) values.now return_values show_old))
         table.old table.new reply) }
     ensures err { OnErr result (table.new ≡ table.old) }
 {
@@ -216,6 +245,7 @@ fn update(
             condition,
             values,
             return_values,
+            show_old,
         ),
         Err(fault) => Ok(invalid(Invalid::Key(fault))),
     }
@@ -242,6 +272,8 @@ pub fn update_item(
         condition,
         values,
         return_values,
+        show_old,
+        capacity: _,
     } = request;
     let done = update(
         table,
@@ -251,6 +283,7 @@ pub fn update_item(
         condition.as_ref(),
         &values,
         return_values,
+        show_old,
     );
     drop(name);
     drop(actions);
@@ -277,7 +310,7 @@ fn delete_at(
             let shown = shown(alloc, request.return_values, None, old, new.as_ref())?;
             make(table, alloc, key, new, shown)
         }
-        Outcome::False => Ok(Reply::Refused(Refusal::ConditionFailed)),
+        Outcome::False => failed(request.show_old, old),
         Outcome::Faulty(fault) => Ok(invalid(Invalid::Evaluation(fault))),
     }
 }

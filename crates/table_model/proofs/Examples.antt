@@ -4,10 +4,11 @@ use Rattle.item_keys.specs.ItemKey.{key_in}
 use Rattle.item_keys.specs.Order.{value_order}
 use Rattle.item_keys.specs.Place.{hash_place}
 use Rattle.row_keys.specs.Points.{point_order}
+use Rattle.row_keys.specs.Expiry.{of_seconds}
 use Rattle.table_model.specs.Worked.{Worked}
 
 pub worked : Worked
-unfolding key_in value_order hash_place point_order
+unfolding key_in value_order hash_place point_order of_seconds
 worked = record {
   created = refl;
   exists = refl;
@@ -19,6 +20,7 @@ worked = record {
   extra = refl;
   replaced = refl;
   refused = refl;
+  lost = refl;
   deleted = refl;
   gone = refl;
   batch = refl;
@@ -29,5 +31,14 @@ worked = record {
   same_actions = refl;
   other_actions = refl;
   listed = refl;
+  enabled = refl;
+  told = refl;
+  again = refl;
+  not_enabled = refl;
+  another = refl;
+  lasting = refl;
+  expired = refl;
+  forgotten = refl;
+  textual = refl;
   dropped = refl;
 }

@@ -1,6 +1,6 @@
 -- Reads and writes of many items, one after the other (API Reference: BatchGetItem, BatchWriteItem).
-use Rattle.std.specs.Prelude.{ℕ, zero, suc, ◌-◌, List, [], ◌∷◌, map, length, take, drop, filter_map, nat_lt, Bool, true, false, ◌||◌, if◌then◌else◌}
-use Rattle.std.specs.Prelude.{Option, None, Some, option_map, Result, Ok, Err}
+use Rattle.std.specs.Prelude.{ℕ, suc, ◌-◌, List, [], ◌∷◌, map, length, take, drop, filter_map, nat_lt, Bool, false, ◌||◌, if◌then◌else◌}
+use Rattle.std.specs.Prelude.{Option, None, Some, Result, Ok, Err}
 use Rattle.std.specs.List.{list_any, flat_map}
 use Rattle.std.specs.BTreeMap.{is_at}
 use Rattle.attr_value.specs.Tree.{Attributes}
@@ -112,7 +112,7 @@ batch_get_refusal db ts =
 abbrev pub batch_get : Database → BatchGet → Effect
 batch_get db r =
     let count = read_count most_batch_bytes (flat_map (asked_items db) r.tables) in
-    unless db (batch_get_refusal db r.tables) (db, BatchRead (found db count r.tables) (unread count r.tables))
+    unless db (batch_get_refusal db r.tables) (db, BatchRead (found db count r.tables) (unread count r.tables) None)
 
 -- ---- BatchWriteItem
 
@@ -174,4 +174,4 @@ write_all db [] = db
 write_all db (t ∷ ts) = write_all (write_table db t.table t.writes) ts
 
 abbrev pub batch_write : Database → BatchWrite → Effect
-batch_write db r = unless db (batch_write_refusal db r.tables) (write_all db r.tables, BatchWritten [])
+batch_write db r = unless db (batch_write_refusal db r.tables) (write_all db r.tables, BatchWritten [] None)

@@ -1,8 +1,8 @@
 -- Tables made, dropped, changed, described and listed (API Reference: CreateTable, DeleteTable, UpdateTable,
--- DescribeTable, ListTables).
-use Rattle.std.specs.Prelude.{◌≡◌, ℕ, ◌+◌, List, [], ◌∷◌, ◌++◌, map, filter, take, length, nat_lt, nat_le, Bool, true, false, not, ◌||◌, ◌&&◌, bytes_eq}
-use Rattle.std.specs.Prelude.{if◌then◌else◌, Option, None, Some, is_some, unwrap_or}
-use Rattle.std.specs.List.{list_any, flat_map}
+-- DescribeTable, ListTables, UpdateTimeToLive, DescribeTimeToLive).
+use Rattle.std.specs.Prelude.{◌≡◌, ℕ, ◌+◌, List, [], ◌∷◌, ◌++◌, map, filter, take, length, nat_lt, nat_le, Bool, true, false, not, ◌||◌, bytes_eq}
+use Rattle.std.specs.Prelude.{if◌then◌else◌, Option, None, Some, is_some, option_map, unwrap_or}
+use Rattle.std.specs.List.{list_any}
 use Rattle.std.specs.Ordering.{nat_cmp, is_lt}
 use Rattle.std.specs.Cmp.Lexicographic.{slice_cmp}
 use Rattle.std.specs.Map.{remove_entry}
@@ -10,7 +10,6 @@ use Rattle.std.specs.BTreeMap.{is_at, insert_entry}
 use Rattle.table_schema.specs.declared.definition.Definition.{Definition}
 use Rattle.table_schema.specs.declared.definition.KeyKind.{KeyKind}
 use Rattle.table_schema.specs.declared.definition.KeyKind.TheVariants.{S, N, B}
-use Rattle.table_schema.specs.declared.keys.KeyNames.{KeyNames}
 use Rattle.table_schema.specs.declared.index.GlobalIndex.{GlobalIndex}
 use Rattle.table_schema.specs.declared.schema.Schema.{Schema}
 use Rattle.table_schema.specs.declared.fault.SchemaFault.{SchemaFault}
@@ -28,15 +27,19 @@ use Rattle.table_request.specs.declared.tables.UpdateTable.{UpdateTable}
 use Rattle.table_request.specs.declared.tables.TableUpdate.{TableUpdate}
 use Rattle.table_request.specs.declared.tables.IndexChange.{IndexChange}
 use Rattle.table_request.specs.declared.tables.IndexChange.TheVariants.{Make, Remove}
+use Rattle.table_request.specs.declared.time_to_live.UpdateTimeToLive.{UpdateTimeToLive}
+use Rattle.table_request.specs.declared.time_to_live.DescribeTimeToLive.{DescribeTimeToLive}
 use Rattle.table_model.specs.declared.reply.Reply.{Reply}
 use Rattle.table_model.specs.declared.reply.Reply.TheVariants as answer
 use Rattle.table_model.specs.declared.reply.TableNames.{TableNames}
 use Rattle.table_model.specs.declared.refusal.Refusal.{Refusal}
 use Rattle.table_model.specs.declared.refusal.Refusal.TheVariants.{Invalid, NoTable, NoIndex, TableExists, TooManyTables}
 use Rattle.table_model.specs.declared.refusal.Invalid.TheVariants as invalid
+use Rattle.table_model.specs.declared.refusal.TtlFault.{TtlFault}
+use Rattle.table_model.specs.declared.refusal.TtlFault.TheVariants.{AlreadyEnabled, AlreadyDisabled, OtherAttribute}
 use Rattle.row_keys.specs.Rows.{index_keys}
 use Rattle.table_model.specs.Pages.{global_named, local_named}
-use Rattle.table_model.specs.Database.{Database, Table, Effect, table_named, with_table, refused, in_table}
+use Rattle.table_model.specs.Database.{Database, Table, Effect, table_named, with_table, refused, in_table, unless}
 
 -- ---- tables made and dropped
 
@@ -74,6 +77,32 @@ delete_table db r =
 
 abbrev pub describe_table : Database → DescribeTable → Effect
 describe_table db r = in_table db r.table (table_named db r.table) (λ table. (db, answer.Table table.schema))
+
+-- ---- time to live
+
+-- whether items are to expire, by the attribute by which they do: why they can't
+abbrev pub ttl_fault : Option (List ℕ) → List ℕ → Bool → Option TtlFault
+ttl_fault None name true = None
+ttl_fault None name false = Some AlreadyDisabled
+ttl_fault (Some known) name true = Some AlreadyEnabled
+ttl_fault (Some known) name false = if bytes_eq known name then None else Some OtherAttribute
+
+abbrev pub ttl_refusal : Schema → UpdateTimeToLive → Option Refusal
+ttl_refusal schema r = option_map (λ fault. Invalid (invalid.TimeToLive fault)) (ttl_fault schema.ttl r.name r.enabled)
+
+-- the schema with the time to live that is stated
+abbrev pub with_ttl : Schema → UpdateTimeToLive → Schema
+with_ttl schema r = record schema { ttl = if r.enabled then Some r.name else None }
+
+-- items stay as they are
+abbrev pub update_time_to_live : Database → UpdateTimeToLive → Effect
+update_time_to_live db r =
+    in_table db r.table (table_named db r.table)
+    (λ table. unless db (ttl_refusal table.schema r)
+    (with_table db r.table (record table { schema = with_ttl table.schema r }), answer.TimeToLiveSet r.name r.enabled))
+
+abbrev pub describe_time_to_live : Database → DescribeTimeToLive → Effect
+describe_time_to_live db r = in_table db r.table (table_named db r.table) (λ table. (db, answer.TimeToLive table.schema.ttl))
 
 -- ---- names
 

@@ -8,5 +8,6 @@ pub mod Batches
 pub mod Pages
 pub mod Transactions
 pub mod Catalog
+pub mod Expired
 pub mod Effect
 pub mod Worked

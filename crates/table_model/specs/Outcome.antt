@@ -1,5 +1,5 @@
 -- What a write makes of one item: the condition, then the evaluation, then the size, then the keys of indexes.
-use Rattle.std.specs.Prelude.{ℕ, List, Bool, true, not, nat_lt, if◌then◌else◌, Option, None, Some, unwrap_or, Result, Ok, Err}
+use Rattle.std.specs.Prelude.{ℕ, List, Bool, true, nat_lt, if◌then◌else◌, Option, None, Some, unwrap_or, Result, Ok, Err}
 use Rattle.attr_value.specs.Tree.{Attributes, no_attributes}
 use Rattle.attr_value.specs.Sizes.{item_size}
 use Rattle.attr_value.specs.declared.value.Value.{Value}

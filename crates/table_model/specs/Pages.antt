@@ -1,18 +1,17 @@
 -- Pages of rows (API Reference: Query, Scan; Developer Guide: Querying tables, Scanning tables).
 use Rattle.std.specs.Prelude.{◌≡◌, ℕ, ◌+◌, ◌*◌, ◌^◌, List, [], ◌∷◌, map, filter, take, length, nat_le, nat_lt, Bool, true, false, not, ◌&&◌, ◌||◌}
-use Rattle.std.specs.Prelude.{if◌then◌else◌, bytes_eq, Option, None, Some, is_some, option_map, option_and_then, Result, Ok, Err}
+use Rattle.std.specs.Prelude.{if◌then◌else◌, bytes_eq, Option, None, Some, option_map, Result, Ok, Err}
 use Rattle.std.specs.List.{list_any}
 use Rattle.std.specs.Ordering.{is_eq}
 use Rattle.attr_value.specs.Tree.{Attributes, no_attributes, attribute}
 use Rattle.attr_value.specs.Sizes.{item_size}
-use Rattle.attr_value.specs.declared.value.Value.{Value}
 use Rattle.base_types.specs.declared.path.Step.{Step}
-use Rattle.base_types.specs.declared.path.Step.TheVariants.{Name, Index}
+use Rattle.base_types.specs.declared.path.Step.TheVariants.{Name}
 use Rattle.base_types.specs.declared.path.DocPath.{DocPath}
 use Rattle.expr_words.specs.declared.tree.Condition.{Condition}
 use Rattle.expr_words.specs.declared.tree.Paths.{Paths}
 use Rattle.expr_words.specs.Trees.{tree}
-use Rattle.expr_words.specs.Mentions.{Mention, AtPath, AtValue, AtKind, mentions}
+use Rattle.expr_words.specs.Mentions.{Mention, AtPath, mentions}
 use Rattle.condition_eval.specs.Truth.{true_of}
 use Rattle.key_condition.specs.Range.{range_of}
 use Rattle.key_condition.specs.declared.fault.RangeFault.{RangeFault}
@@ -49,7 +48,7 @@ use Rattle.row_keys.specs.Keys.{row_key, position_order}
 use Rattle.row_keys.specs.Rows.{Entries, position, table_entries, local_entries, global_entries}
 use Rattle.table_model.specs.Outcome.{is_met}
 use Rattle.table_model.specs.Reads.{view}
-use Rattle.table_model.specs.Database.{Database, Table, Effect, table_named, refused, first, where_true}
+use Rattle.table_model.specs.Database.{Database, Table, table_named, first, where_true}
 
 -- ---- what is read
 
@@ -244,7 +243,7 @@ pub record IsPageOf (schema : Schema) (source : Source) (r : PageRequest) (forwa
     (entries : Entries) (reply : Reply) : Type 0 where
   pub count : ℕ
   pub is_page : IsPage r.limit (map (λ entry. judged r entry.1) (rows_after position_order forward start entries)) count
-  pub reply_is : reply ≡ answer.Page (page_of schema source r (take count (rows_after position_order forward start entries)))
+  pub reply_is : reply ≡ answer.Page (page_of schema source r (take count (rows_after position_order forward start entries))) None
 
 -- ---- Query
 

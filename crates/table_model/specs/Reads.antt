@@ -18,4 +18,4 @@ abbrev pub get_item : Database → GetItem → Effect
 get_item db r =
     in_table db r.table (table_named db r.table)
     (λ table. at_key db (key_alone table.schema table.schema.keys r.key)
-    (λ key. (db, Read (option_map (view r.projection) (old_at table key)))))
+    (λ key. (db, Read (option_map (view r.projection) (old_at table key)) None)))

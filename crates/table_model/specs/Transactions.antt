@@ -1,14 +1,13 @@
 -- Transactions (API Reference: TransactWriteItems, TransactGetItems; Developer Guide: Amazon DynamoDB transactions).
-use Rattle.std.specs.Prelude.{ℕ, List, [], ◌∷◌, ◌++◌, map, filter_map, Bool, true, false, ◌&&◌, ◌||◌, bytes_eq, if◌then◌else◌}
-use Rattle.std.specs.Prelude.{Option, None, Some, option_map, option_and_then, Result, Ok, Err}
+use Rattle.std.specs.Prelude.{ℕ, List, [], ◌∷◌, map, filter_map, Bool, true, false, ◌&&◌, ◌||◌, bytes_eq, if◌then◌else◌}
+use Rattle.std.specs.Prelude.{Option, None, Some, option_map, option_and_then, Result}
 use Rattle.std.specs.List.{list_any, list_all}
 use Rattle.std.specs.Cmp.Lexicographic.{pointwise}
 use Rattle.std.specs.BTreeMap.{is_at}
 use Rattle.std.specs.FinMap.{get, insert}
 use Rattle.attr_value.specs.Tree.{Attributes}
 use Rattle.client_tokens.specs.declared.kept.Kept.{Kept}
-use Rattle.client_tokens.specs.TokenMap.{TokenMap, purged}
-use Rattle.update_eval.specs.declared.fault.EvalFault.{EvalFault}
+use Rattle.client_tokens.specs.TokenMap.{purged}
 use Rattle.item_keys.specs.declared.fault.KeyFault.{KeyFault}
 use Rattle.item_keys.specs.declared.key.Key.{Key}
 use Rattle.row_keys.specs.declared.row_key.RowKey.{RowKey}
@@ -32,7 +31,7 @@ use Rattle.row_keys.specs.Keys.{row_order}
 use Rattle.row_keys.specs.Rows.{item_at}
 use Rattle.table_model.specs.Outcome.{Outcome, becomes, is_false, is_faulty, is_met, where_met, put_outcome, update_outcome, delete_outcome}
 use Rattle.table_model.specs.Reads.{view}
-use Rattle.table_model.specs.Writes.{key_update}
+use Rattle.table_model.specs.Writes.{key_update, shown_if}
 use Rattle.table_model.specs.Batches.{missing, key_refusal, place_if}
 use Rattle.table_model.specs.Database.{Database, Table, Effect, table_named, with_row, refused, unless, first, where_true}
 
@@ -121,7 +120,7 @@ is_accepted (is_faulty fault) = false
 
 -- the item that is shown where the condition is false
 abbrev pub shown_old : Database → TransactAction → Option Table → Option Target → Option Attributes
-shown_old db action (Some table) (Some target) = if action.show_old then item_at table.rows target.key else None
+shown_old db action (Some table) (Some target) = shown_if action.show_old (item_at table.rows target.key)
 shown_old db action _ _ = None
 
 abbrev pub reason_if : Database → TransactAction → Outcome → Reason
@@ -179,14 +178,14 @@ same_action = ghosts.eq
 abbrev pub transacted : Database → TransactWrite → ℕ → Effect
 transacted db r moment =
     if list_all (λ action. is_accepted (outcome_of db action)) r.actions
-    then (with_token (made_all db r.actions (map (outcome_of db) r.actions)) r.token moment (numbered_all db r.actions), answer.TransactWritten)
+    then (with_token (made_all db r.actions (map (outcome_of db) r.actions)) r.token moment (numbered_all db r.actions), answer.TransactWritten None)
     else refused db (Cancelled (map (reason_of db) r.actions))
 
 -- a token that lives changes nothing: the same actions were made before, and others are refused
 abbrev pub repeated : Database → TransactWrite → ℕ → Option (Kept (List NumberedAction)) → Effect
 repeated db r moment None = transacted db r moment
 repeated db r moment (Some kept) =
-    if pointwise same_action kept.actions (numbered_all db r.actions) then (db, answer.TransactWritten) else refused db Mismatch
+    if pointwise same_action kept.actions (numbered_all db r.actions) then (db, answer.TransactWritten None) else refused db Mismatch
 
 abbrev pub transact_write : Database → TransactWrite → ℕ → Effect
 transact_write db r moment =
@@ -222,4 +221,4 @@ abbrev pub read_view : Database → TransactRead → Option Attributes
 read_view db read = option_map (view read.projection) (read_item (table_named db read.table) (read_target db read))
 
 abbrev pub transact_get : Database → TransactGet → Effect
-transact_get db r = unless db (read_refusal db r.reads) (db, answer.TransactRead (map (read_view db) r.reads))
+transact_get db r = unless db (read_refusal db r.reads) (db, answer.TransactRead (map (read_view db) r.reads) None)

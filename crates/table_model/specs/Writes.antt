@@ -65,11 +65,15 @@ abbrev pub put_fault : EvalFault → why.Invalid
 put_fault ItemTooLarge = invalid.ItemTooLarge
 put_fault fault = invalid.Evaluation fault
 
--- what becomes of a table by the outcome of a write at a key
-abbrev pub written : Database → List ℕ → Table → Key → (EvalFault → why.Invalid) → (Option Attributes → Option Attributes) → Outcome → Effect
-written db name table key fault show (becomes new) = (with_row db name table (row_key key) new, Written (show new))
-written db name table key fault show is_false = refused db ConditionFailed
-written db name table key fault show (is_faulty why) = refused db (Invalid (fault why))
+-- the item of which a condition was false, where it is to be shown
+abbrev pub shown_if : Bool → Option Attributes → Option Attributes
+shown_if asked old = if asked then old else None
+
+-- what becomes of a table by the outcome of a write at a key; `lost` is what is shown where the condition is false
+abbrev pub written : Database → List ℕ → Table → Key → Option Attributes → (EvalFault → why.Invalid) → (Option Attributes → Option Attributes) → Outcome → Effect
+written db name table key lost fault show (becomes new) = (with_row db name table (row_key key) new, Written (show new) None)
+written db name table key lost fault show is_false = refused db (ConditionFailed lost)
+written db name table key lost fault show (is_faulty why) = refused db (Invalid (fault why))
 
 -- the item of a table at a key
 abbrev pub old_at : Table → Key → Option Attributes
@@ -78,7 +82,7 @@ old_at table key = item_at table.rows (row_key key)
 abbrev pub put_at : Database → PutItem → Table → Key → Effect
 put_at db r table key =
     let old = old_at table key in
-    written db r.table table key put_fault (shown r.return_values None old)
+    written db r.table table key (shown_if r.show_old old) put_fault (shown r.return_values None old)
     (where_met (is_met r.condition r.values old) (put_outcome table.schema r.item))
 
 abbrev pub put_item : Database → PutItem → Effect
@@ -89,7 +93,7 @@ put_item db r =
 abbrev pub update_at : Database → UpdateItem → Table → Key → Effect
 update_at db r table key =
     let old = old_at table key in
-    written db r.table table key invalid.Evaluation (shown r.return_values r.update old)
+    written db r.table table key (shown_if r.show_old old) invalid.Evaluation (shown r.return_values r.update old)
     (where_met (is_met r.condition r.values old) (update_outcome table.schema r.update r.values r.key old))
 
 abbrev pub update_item : Database → UpdateItem → Effect
@@ -101,7 +105,7 @@ update_item db r =
 abbrev pub delete_at : Database → DeleteItem → Table → Key → Effect
 delete_at db r table key =
     let old = old_at table key in
-    written db r.table table key invalid.Evaluation (shown r.return_values None old)
+    written db r.table table key (shown_if r.show_old old) invalid.Evaluation (shown r.return_values None old)
     (where_met (is_met r.condition r.values old) delete_outcome)
 
 abbrev pub delete_item : Database → DeleteItem → Effect

@@ -16,5 +16,5 @@ mod reply;
 
 pub use action::NumberedAction;
 pub use laws::worked;
-pub use refusal::{Invalid, Reason, Refusal};
+pub use refusal::{Invalid, Reason, Refusal, TtlFault};
 pub use reply::{Page, Reply, TableItems, TableNames};

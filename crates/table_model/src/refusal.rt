@@ -20,8 +20,8 @@ pub enum Refusal {
     TableExists(Text),
     /// ResourceInUseException: a transaction holds an item of the table of this name.
     TableHeld(Text),
-    /// ConditionalCheckFailedException.
-    ConditionFailed,
+    /// ConditionalCheckFailedException. The item is shown where that was asked and it is there.
+    ConditionFailed { old: Option<SharedItem> },
     /// TransactionCanceledException, with a reason for each action, of which one is not `None`.
     Cancelled(Seq<Reason>),
     /// TransactionConflictException: the transaction of this number holds the item.
@@ -41,7 +41,7 @@ impl Drop for Refusal {
             | Refusal::NoIndex(_)
             | Refusal::TableExists(_)
             | Refusal::TableHeld(_)
-            | Refusal::ConditionFailed
+            | Refusal::ConditionFailed { old: _ }
             | Refusal::Cancelled(_)
             | Refusal::Conflict { number: _ }
             | Refusal::Mismatch
@@ -77,6 +77,8 @@ pub enum Invalid {
     Evaluation(EvalFault),
     /// An item to be put has more than 409,600 bytes.
     ItemTooLarge,
+    /// The time to live that a table would have.
+    TimeToLive(TtlFault),
 }
 
 // By hand, so that no crate above proves it again.
@@ -95,9 +97,21 @@ impl Drop for Invalid {
             | Invalid::StartKey
             | Invalid::Twice
             | Invalid::Evaluation(_)
-            | Invalid::ItemTooLarge => {}
+            | Invalid::ItemTooLarge
+            | Invalid::TimeToLive(_) => {}
         }
     }
+}
+
+/// Why a table's time to live can't become what is stated (API Reference: UpdateTimeToLive).
+#[derive(Clone, Copy, PartialEq, Eq)]
+pub enum TtlFault {
+    /// It is to be enabled, and is.
+    AlreadyEnabled = 1,
+    /// It is to be disabled, and is.
+    AlreadyDisabled = 2,
+    /// It is to be disabled for another attribute than the one by which items expire.
+    OtherAttribute = 3,
 }
 
 /// What became of one part of a cancelled transaction (API Reference: CancellationReason).

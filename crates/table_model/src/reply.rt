@@ -3,35 +3,58 @@
 use crate::refusal::Refusal;
 use attr_value::{Item, SharedItem};
 use base_types::{Seq, Text};
-use table_request::{TableKeys, TableWrites};
+use table_request::{Consumed, TableKeys, TableWrites};
 use table_schema::Schema;
 
-/// The answer to a request.
+/// The answer to a request. What it `consumed` of the tables' capacity is told where that was asked.
 pub enum Reply {
     /// A table that was made, changed or dropped, of this schema (TableDescription).
     Described(Schema),
     /// A table that was asked for (DescribeTable).
     Table(Schema),
     Tables(TableNames),
+    /// The time to live of a table was changed as it was stated (UpdateTimeToLive).
+    TimeToLiveSet {
+        name: Text,
+        enabled: bool,
+    },
+    /// The attribute by which the items of a table expire, where they do (DescribeTimeToLive).
+    TimeToLive(Option<Text>),
     /// A single write was made. The attributes are those that it was asked to show, where there are some.
-    Written(Option<SharedItem>),
+    Written {
+        shown: Option<SharedItem>,
+        consumed: Option<Consumed>,
+    },
     /// What is shown of an item, where it is there (GetItem).
-    Read(Option<SharedItem>),
+    Read {
+        shown: Option<SharedItem>,
+        consumed: Option<Consumed>,
+    },
     /// What is shown of the items that were found, each table's in the order of its keys, and the keys that were not
     /// read.
     BatchRead {
         found: Seq<TableItems>,
         unread: Seq<TableKeys>,
+        consumed: Option<Seq<Consumed>>,
     },
     /// The writes that were not made.
     BatchWritten {
         unwritten: Seq<TableWrites>,
+        consumed: Option<Seq<Consumed>>,
     },
-    Page(Page),
+    Page {
+        page: Page,
+        consumed: Option<Consumed>,
+    },
     /// The transaction was made.
-    TransactWritten,
+    TransactWritten {
+        consumed: Option<Seq<Consumed>>,
+    },
     /// What is shown of each item, where it is there, in the order of the request.
-    TransactRead(Seq<Option<SharedItem>>),
+    TransactRead {
+        shown: Seq<Option<SharedItem>>,
+        consumed: Option<Seq<Consumed>>,
+    },
     Refused(Refusal),
 }
 
@@ -42,16 +65,37 @@ impl Drop for Reply {
             Reply::Described(_)
             | Reply::Table(_)
             | Reply::Tables(_)
-            | Reply::Written(_)
-            | Reply::Read(_)
+            | Reply::TimeToLiveSet {
+                name: _,
+                enabled: _,
+            }
+            | Reply::TimeToLive(_)
+            | Reply::Written {
+                shown: _,
+                consumed: _,
+            }
+            | Reply::Read {
+                shown: _,
+                consumed: _,
+            }
             | Reply::BatchRead {
                 found: _,
                 unread: _,
+                consumed: _,
             }
-            | Reply::BatchWritten { unwritten: _ }
-            | Reply::Page(_)
-            | Reply::TransactWritten
-            | Reply::TransactRead(_)
+            | Reply::BatchWritten {
+                unwritten: _,
+                consumed: _,
+            }
+            | Reply::Page {
+                page: _,
+                consumed: _,
+            }
+            | Reply::TransactWritten { consumed: _ }
+            | Reply::TransactRead {
+                shown: _,
+                consumed: _,
+            }
             | Reply::Refused(_) => {}
         }
     }

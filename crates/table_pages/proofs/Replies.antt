@@ -40,11 +40,11 @@ module _ (reply : Reply) (P : Type 0) where
 -- a page that is filled with these rows is their page
 pub page_is : (schema : Schema) (source : Source) (r : PageRequest) (forward : Bool) (start : Option Position) (entries : Entries) (page : Page)
     → IsFilled schema source r (rows_after position_order forward start entries) page
-    → IsPageOf schema source r forward start entries (answer.Page page)
+    → IsPageOf schema source r forward start entries (answer.Page page None)
 page_is schema source r forward start entries page filled = record {
   count = filled.count;
   is_page = filled.is_page;
-  reply_is = ap answer.Page filled.page_is;
+  reply_is = ap (λ (p : Page). answer.Page p None) filled.page_is;
 }
 
 -- ---- a Query

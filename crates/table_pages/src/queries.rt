@@ -47,7 +47,10 @@ fn page_of<'a>(
         forward: request.forward,
     };
     let page = reading.page_in(alloc, span)?;
-    Ok(Reply::Page(page))
+    Ok(Reply::Page {
+        page,
+        consumed: None,
+    })
 }
 
 /// A Query of a source whose key condition has this range.

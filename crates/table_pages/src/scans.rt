@@ -53,7 +53,10 @@ fn page_of<'a>(
         forward: true,
     };
     let page = reading.page_in(alloc, span)?;
-    Ok(Reply::Page(page))
+    Ok(Reply::Page {
+        page,
+        consumed: None,
+    })
 }
 
 /// A Scan of a source.

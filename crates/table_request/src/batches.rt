@@ -9,6 +9,8 @@ use expr_words::{NamePair, Paths};
 pub struct BatchGet {
     /// In the order of their names' bytes, each name once.
     pub tables: Seq<TableKeys>,
+    /// Whether the capacity that was used is told (ReturnConsumedCapacity, TOTAL or INDEXES).
+    pub capacity: bool,
 }
 
 /// The items that are asked of a table (API Reference: KeysAndAttributes).
@@ -28,6 +30,8 @@ pub struct TableKeys {
     pub expression: Option<Text>,
     /// ExpressionAttributeNames, where they are stated.
     pub names: Option<Seq<NamePair>>,
+    /// AttributesToGet, where it is stated in place of an expression.
+    pub attributes: Option<Seq<Text>>,
 }
 
 /// Makes and drops up to 25 items (API Reference: BatchWriteItem).
@@ -35,6 +39,8 @@ pub struct TableKeys {
 pub struct BatchWrite {
     /// In the order of their names' bytes, each name once.
     pub tables: Seq<TableWrites>,
+    /// Whether the capacity that was used is told (ReturnConsumedCapacity, TOTAL or INDEXES).
+    pub capacity: bool,
 }
 
 /// The items of a table that are made and dropped.

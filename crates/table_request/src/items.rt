@@ -28,6 +28,8 @@ pub struct GetItem {
     /// What is shown of the item; all of it where nothing is stated.
     pub projection: Option<Paths>,
     pub consistent: bool,
+    /// Whether the capacity that was used is told (ReturnConsumedCapacity, TOTAL or INDEXES).
+    pub capacity: bool,
 }
 
 /// Makes an item, in place of one with its key (API Reference: PutItem).
@@ -41,6 +43,10 @@ pub struct PutItem {
     pub values: Seq<Value>,
     /// `None` or `AllOld`.
     pub return_values: ReturnValues,
+    /// Whether the item is shown where the condition is false of it (ReturnValuesOnConditionCheckFailure, ALL_OLD).
+    pub show_old: bool,
+    /// Whether the capacity that was used is told (ReturnConsumedCapacity, TOTAL or INDEXES).
+    pub capacity: bool,
 }
 
 /// Changes attributes of an item, or makes it (API Reference: UpdateItem).
@@ -56,6 +62,10 @@ pub struct UpdateItem {
     /// The values that update and condition name, by their places.
     pub values: Seq<Value>,
     pub return_values: ReturnValues,
+    /// Whether the item is shown where the condition is false of it (ReturnValuesOnConditionCheckFailure, ALL_OLD).
+    pub show_old: bool,
+    /// Whether the capacity that was used is told (ReturnConsumedCapacity, TOTAL or INDEXES).
+    pub capacity: bool,
 }
 
 /// Drops an item (API Reference: DeleteItem).
@@ -70,4 +80,8 @@ pub struct DeleteItem {
     pub values: Seq<Value>,
     /// `None` or `AllOld`.
     pub return_values: ReturnValues,
+    /// Whether the item is shown where the condition is false of it (ReturnValuesOnConditionCheckFailure, ALL_OLD).
+    pub show_old: bool,
+    /// Whether the capacity that was used is told (ReturnConsumedCapacity, TOTAL or INDEXES).
+    pub capacity: bool,
 }

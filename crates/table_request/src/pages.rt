@@ -33,6 +33,8 @@ pub struct PageRequest {
     /// The key of the row after which the page begins (ExclusiveStartKey).
     pub start: Option<Item>,
     pub consistent: bool,
+    /// Whether the capacity that was used is told (ReturnConsumedCapacity, TOTAL or INDEXES).
+    pub capacity: bool,
 }
 
 /// Reads the rows of one partition key (API Reference: Query).

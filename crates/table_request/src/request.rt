@@ -4,6 +4,7 @@ use crate::batches::{BatchGet, BatchWrite};
 use crate::items::{DeleteItem, GetItem, PutItem, UpdateItem};
 use crate::pages::{Query, Scan};
 use crate::tables::{CreateTable, DeleteTable, DescribeTable, ListTables, UpdateTable};
+use crate::time_to_live::{DescribeTimeToLive, UpdateTimeToLive};
 use crate::transactions::{TransactGet, TransactWrite};
 
 /// What is asked of the database (API Reference: Actions).
@@ -14,6 +15,8 @@ pub enum Request {
     UpdateTable(UpdateTable),
     DescribeTable(DescribeTable),
     ListTables(ListTables),
+    UpdateTimeToLive(UpdateTimeToLive),
+    DescribeTimeToLive(DescribeTimeToLive),
     PutItem(PutItem),
     GetItem(GetItem),
     UpdateItem(UpdateItem),

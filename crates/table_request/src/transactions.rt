@@ -1,5 +1,6 @@
 //! Requests on many items at one point, all or nothing.
 
+use crate::capacity::Consumed;
 use attr_value::{Item, Value};
 use base_types::{Seq, Text};
 use expr_parse::Update;
@@ -12,6 +13,9 @@ pub struct TransactWrite {
     pub actions: Seq<TransactAction>,
     /// What tells a repeat of this call from another call (ClientRequestToken).
     pub token: Option<Text>,
+    /// The capacity that it uses of each table, in the order of the tables' names, where that is to be told
+    /// (ReturnConsumedCapacity, TOTAL or INDEXES).
+    pub consumed: Option<Seq<Consumed>>,
 }
 
 /// A part of a transaction (API Reference: TransactWriteItem).
@@ -45,6 +49,8 @@ pub enum Change {
 pub struct TransactGet {
     /// At least 1.
     pub reads: Seq<TransactRead>,
+    /// Whether the capacity that was used is told (ReturnConsumedCapacity, TOTAL or INDEXES).
+    pub capacity: bool,
 }
 
 /// An item that is read (API Reference: Get).

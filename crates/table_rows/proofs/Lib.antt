@@ -9,3 +9,4 @@ pub mod Listed
 pub mod Found
 pub mod Same
 pub mod Looked
+pub mod Quiets

@@ -11,14 +11,19 @@
 //! Where nothing is prepared, [`TableRows::rows`] and [`TableRows::index_rows`] are walks over the rows between two ends, of
 //! which `paging` fills a page, and [`TableRows::change_schema`] gives the table other indexes.
 //!
+//! A table whose items expire knows seconds at which none is expired ([`TableRows::is_quiet`]): so it is not gone through
+//! at every message. `specs/Quiet.antt` says what is known.
+//!
 //! `specs/View.antt` says what a table shows.
 #![tactic(auto)]
 
 mod change;
 mod index;
 mod index_range;
+mod indexed;
 mod moves;
 mod prepare;
+mod quiet;
 mod row_range;
 mod slots;
 mod table;

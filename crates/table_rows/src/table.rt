@@ -1,6 +1,6 @@
 //! Tables.
 
-ghost use Rattle.std.specs.Prelude.{◌≡◌, [], ◌∷◌, ◌++◌, map, slice_get, false, None, IfNone, IfSome, IfOk, OnOk, OnErr, IsTrue};
+ghost use Rattle.std.specs.Prelude.{◌≡◌, [], ◌∷◌, ◌++◌, slice_get, false, None, IfNone, IfSome, IfOk, OnOk, OnErr, IsTrue};
 ghost use Rattle.std.specs.Option.{option_copied};
 ghost use Rattle.std.specs.BTreeMap.Range.{entries_between};
 ghost use Rattle.std.specs.List.Sorted.{IsStrictlySortedBy};
@@ -8,120 +8,50 @@ ghost use Rattle.std.specs.Map.{keys_of};
 ghost use Rattle.std.specs.Range.Bound.{bound_map};
 ghost use Rattle.row_keys.specs.Keys.{row_order, position_order};
 ghost use Rattle.row_keys.specs.Rows.{item_at, index_of, index_keys};
-ghost use Rattle.table_rows.specs.Slots.{rows_of};
 ghost use Rattle.table_rows.specs.View.{is_pending, committed};
-ghost use Rattle.table_rows.specs.Places.{index_over};
+ghost use Rattle.table_rows.specs.Quiet.{expired_rows};
 
-use crate::change::{Change, is_pending};
-use crate::index::Index;
 use crate::index_range::IndexRange;
-use crate::prepare::{make_all, prepare_in, release_all, settle_all, undo_all};
+use crate::indexed::IndexedRows;
+use crate::quiet::{Quiet, watched};
 use crate::row_range::RowRange;
-use crate::slots::Slots;
 use attr_value::SharedItem;
 use base_types::Seq;
 use row_keys::{Position, RowKey};
 use std::alloc::{AllocError as NoMemory, Global};
 use std::marker::Model;
-use std::mem::replace;
 use std::ops::Bound;
-use table_schema::{GlobalIndex, LocalIndex, Schema};
-
-/// Adds the index of the rows for each local index.
-fn add_locals(
-    alloc: Global,
-    indexes: &mut Seq<Index>,
-    locals: &[LocalIndex],
-    schema: &Schema,
-    slots: &Slots,
-) -> Result<(), NoMemory>
-    ensures { OnOk result (indexes.new ≡ indexes.old ++ map (λ index. index_over schema.now (rows_of slots.now) index.keys) locals.now) }
-{
-    for index in locals {
-        indexes.push(Index::over(alloc, schema, index.keys.try_clone()?, slots)?)?;
-    }
-    Ok(())
-}
-
-/// Adds the index of the rows for each global index.
-fn add_globals(
-    alloc: Global,
-    indexes: &mut Seq<Index>,
-    globals: &[GlobalIndex],
-    schema: &Schema,
-    slots: &Slots,
-) -> Result<(), NoMemory>
-    ensures { OnOk result (indexes.new ≡ indexes.old ++ map (λ index. index_over schema.now (rows_of slots.now) index.keys) globals.now) }
-{
-    for index in globals {
-        indexes.push(Index::over(alloc, schema, index.keys.try_clone()?, slots)?)?;
-    }
-    Ok(())
-}
-
-/// The indexes of a table with these rows, those that are local first.
-fn indexes_of(alloc: Global, schema: &Schema, slots: &Slots) -> Result<Seq<Index>, NoMemory>
-    ensures { IfOk result (λ indexes. indexes ≡ map (index_over schema.now (rows_of slots.now)) (index_keys schema.now)) }
-{
-    let mut indexes = Seq::new(alloc);
-    add_locals(alloc, &mut indexes, schema.locals.as_slice(), schema, slots)?;
-    add_globals(
-        alloc,
-        &mut indexes,
-        schema.globals.as_slice(),
-        schema,
-        slots,
-    )?;
-    Ok(indexes)
-}
-
-/// Whether each row stands at the same place in the same indexes by both schemas.
-fn have_same_indexes(old: &Schema, new: &Schema) -> bool
-    ensures definitions { IsTrue result → old.now.definitions ≡ new.now.definitions }
-    ensures keys { IsTrue result → index_keys old.now ≡ index_keys new.now }
-{
-    if old.definitions != new.definitions {
-        return false;
-    }
-    old.locals == new.locals && old.globals == new.globals
-}
+use table_schema::Schema;
 
 /// A table: its schema, its rows in the order of a Scan, and the changes that are prepared.
 ///
 /// Contracts see these alone: the places of the indexes follow from them.
 pub struct TableRows {
-    schema: Schema,
-    slots: Slots,
-    pending: Seq<Change>,
-    /// Those that are local first, each in the order of the schema.
-    indexes: Seq<Index>,
+    rows: IndexedRows,
+    /// Seconds at which no row is expired, nor an item that is prepared, where some are known.
+    quiet: Option<Quiet>,
 }
 
 // By hand, so that no crate above proves it again.
 impl Drop for TableRows {
     fn drop(self) {
-        let TableRows {
-            schema: _,
-            slots: _,
-            pending: _,
-            indexes: _,
-        } = self;
+        let TableRows { rows: _, quiet: _ } = self;
     }
 }
 
 impl Model for TableRows {
+    ghost use Rattle.std.specs.Option.{ForSome};
     ghost use Rattle.table_rows.specs.View.{TableView};
-    ghost use Rattle.table_rows.specs.Slots.{rows_of};
-    ghost use Rattle.table_rows.specs.State.{IsKept};
+    ghost use Rattle.table_rows.specs.Quiet.{IsQuiet};
     ghost use Rattle.table_rows.specs.Codes.{table_code};
 
     ghost Value = { TableView };
 
     ghost coded = { table_code };
 
-    ghost view = { λ t. record { schema = t.schema; rows = rows_of t.slots; pending = t.pending } };
+    ghost view = { λ t. t.rows };
 
-    ghost invariant = { λ t. IsKept t.schema t.slots t.pending t.indexes };
+    ghost invariant = { λ t. ForSome t.quiet (λ quiet. IsQuiet quiet t.rows) };
 }
 
 impl TableRows {
@@ -129,42 +59,77 @@ impl TableRows {
     pub fn new(alloc: Global, schema: Schema) -> Result<TableRows, NoMemory>
         ensures { IfOk result (λ table. table ≡ record { schema = schema; rows = []; pending = [] }) }
     {
-        let slots = Slots::new(alloc);
-        let indexes = indexes_of(alloc, &schema, &slots)?;
-        Ok(TableRows {
-            schema,
-            slots,
-            pending: Seq::new(alloc),
-            indexes,
-        })
+        let rows = IndexedRows::new(alloc, schema)?;
+        Ok(TableRows { rows, quiet: None })
     }
 
     /// What the table was made with.
     pub fn schema(&self) -> &Schema
         ensures { result.now ≡ self.now.schema }
     {
-        &self.schema
+        self.rows.schema()
     }
 
     /// The item at a key, whatever is prepared. It costs the logarithm of the rows, and takes no memory.
     pub fn get(&self, key: &RowKey) -> Option<&SharedItem>
         ensures { option_copied result ≡ item_at self.now.rows key.now }
     {
-        self.slots.get(key)
+        self.rows.get(key)
     }
 
     /// That the rows stand in the order of a Scan, each key once. The call does nothing: its clause is what it gives.
     pub fn are_in_order(&self)
         ensures { IsStrictlySortedBy row_order (keys_of self.now.rows) }
     {
-        let _slots = &self.slots;
+        self.rows.are_in_order();
+    }
+
+    /// Whether it is known without a look at the rows that none of them is expired at a second. So it is of a table whose
+    /// items do not expire, and between a call of [`TableRows::look_out`] and the first second at which one is. It takes no
+    /// memory.
+    pub fn is_quiet(&self, second: u64) -> bool
+        ensures { IsTrue result → expired_rows self.now.schema second self.now.rows ≡ [] }
+    {
+        if self.rows.schema().ttl.is_none() {
+            return true;
+        }
+        match &self.quiet {
+            Some(quiet) => quiet.has(second),
+            None => false,
+        }
+    }
+
+    /// The keys of the rows whose items are expired at a second, in the order of a Scan. It goes over all rows, unless it is
+    /// known that there are none.
+    pub fn expired_keys(&self, alloc: Global, second: u64) -> Result<Seq<RowKey>, NoMemory>
+        ensures { IfOk result (λ keys. keys ≡ keys_of (expired_rows self.now.schema second self.now.rows)) }
+    {
+        if self.is_quiet(second) {
+            return Ok(Seq::new(alloc));
+        }
+        self.rows.expired_keys(alloc, second)
+    }
+
+    /// Finds out until when no row is expired, from a second on. It goes over all rows, unless that is known. What the table
+    /// shows stays, and no memory is taken.
+    pub fn look_out(&mut self, second: u64)
+        ensures { self.new ≡ self.old }
+    {
+        if self.is_quiet(second) {
+            return;
+        }
+        self.quiet = if self.rows.is_idle() {
+            self.rows.quiet_from(second)
+        } else {
+            None
+        };
     }
 
     /// Whether a change of the item at a key is prepared. It goes over all that are.
     pub fn is_pending(&self, key: &RowKey) -> bool
         ensures { result ≡ is_pending self.now.pending key.now }
     {
-        is_pending(self.pending.as_slice(), key)
+        self.rows.is_pending(key)
     }
 
     /// The rows between two ends, in the order of a Scan, where nothing is prepared.
@@ -173,7 +138,7 @@ impl TableRows {
         ensures { result
             ≡ entries_between row_order (bound_map (λ end. end.now) low.entry) (bound_map (λ end. end.now) high.entry) self.now.rows }
     {
-        RowRange::new(self.slots.between(low, high))
+        self.rows.rows(low, high)
     }
 
     /// The rows of an index between two ends, in its order, where nothing is prepared. Indexes are numbered from 0: those
@@ -190,10 +155,7 @@ impl TableRows {
             rows ≡ entries_between position_order (bound_map (λ end. end.now) low.entry) (bound_map (λ end. end.now) high.entry)
             (index_of self.now.schema keys self.now.rows))) }
     {
-        match self.indexes.get(index) {
-            Some(index) => Some(IndexRange::new(index.between(low, high), &self.slots)),
-            None => None,
-        }
+        self.rows.index_rows(index, low, high)
     }
 
     /// Gives the table another schema, where nothing is prepared: its items stay, and its indexes are those of the new
@@ -206,14 +168,9 @@ impl TableRows {
         ensures ok { OnOk result (self.new ≡ record self.old { schema = schema }) }
         ensures err { OnErr result (self.new ≡ self.old) }
     {
-        if have_same_indexes(&self.schema, &schema) {
-            drop(replace(&mut self.schema, schema));
-            return Ok(());
-        }
-        let indexes = indexes_of(alloc, &schema, &self.slots)?;
-        drop(replace(&mut self.indexes, indexes));
-        drop(replace(&mut self.schema, schema));
-        Ok(())
+        // Items may expire by another attribute from now on.
+        self.quiet = None;
+        self.rows.change_schema(alloc, schema)
     }
 
     /// Prepares that the item at a key is this one, or none: takes all memory that is needed. The rows stay as they are
@@ -230,30 +187,23 @@ impl TableRows {
         ensures ok { OnOk result (self.new ≡ record self.old { pending = self.old.pending ++ record { key = key; new = new } ∷ [] }) }
         ensures err { OnErr result (self.new ≡ self.old) }
     {
-        let change = Change { key, new };
-        prepare_in(
-            alloc,
-            &self.schema,
-            self.indexes.as_mut_slice(),
-            &mut self.slots,
-            &mut self.pending,
-            change,
-        )
+        let quiet = watched(self.quiet, self.rows.schema(), new.as_ref());
+        self.rows.prepare(alloc, key, new)?;
+        self.quiet = quiet;
+        Ok(())
     }
 
     /// Makes all changes that are prepared. It takes no memory.
     pub fn commit(&mut self)
         ensures { self.new ≡ record { schema = self.old.schema; rows = committed self.old.rows self.old.pending; pending = [] } }
     {
-        settle_all(self.indexes.as_mut_slice());
-        make_all(&mut self.slots, &mut self.pending);
+        self.rows.commit();
     }
 
     /// Drops all changes that are prepared. It takes no memory.
     pub fn abort(&mut self)
         ensures { self.new ≡ record self.old { pending = [] } }
     {
-        undo_all(self.indexes.as_mut_slice());
-        release_all(&mut self.slots, &mut self.pending);
+        self.rows.abort();
     }
 }

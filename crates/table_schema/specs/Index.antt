@@ -35,6 +35,8 @@ stated_of schema = record {
   read_units = schema.read_units;
   write_units = schema.write_units;
   created = schema.created;
+  ttl = schema.ttl;
+  stream = schema.stream;
 }
 
 -- where attributes are named, there are 1 to 20 of them

@@ -48,6 +48,8 @@ impl StatedSchema {
             read_units: self.read_units,
             write_units: self.write_units,
             created: self.created,
+            ttl: self.ttl,
+            stream: self.stream,
         })
     }
 }

@@ -25,6 +25,7 @@ mod name_set;
 mod schema;
 mod sound;
 mod stated;
+mod stream;
 
 pub use check::check_schema;
 pub use definition::{Definition, KeyKind};
@@ -33,3 +34,4 @@ pub use index::{GlobalIndex, LocalIndex, Projection};
 pub use keys::KeyNames;
 pub use schema::Schema;
 pub use stated::{KeyElement, KeyRole, StatedIndex, StatedSchema};
+pub use stream::{Stream, View};

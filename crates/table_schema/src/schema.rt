@@ -4,6 +4,7 @@ ghost use Rattle.table_schema.specs.Kind.{kind_of};
 use crate::definition::{Definition, KeyKind};
 use crate::index::{GlobalIndex, LocalIndex};
 use crate::keys::KeyNames;
+use crate::stream::Stream;
 use base_types::{Seq, Text};
 use std::alloc::AllocError as NoMemory;
 
@@ -23,6 +24,11 @@ pub struct Schema {
     pub write_units: u64,
     /// The moment at which the table was made, in microseconds.
     pub created: u64,
+    /// The name of the attribute that says when an item is expired, where items expire (API Reference:
+    /// TimeToLiveSpecification).
+    pub ttl: Option<Text>,
+    /// The stream of the table's changes, where it has one.
+    pub stream: Option<Stream>,
 }
 
 // By hand, so that no crate above proves it again.
@@ -38,6 +44,8 @@ impl Drop for Schema {
             read_units: _,
             write_units: _,
             created: _,
+            ttl: _,
+            stream: _,
         } = self;
     }
 }
@@ -69,6 +77,8 @@ impl Schema {
             read_units: _,
             write_units: _,
             created: _,
+            ttl: _,
+            stream: _,
         } = self;
         name
     }
@@ -77,6 +87,10 @@ impl Schema {
     pub fn try_clone(&self) -> Result<Schema, NoMemory>
         ensures { IfOk result (λ copy. copy ≡ self.now) }
     {
+        let ttl = match &self.ttl {
+            Some(name) => Some(name.try_clone()?),
+            None => None,
+        };
         Ok(Schema {
             name: self.name.try_clone()?,
             definitions: self.definitions.try_clone()?,
@@ -87,6 +101,8 @@ impl Schema {
             read_units: self.read_units,
             write_units: self.write_units,
             created: self.created,
+            ttl,
+            stream: self.stream,
         })
     }
 }

@@ -3,6 +3,7 @@
 use crate::definition::Definition;
 use crate::index::Projection;
 use crate::name_set::Named;
+use crate::stream::Stream;
 use base_types::{Seq, Text};
 
 /// The part that an attribute has in a key: HASH is the partition key, RANGE the sort key (API Reference:
@@ -44,6 +45,10 @@ pub struct StatedSchema {
     pub write_units: u64,
     /// The moment at which the table is made, in microseconds.
     pub created: u64,
+    /// The name of the attribute that says when an item is expired, where items expire.
+    pub ttl: Option<Text>,
+    /// The stream of the table's changes, where it has one.
+    pub stream: Option<Stream>,
 }
 
 impl Named for KeyElement {

@@ -6,6 +6,7 @@ use Rattle.table_request.specs.declared.request.Request.{Request}
 use Rattle.table_model.specs.declared.reply.Reply.{Reply}
 use Rattle.table_model.specs.Database.{Database}
 use Rattle.table_model.specs.Effect.{IsEffect}
+use Rattle.table_model.specs.Expired.{swept}
 use Rattle.plain_database.specs.Left.{IsLeftOut}
 use Rattle.request_parts.specs.declared.refusal.Refusal.{Refusal}
 use Rattle.table_service.specs.Telling.{States, IsRefusedAtOnce, Told, IsTold, told_memory, told_refusal, told_reply}
@@ -27,10 +28,14 @@ IsMade db message moment tells new =
     ⊎ ((refusal : Refusal) × IsRefusedAtOnce message refusal × (new ≡ db) × IsTold (told_refusal refusal) tells)
     ⊎ ((new ≡ db) × (tells ≡ told_memory))
 
+-- the same, once the items that are expired at the moment are gone; or memory was refused for that, and nothing was done
+abbrev pub IsStep : Database → Message → ℕ → Told → Database → Type 0
+IsStep db message moment tells new = IsMade (swept db moment) message moment tells new ⊎ ((new ≡ db) × (tells ≡ told_memory))
+
 -- leave is always given, and changes nothing
 abbrev pub plain_ways : Ways Database
 plain_ways = record {
   begins = λ old new. new ≡ old;
   stops = λ db. ⊥;
-  steps = λ old message moment status body new. IsMade old message moment (status, body) new;
+  steps = λ old message moment status body new. IsStep old message moment (status, body) new;
 }

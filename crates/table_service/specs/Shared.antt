@@ -5,8 +5,9 @@ use Rattle.http_front.specs.declared.message.Message.{Message}
 use Rattle.turnstile.specs.Passes.{PassView, most_units}
 use Rattle.table_request.specs.declared.request.Request.{Request}
 use Rattle.table_model.specs.declared.reply.Reply.{Reply}
-use Rattle.table_model.specs.Database.{empty_database}
+use Rattle.table_model.specs.Database.{Database, empty_database}
 use Rattle.table_model.specs.Effect.{IsEffect}
+use Rattle.table_model.specs.Expired.{swept}
 use Rattle.plain_database.specs.Left.{IsLeftOut}
 use Rattle.request_parts.specs.declared.refusal.Refusal.{Refusal}
 use Rattle.request_history.specs.declared.event.Event.{Event}
@@ -24,12 +25,17 @@ TableEvent = Event Request Reply
 abbrev pub no_tables : Tables
 no_tables = record { database = empty_database }
 
--- the tables as a store: they begin with none, and requests do to them what they do to the sequential database
+-- what is left of a request that memory was refused to: nothing was done, or the items that are expired at the moment are gone
+abbrev pub IsPassedOver : Database → ℕ → Database → Type 0
+IsPassedOver db moment new = (new ≡ db) ⊎ IsLeftOut (swept db moment) moment new
+
+-- the tables as a store: they begin with none, and requests do to them what they do to the sequential database, once the items
+-- that are expired at the moment are gone
 abbrev pub table_effects : Effects Tables Request Reply
 table_effects = record {
   empty = no_tables;
-  applies = λ from request moment to reply. IsEffect from.database request moment to.database reply;
-  leaves_out = λ from moment to. IsLeftOut from.database moment to.database;
+  applies = λ from request moment to reply. IsEffect (swept from.database moment) request moment to.database reply;
+  leaves_out = λ from moment to. IsPassedOver from.database moment to.database;
 }
 
 -- passes have seen one legal history alike

@@ -38,6 +38,10 @@ impl<R> Service<R> for PlainService {
         message: &Message,
         moment: u64,
     ) -> Answer {
+        // Before the message is read: what is expired goes at its moment, also where it is refused.
+        if database.sweep(alloc, moment).is_err() {
+            return memory_error();
+        }
         match read(alloc, message) {
             Ok(request) => serve(alloc, database, request, moment),
             Err(RequestEnd::Refused(refusal)) => refuse(alloc, &refusal),

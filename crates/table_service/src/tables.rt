@@ -36,6 +36,7 @@ impl Store for Tables {
     ghost effects = { table_effects };
 
     fn apply(&mut self, alloc: Global, request: Request, moment: u64) -> Result<Reply, NoMemory> {
+        self.database.sweep(alloc, moment)?;
         effect_slow(&mut self.database, alloc, request, moment)
     }
 }

@@ -116,7 +116,7 @@ module _ (es : Kept) (reads : List TransactRead) where
   -- the effect by what is found of tables, keys and targets, and by what is shown
   abbrev effect_by : Database → Option Refusal → Option Refusal → List Target → List (Option Attributes) → Effect
   effect_by db m k ts views =
-      unless db (first (m ∷ k ∷ where_true (has_repeat ts) (Invalid invalid.Twice) ∷ [])) (db, answer.TransactRead views)
+      unless db (first (m ∷ k ∷ where_true (has_repeat ts) (Invalid invalid.Twice) ∷ [])) (db, answer.TransactRead views None)
 
   -- a key is unfit
   pub answered_unfit : (refusal : Refusal) → first (map missing_at reads) ≡ None → AreFound (database_of es) reads (Err refusal)
@@ -135,7 +135,7 @@ module _ (es : Kept) (reads : List TransactRead) where
       (λ i. effect_by db (h i) (k i) (are.1 i) (are.2 i)) ∙ go db (has_repeat (map target_of found)) ∙ ap (λ (r : Reply). (db, r)) (sym said)
     where
       go : (db : Database) (b : Bool)
-          → unless db (first (None ∷ None ∷ where_true b (Invalid invalid.Twice) ∷ [])) (db, answer.TransactRead (map shown_of found))
-          ≡ (db, cond b (answer.Refused (Invalid invalid.Twice)) (answer.TransactRead (map shown_of found)))
+          → unless db (first (None ∷ None ∷ where_true b (Invalid invalid.Twice) ∷ [])) (db, answer.TransactRead (map shown_of found) None)
+          ≡ (db, cond b (answer.Refused (Invalid invalid.Twice)) (answer.TransactRead (map shown_of found) None))
       go db true = refl
       go db false = refl

@@ -1,5 +1,5 @@
 -- What TransactGetItems is answered on these tables.
-use Rattle.std.specs.Prelude.{◌≡◌, ℕ, List, map, if◌then◌else◌}
+use Rattle.std.specs.Prelude.{◌≡◌, ℕ, List, None, false, map, if◌then◌else◌}
 use Rattle.client_tokens.specs.TokenMap.{TokenMap}
 use Rattle.table_request.specs.declared.transactions.TransactGet.{TransactGet}
 use Rattle.table_request.specs.declared.transactions.TransactRead.{TransactRead}
@@ -21,8 +21,8 @@ IsTransactGet tables request reply =
 
 -- the same of a request for these reads
 abbrev pub IsAnswered : Kept → List TransactRead → Reply → Type 0
-IsAnswered tables reads reply = IsTransactGet tables (record { reads = reads }) reply
+IsAnswered tables reads reply = IsTransactGet tables (record { reads = reads; capacity = false }) reply
 
 -- the reply where the tables are there and the keys are fit
 abbrev pub found_reply : List FoundRead → Reply
-found_reply found = if has_repeat (map target_of found) then Refused (Invalid Twice) else Read (map shown_of found)
+found_reply found = if has_repeat (map target_of found) then Refused (Invalid Twice) else Read (map shown_of found) None

@@ -53,5 +53,8 @@ fn shown(alloc: Global, found: &Seq<FoundRead<'_>>) -> Result<Reply, NoMemory>
     if has_repeat(alloc, found)? {
         return Ok(Reply::Refused(Refusal::Invalid(Invalid::Twice)));
     }
-    Ok(Reply::TransactRead(views(alloc, found)?))
+    Ok(Reply::TransactRead {
+        shown: views(alloc, found)?,
+        consumed: None,
+    })
 }

@@ -61,10 +61,10 @@ are_accepted db actions = list_all (λ action. is_accepted (outcome_of db action
 -- where all actions are accepted
 transacted_made : (db : Database) (r : TransactWrite) (moment : ℕ) → are_accepted db r.actions ≡ true
     → transacted db r moment
-    ≡ (with_token (made_all db r.actions (map (outcome_of db) r.actions)) r.token moment (numbered_all db r.actions), answer.TransactWritten)
+    ≡ (with_token (made_all db r.actions (map (outcome_of db) r.actions)) r.token moment (numbered_all db r.actions), answer.TransactWritten None)
 transacted_made db r moment accepted =
     cond-true (are_accepted db r.actions)
-    (with_token (made_all db r.actions (map (outcome_of db) r.actions)) r.token moment (numbered_all db r.actions), answer.TransactWritten)
+    (with_token (made_all db r.actions (map (outcome_of db) r.actions)) r.token moment (numbered_all db r.actions), answer.TransactWritten None)
     (refused db (Cancelled (map (reason_of db) r.actions))) accepted
 
 -- and where one is not
@@ -72,7 +72,7 @@ transacted_not : (db : Database) (r : TransactWrite) (moment : ℕ) → are_acce
     → transacted db r moment ≡ refused db (Cancelled (map (reason_of db) r.actions))
 transacted_not db r moment accepted =
     cond-false (are_accepted db r.actions)
-    (with_token (made_all db r.actions (map (outcome_of db) r.actions)) r.token moment (numbered_all db r.actions), answer.TransactWritten)
+    (with_token (made_all db r.actions (map (outcome_of db) r.actions)) r.token moment (numbered_all db r.actions), answer.TransactWritten None)
     (refused db (Cancelled (map (reason_of db) r.actions))) accepted
 
 made_database : (old new : Kept) (tokens : Tokens) (made : ℕ) (aimed : List Aimed) (changes : List TableChange) → AreFit (database_of old) aimed
@@ -88,13 +88,13 @@ made_database old new tokens made aimed changes fit judged changed =
 pub made_with : (old new : Kept) (tokens : Tokens) (made moment : ℕ) (aimed : List Aimed) (token : Option (List ℕ)) (changes : List TableChange)
     → AreFit (database_of old) aimed → AreJudged (database_of old) (map action_in aimed) (Ok changes) → IsChanged old changes new
     → transacted (database_in old tokens made) (request_of (map action_in aimed) token) moment
-    ≡ (with_token (database_in new tokens made) token moment (map (λ aimed. aimed.action) aimed), answer.TransactWritten)
+    ≡ (with_token (database_in new tokens made) token moment (map (λ aimed. aimed.action) aimed), answer.TransactWritten None)
 made_with old new tokens made moment aimed token changes fit judged changed =
     let db : Database = database_in old tokens made in
     transacted_made db (request_of (map action_in aimed) token) moment judged.0
     ∙ (λ i. (
       with_token (made_database old new tokens made aimed changes fit judged changed i) token moment (numbered_are (database_of old) aimed fit.targets i),
-      answer.TransactWritten,
+      answer.TransactWritten None,
     ))
 
 pub not_made : (old : Kept) (tokens : Tokens) (made moment : ℕ) (aimed : List Aimed) (token : Option (List ℕ)) (reasons : List Reason)
@@ -130,11 +130,11 @@ kept_before old tokens aimed token moment kept targets found =
     let db : Database = database_in old tokens made in
     let r = request_of (map action_in aimed) (Some token) in
     ap (repeated db r moment) found
-    ∙ (λ i. cond (pointwise same_action kept.actions (numbered_are (database_of old) aimed targets i)) (db, answer.TransactWritten) (refused db Mismatch))
+    ∙ (λ i. cond (pointwise same_action kept.actions (numbered_are (database_of old) aimed targets i)) (db, answer.TransactWritten None) (refused db Mismatch))
     ∙ either (pointwise same_action kept.actions (map (λ aimed. aimed.action) aimed)) db
   where
     either : (b : Bool) (db : Database)
-        → cond b (db, answer.TransactWritten) (refused db Mismatch) ≡ (db, cond b answer.TransactWritten (answer.Refused Mismatch))
+        → cond b (db, answer.TransactWritten None) (refused db Mismatch) ≡ (db, cond b (answer.TransactWritten None) (answer.Refused Mismatch))
     either true db = refl
     either false db = refl
 

@@ -1,5 +1,5 @@
 -- What became of the actions of a transaction, one after the other.
-use Rattle.std.specs.Prelude.{◌≡◌, List, [], ◌∷◌, ◌++◌, map, Bool, true, false, if◌then◌else◌, Option, None, Some, Result, Ok, Err}
+use Rattle.std.specs.Prelude.{◌≡◌, List, [], ◌∷◌, ◌++◌, map, true, false, if◌then◌else◌, Option, Some, Result, Ok, Err}
 use Rattle.std.specs.List.{list_all}
 use Rattle.std.specs.Option.{option_to_list}
 use Rattle.attr_value.specs.Tree.{Attributes}
@@ -12,14 +12,11 @@ use Rattle.table_model.specs.declared.refusal.Reason.TheVariants as reason
 use Rattle.table_model.specs.Outcome.{Outcome, becomes, is_false, is_faulty}
 use Rattle.table_model.specs.Database.{Database}
 use Rattle.table_model.specs.Transactions.{outcome_of, is_accepted, reason_of}
+use Rattle.table_model.specs.Writes.{shown_if}
 use Rattle.numbered_tables.specs.declared.change.TableChange.{TableChange}
 use Rattle.transact_writes.specs.declared.judge.Aim.{Aim}
 use Rattle.transact_writes.specs.declared.verdicts.Verdicts.{Verdicts}
 use Rattle.transact_writes.specs.Judged.{changes_of}
-
--- the item, where it is to be shown
-abbrev pub shown_if : Bool → Option Attributes → Option Attributes
-shown_if show old = if show then old else None
 
 -- the verdict of an outcome that was taken of an item
 abbrev pub verdict_of : Aim → Option Attributes → Outcome → Result (Option TableChange) Reason

@@ -22,16 +22,16 @@ Tokens = TokenMap (List NumberedAction)
 -- the reply to actions whose token is kept
 abbrev pub repeat_reply : KeptToken (List NumberedAction) → List NumberedAction → Reply
 repeat_reply kept actions =
-    if pointwise same_action kept.actions actions then answer.TransactWritten else answer.Refused Mismatch
+    if pointwise same_action kept.actions actions then answer.TransactWritten None else answer.Refused Mismatch
 
 -- the changes are made, and the token is kept with the actions
 abbrev pub IsKept : Kept → Tokens → List ℕ → List NumberedAction → List TableChange → ℕ → Kept → Tokens → Reply → Type 0
 IsKept old tokens token actions changes moment new kept reply =
-    IsChanged old changes new × (kept ≡ insert tokens token (kept_at moment actions)) × (reply ≡ answer.TransactWritten)
+    IsChanged old changes new × (kept ≡ insert tokens token (kept_at moment actions)) × (reply ≡ answer.TransactWritten None)
 
 -- the request of these actions
 abbrev pub request_of : List TransactAction → Option (List ℕ) → TransactWrite
-request_of actions token = record { actions = actions; token = token }
+request_of actions token = record { actions = actions; token = token; consumed = None }
 
 -- actions without a token are made, or one is not accepted
 abbrev pub IsMade : Kept → List TransactAction → Kept → Reply → Type 0

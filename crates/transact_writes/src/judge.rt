@@ -7,7 +7,7 @@ ghost use Rattle.table_request.specs.declared.transactions.Change.TheVariants as
 ghost use Rattle.attr_value.specs.Tree.{Attributes};
 ghost use Rattle.transact_writes.specs.Judged.{judged, judged_in, IsAt};
 ghost use Rattle.transact_writes.specs.Aimed.{database_of, action_in, IsTarget};
-ghost use Rattle.transact_writes.specs.Verdicts.{shown_if, verdict_of, action_of};
+ghost use Rattle.transact_writes.specs.Verdicts.{verdict_of, action_of};
 
 use crate::aimed::Aimed;
 use crate::verdicts::Verdict;
@@ -19,7 +19,7 @@ use numbered_tables::{NumberedTable, TableChange};
 use row_keys::RowKey;
 use std::alloc::{AllocError as NoMemory, Global};
 use std::collections::BTreeMap;
-use table_items::{Outcome, delete_outcome, is_met, put_outcome, update_outcome};
+use table_items::{Outcome, delete_outcome, is_met, put_outcome, shown_old, update_outcome};
 use table_model::{NumberedAction, Reason};
 use table_request::{Change, TransactAction};
 use table_rows::TableRows;
@@ -49,19 +49,6 @@ impl Aim {
             })),
             Outcome::Faulty(fault) => Ok(Err(Reason::Invalid(fault))),
         }
-    }
-}
-
-/// The item, where it is to be shown.
-fn shown_old(show_old: bool, old: Option<&SharedItem>) -> Result<Option<SharedItem>, NoMemory>
-    ensures { IfOk result (λ shown. shown ≡ shown_if show_old (option_copied old.entry)) }
-{
-    if !show_old {
-        return Ok(None);
-    }
-    match old {
-        Some(item) => Ok(Some(item.share()?)),
-        None => Ok(None),
     }
 }
 

@@ -35,7 +35,7 @@ pub(crate) fn repeated(kept: &Kept<Seq<NumberedAction>>, aimed: &[Aimed]) -> Rep
     ensures { result ≡ repeat_reply kept.now (map (λ aimed. aimed.action) aimed.now) }
 {
     if are_same(kept.actions.as_slice(), aimed) {
-        Reply::TransactWritten
+        Reply::TransactWritten { consumed: None }
     } else {
         Reply::Refused(Refusal::Mismatch)
     }
@@ -67,7 +67,7 @@ pub(crate) fn keep(
     };
     tokens.keep(name, kept)?;
     match change_all(tables, alloc, changes) {
-        Ok(()) => Ok(Reply::TransactWritten),
+        Ok(()) => Ok(Reply::TransactWritten { consumed: None }),
         Err(refused) => {
             tokens.free(token.as_str());
             Err(refused)

@@ -32,7 +32,7 @@ fn made(
     match judge_all(tables, alloc, aimed)? {
         Ok(changes) => {
             change_all(tables, alloc, changes)?;
-            Ok(Reply::TransactWritten)
+            Ok(Reply::TransactWritten { consumed: None })
         }
         Err(reasons) => Ok(Reply::Refused(Refusal::Cancelled(reasons))),
     }
@@ -106,7 +106,11 @@ pub fn transact_write(
     ensures err { OnErr result (tables.new.entries ≡ tables.old.entries) }
     ensures err_tokens { OnErr result (AreSameOrPurged tokens.old moment tokens.new) }
 {
-    let TransactWrite { actions, token } = request;
+    let TransactWrite {
+        actions,
+        token,
+        consumed: _,
+    } = request;
     match checked(tables, alloc, actions)? {
         Ok(aimed) => {
             tokens.purge(moment);

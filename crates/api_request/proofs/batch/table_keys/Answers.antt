@@ -1,4 +1,4 @@
-use Rattle.std.proofs.Common.{Ok, Err}
+use Rattle.std.proofs.Common.{refl, Ok, Err}
 use Rattle.std.proofs.lemmas.Result.{err_from_is_err_and}
 use Rattle.serde_json.specs.View.{view}
 use Rattle.api_form.specs.declared.name.Name.TheVariants as name
@@ -35,6 +35,7 @@ returns c =
         consistent = c.stated_flag.ensures;
         expression = c.in_ok-expression.ensures;
         names = c.in_ok-names.ensures;
+        attributes = refl;
       },
       told.1,
     )

@@ -139,3 +139,11 @@ returns-in_ok-describe_table-in-DescribeTable c =
 pub returns-in_ok-list_tables-in-ListTables : goal.returns-in_ok-list_tables-in-ListTables
 returns-in_ok-list_tables-in-ListTables c =
     subst (λ (x : Operation). IsStated x (view c.args.json.now) (Ok (request.ListTables c.in_ok-list_tables-in-ListTables.field-0))) (sym c.in-ListTables.is) (c.in_ok-list_tables-in-ListTables.field-0, refl, c.in_ok-list_tables-in-ListTables.ensures)
+
+pub returns-in_ok-update_time_to_live-in-UpdateTimeToLive : goal.returns-in_ok-update_time_to_live-in-UpdateTimeToLive
+returns-in_ok-update_time_to_live-in-UpdateTimeToLive c =
+    subst (λ (x : Operation). IsStated x (view c.args.json.now) (Ok (request.UpdateTimeToLive c.in_ok-update_time_to_live-in-UpdateTimeToLive.field-0))) (sym c.in-UpdateTimeToLive.is) (c.in_ok-update_time_to_live-in-UpdateTimeToLive.field-0, refl, c.in_ok-update_time_to_live-in-UpdateTimeToLive.ensures)
+
+pub returns-in_ok-describe_time_to_live-in-DescribeTimeToLive : goal.returns-in_ok-describe_time_to_live-in-DescribeTimeToLive
+returns-in_ok-describe_time_to_live-in-DescribeTimeToLive c =
+    subst (λ (x : Operation). IsStated x (view c.args.json.now) (Ok (request.DescribeTimeToLive c.in_ok-describe_time_to_live-in-DescribeTimeToLive.field-0))) (sym c.in-DescribeTimeToLive.is) (c.in_ok-describe_time_to_live-in-DescribeTimeToLive.field-0, refl, c.in_ok-describe_time_to_live-in-DescribeTimeToLive.ensures)

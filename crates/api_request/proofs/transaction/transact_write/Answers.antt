@@ -1,3 +1,4 @@
+use Rattle.std.proofs.Common.{refl, None}
 use Rattle.std.proofs.lemmas.Result.{err_from_is_err_and}
 use Rattle.serde_json.specs.View.{view, items_view}
 use Rattle.api_request.proofs.Totals.{write_refused, write_stated}
@@ -12,5 +13,5 @@ returns-in_err-actions c =
 pub returns : goal.returns
 returns c =
     write_stated (view c.args.json.now) (items_view c.list_at.result.now)
-    (record { actions = c.in_ok-actions.actions; token = c.in_ok-token.token })
-    c.list_at.ensures c.in_ok-actions.ensures c.in_ok-token.ensures
+    (record { actions = c.in_ok-actions.actions; token = c.in_ok-token.token; consumed = None })
+    c.list_at.ensures c.in_ok-actions.ensures c.in_ok-token.ensures refl

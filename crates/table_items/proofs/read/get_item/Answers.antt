@@ -1,4 +1,4 @@
-use Rattle.std.proofs.Common.{◌≡◌, rules, ap, sym, ◌∙◌, option_map}
+use Rattle.std.proofs.Common.{◌≡◌, rules, sym, ◌∙◌, option_map}
 use Rattle.std.specs.Option.{option_copied}
 use Rattle.item_keys.specs.ItemKey.{key_alone}
 use Rattle.table_model.specs.Reads.{view}
@@ -11,9 +11,9 @@ returns-in-Err c =
     get_refused c.args.request.now c.args.table.now c.in-Err.fault
     (sym c.in-Err.is ∙ c.in_ok-key.ensures ∙ (λ i. row_key_if (key_alone (c.schema.ensures i) (c.schema.ensures i).keys c.args.request.now.key)))
 
-pub returns-in_ok-view_if-in-Ok : goal.returns-in_ok-view_if-in-Ok
-returns-in_ok-view_if-in-Ok c =
+pub returns-in_ok-shown-in-Ok : goal.returns-in_ok-shown-in-Ok
+returns-in_ok-shown-in-Ok c =
     let projection : option_copied c.as_ref.result ≡ c.args.request.now.projection = search rules in
     get_told c.args.request.now c.args.table.now c.in-Ok.key _
     (sym c.in-Ok.is ∙ c.in_ok-key.ensures ∙ (λ i. row_key_if (key_alone (c.schema.ensures i) (c.schema.ensures i).keys c.args.request.now.key)))
-    (c.in_ok-view_if-in-Ok.ensures ∙ (λ i. option_map (view (projection i)) (c.get.ensures i)))
+    (c.in_ok-shown-in-Ok.ensures ∙ (λ i. option_map (view (projection i)) (c.get.ensures i)))

@@ -1,5 +1,5 @@
 use Rattle.std.proofs.Common.{◌≡◌, ◌∙◌, ap, sym, subst}
-use Rattle.attr_value.specs.Tree.{Attributes, attribute, AreInOrder}
+use Rattle.attr_value.specs.Tree.{AreInOrder}
 use Rattle.attr_value.specs.View.{attributes_of, tree_of}
 use Rattle.attr_value.specs.Paths.{put}
 use Rattle.item_keys.specs.Row.{only}

@@ -1,5 +1,4 @@
 use Rattle.std.proofs.Common.{◌≡◌, ◌++◌, map, take}
-use Rattle.expr_words.specs.Trees.{set_tree}
 use Rattle.table_items.specs.Touched.{steps_of}
 use Rattle.table_items.proofs.touched.push_paths.Given as goal
 

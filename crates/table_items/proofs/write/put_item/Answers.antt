@@ -16,7 +16,7 @@ returns c =
           (λ reply all.
           subst
           (λ (condition : Option Condition).
-          IsDone r.table (λ db. put_item db (put_of r.table r.item condition r.values r.return_values)) c.args.table.now c.put-done.new.table reply)
+          IsDone r.table (λ db. put_item db (put_of r.table r.item condition r.values r.return_values r.show_old)) c.args.table.now c.put-done.new.table reply)
           lent (all r.table))
           c.put-done.ensures.done;
       err = c.put-done.ensures.err;

@@ -1,4 +1,4 @@
-use Rattle.std.proofs.Common.{◌≡◌, refl, sym, ◌∙◌}
+use Rattle.std.proofs.Common.{refl, sym, ◌∙◌}
 use Rattle.std.specs.Option.{option_copied}
 use Rattle.std.proofs.lemmas.Result.{IfOk-weaker}
 use Rattle.item_keys.specs.ItemKey.{key_alone}
@@ -13,7 +13,7 @@ returns-in-Ok-clause-done c =
     sym c.in-Ok.is ∙ c.in_ok-row.ensures ∙ (λ i. row_key_if (key_alone (c.schema.ensures i) (c.schema.ensures i).keys c.args.key)) in
     IfOk-weaker c.update_at.result _ _
     (λ reply made name.
-    update_done (update_of name c.args.key (option_copied c.args.update) (option_copied c.args.condition) c.args.values.now c.args.return_values) c.args.table.now
+    update_done (update_of name c.args.key (option_copied c.args.update) (option_copied c.args.condition) c.args.values.now c.args.return_values c.args.show_old) c.args.table.now
     c.update_at.new.table c.in-Ok.row reply c.requires is made)
     c.update_at.ensures.done
 
@@ -22,5 +22,5 @@ returns-in-Err-clause-done c =
     let is =
     sym c.in-Err.is ∙ c.in_ok-row.ensures ∙ (λ i. row_key_if (key_alone (c.schema.ensures i) (c.schema.ensures i).keys c.args.key)) in
     λ name.
-    update_refused (update_of name c.args.key (option_copied c.args.update) (option_copied c.args.condition) c.args.values.now c.args.return_values) c.args.table.now
+    update_refused (update_of name c.args.key (option_copied c.args.update) (option_copied c.args.condition) c.args.values.now c.args.return_values c.args.show_old) c.args.table.now
     c.args.table.now c.in-Err.fault c.invalid.result c.requires is (refl, c.invalid.ensures)

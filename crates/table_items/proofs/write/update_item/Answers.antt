@@ -17,7 +17,7 @@ returns c =
           IfOk-weaker c.update-done.result _ _
           (λ reply all.
           let P : Option Update → Option Condition → Type 0 =
-          λ u v. IsDone r.table (λ db. update_item db (update_of r.table r.key u v r.values r.return_values)) c.args.table.now c.update-done.new.table reply in
+          λ u v. IsDone r.table (λ db. update_item db (update_of r.table r.key u v r.values r.return_values r.show_old)) c.args.table.now c.update-done.new.table reply in
           subst (P r.update) condition (subst (λ (u : Option Update). P u (option_copied c.as_ref-2.result)) actions (all r.table)))
           c.update-done.ensures.done;
       err = c.update-done.ensures.err;

@@ -18,7 +18,7 @@ returns-in_default c =
     let none : lookup (at r.table) t.tables.entries ≡ None = search rules in
     subst (λ (d : Database). (d, answer.Refused (NoTable r.table)) ≡ get_item d r) c.self.view_is
     (no_table db r.table
-    (λ table. at_key db (key_alone table.schema table.schema.keys r.key) (λ key. (db, answer.Read (option_map (view r.projection) (old_at table key)))))
+    (λ table. at_key db (key_alone table.schema table.schema.keys r.key) (λ key. (db, answer.Read (option_map (view r.projection) (old_at table key)) None)))
     (absent t.tables.entries t.tokens t.made r.table none))
 
 pub returns : goal.returns

@@ -1,10 +1,9 @@
 use Rattle.std.specs.Map.{lookup}
-use Rattle.std.proofs.Common.{rules, ◌≡◌, Option, None, Some, refl, sym, ap, subst}
+use Rattle.std.proofs.Common.{rules, ◌≡◌, Option, None, Some, sym, ap, subst}
 use Rattle.table_model.specs.declared.reply.Reply.TheVariants as answer
 use Rattle.table_model.specs.declared.refusal.Refusal.TheVariants.{NoTable}
 use Rattle.table_model.specs.Database.{Database, Table}
 use Rattle.table_model.specs.Pages.{source_of, IsInTable, IsFrom, IsQueriedFrom, IsQuery}
-use Rattle.numbered_tables.specs.Tables.{database_in}
 use Rattle.numbered_tables.proofs.Kept.{at, absent, there, idle_at}
 use Rattle.plain_database.proofs.Sound.{keyed_at}
 use Rattle.plain_database.proofs.database.SlowDb.query.Goals as goal

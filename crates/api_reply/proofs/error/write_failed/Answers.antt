@@ -1,0 +1,10 @@
+use Rattle.api_reply.proofs.Joins.{further, wrapped}
+use Rattle.api_reply.proofs.error.write_failed.Goals as goal
+
+pub returns-clause-tokens : goal.returns-clause-tokens
+returns-clause-tokens c =
+    wrapped _ _ _ _ _ _ c.in_ok-begin_object.ensures.ok
+    (further _ _ _ _ _ c.in_ok-write_optional.ensures.adds
+    (further _ _ _ _ _ (rw c.type_name.ensures at c.in_ok-write_text.ensures.adds)
+    c.in_ok-write_text-2.ensures.adds))
+    c.end_object.ensures.ok
