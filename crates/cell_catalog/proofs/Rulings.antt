@@ -1,16 +1,17 @@
 -- What an update of a schema was answered is what becomes of the command.
 use Rattle.std.proofs.Common.{◌≡◌, Bool, true, false, [], ◌∷◌, Option, None, Some, Result, Ok, Err, if◌then◌else◌, refl, ap, sym, subst, ◌∙◌}
-use Rattle.std.specs.Prelude.{is_some}
+use Rattle.std.specs.Prelude.{◌↔◌, IsOk, IfErr}
+use Rattle.std.specs.Result.{result_err}
 use Rattle.table_schema.specs.declared.schema.Schema.{Schema}
 use Rattle.table_schema.specs.declared.fault.SchemaFault.{SchemaFault}
 use Rattle.table_schema.specs.declared.fault.SchemaFault.TheVariants.{BadDefinition}
+use Rattle.table_schema.specs.declared.stated.StatedSchema.{StatedSchema}
 use Rattle.table_schema.specs.Index.{stated_of}
+use Rattle.table_schema.specs.Rule.{IsSound}
+use Rattle.table_schema.specs.Fault.{IsFirstFault}
 use Rattle.table_request.specs.declared.tables.TableUpdate.{TableUpdate}
-use Rattle.table_request.specs.declared.tables.IndexChange.{IndexChange}
-use Rattle.table_request.specs.declared.tables.IndexChange.TheVariants.{Make, Remove}
 use Rattle.table_model.specs.declared.refusal.Refusal.{Refusal}
-use Rattle.table_model.specs.Catalog.{has_index, index_refusal, has_bad_definition, schema_refusal, updated_schema}
-use Rattle.table_model.specs.Pages.{global_named}
+use Rattle.table_model.specs.Catalog.{index_refusal, has_bad_definition, schema_refusal, updated_schema}
 use Rattle.table_model.specs.Database.{first, where_true}
 use Rattle.schema_update.specs.Updated.{IsJudged, IsRefusedOr, IsUpdated}
 use Rattle.txn_core.specs.declared.ruling.Ruling.{Ruling}
@@ -21,22 +22,14 @@ use Rattle.cell_model.specs.declared.catalog.CatalogTable.{CatalogTable}
 use Rattle.cell_model.specs.Commands.{index_fault, judged, unless, typed_ruling}
 use Rattle.cell_model.specs.FirstFault.{first_fault}
 use Rattle.cell_model.proofs.FirstFaults.{first_is, sound_is}
+use Rattle.cell_model.proofs.IndexFaults.{unrefused}
 use Rattle.cell_catalog.specs.Faults.{schema_fault}
 
--- tests that are both passed or both failed
-none_left : {X Y : Type 0} (b : Bool) (x : X) (y : Y) → (if b then None else Some x) ≡ None → (if b then None else Some y) ≡ None
-none_left true x y e = refl
-none_left false x y e = absurd (cc)
-
-none_right : {X Y : Type 0} (b : Bool) (x : X) (y : Y) → (if b then Some x else None) ≡ None → (if b then Some y else None) ≡ None
-none_right true x y e = absurd (cc)
-none_right false x y e = refl
-
--- where the change of an index has no fault it is not refused
-unrefused : (schema : Schema) (change : Option IndexChange) → index_fault schema change ≡ None → index_refusal schema change ≡ None
-unrefused schema None e = refl
-unrefused schema (Some (Remove name)) e = none_left (is_some (global_named name schema.globals)) _ _ e
-unrefused schema (Some (Make index)) e = none_right (has_index schema index.name) _ _ e
+-- what the check of a schema answers is its first fault
+pub fault_found : {T : Type 0} (stated : StatedSchema) (checked : Result T SchemaFault) → (IsOk checked ↔ IsSound stated) → IfErr checked (IsFirstFault stated)
+    → result_err checked ≡ first_fault stated
+fault_found stated (Ok done) valid first_one = sym (sound_is stated (valid.0 refl))
+fault_found stated (Err fault) valid first_one = sym (first_is stated fault first_one)
 
 one_fault : {f g : SchemaFault} → Some f ≡ Some g → f ≡ g
 one_fault e = cc
@@ -50,7 +43,7 @@ module _ (stated : Schema) where
   -- what becomes of the command, by its first faults
   abbrev pub becomes : Option CatalogAnswer → Bool → Ruling CatalogAnswer
   becomes fault bad =
-      unless fault (if bad then Refuses (answer.BadSchema BadDefinition) else judged stated (first_fault (stated_of stated)))
+      unless fault (if bad then Refuses (answer.BadSchema BadDefinition) else judged (answer.Changed stated) (first_fault (stated_of stated)))
 
   abbrev pub Judges : Option Refusal → Bool → Result Schema Refusal → Type 0
   Judges refusal bad result =
@@ -59,7 +52,7 @@ module _ (stated : Schema) where
   pub carried : (fault : Option CatalogAnswer) (refusal : Option Refusal) (bad : Bool) (schema : Schema) → fault ≡ None → refusal ≡ None → Judges refusal bad (Ok schema) → Carries (answer.Changed schema) ≡ becomes fault bad
   carried None None true schema _ _ is = absurd (cc)
   carried None None false schema _ _ is =
-      ap (λ s. Carries (answer.Changed s)) is.1 ∙ ap (judged stated) (sym (sound_is (stated_of stated) is.0))
+      ap (λ s. Carries (answer.Changed s)) is.1 ∙ ap (judged (answer.Changed stated)) (sym (sound_is (stated_of stated) is.0))
   carried (Some fault) refusal bad schema e f is = absurd (cc)
   carried None (Some refusal) bad schema e f is = absurd (cc)
 
@@ -69,7 +62,7 @@ module _ (stated : Schema) where
       ap (λ f. Refuses (answer.BadSchema f)) (one_fault (sym says ∙ ap (λ r. schema_fault (refusal_in why r)) is))
   refused None None false why told _ _ (found, first_one, is) says =
       ap (λ f. Refuses (answer.BadSchema f)) (one_fault (sym says ∙ ap schema_fault is))
-      ∙ ap (judged stated) (sym (first_is (stated_of stated) found first_one))
+      ∙ ap (judged (answer.Changed stated)) (sym (first_is (stated_of stated) found first_one))
   refused (Some fault) refusal bad why told e f is says = absurd (cc)
   refused None (Some refusal) bad why told e f is says = absurd (cc)
 

@@ -1,12 +1,14 @@
 //! What becomes of a command that no name and no pending stands in the way of.
 
-ghost use Rattle.std.specs.Prelude.{◌≡◌, IfOk, is_some};
+ghost use Rattle.std.specs.Prelude.{◌≡◌, ◌+◌, IfOk, is_some};
 ghost use Rattle.std.specs.Option.{option_copied};
 ghost use Rattle.table_model.specs.Catalog.{has_index};
 ghost use Rattle.table_model.specs.Pages.{global_named, local_named};
-ghost use Rattle.cell_model.specs.Commands.{index_fault, typed_ruling, update_ruling, drop_ruling, change_ruling, ruling};
+ghost use Rattle.table_schema.specs.Index.{stated_of};
+ghost use Rattle.cell_model.specs.Catalogs.{last_drawn};
+ghost use Rattle.cell_model.specs.FirstFault.{first_fault};
+ghost use Rattle.cell_model.specs.Commands.{index_fault, typed_ruling, update_ruling, create_ruling, drop_ruling, change_ruling, ruling};
 ghost use Rattle.cell_catalog.specs.Faults.{schema_fault};
-ghost use Rattle.table_schema.specs.declared.schema.Schema.{Schema as AnySchema};
 
 use crate::commands::is_typed;
 use crate::copies::copy_of_update;
@@ -17,7 +19,7 @@ use schema_update::updated;
 use std::alloc::{AllocError as NoMemory, Global};
 use table_model::{Invalid, Refusal};
 use table_request::{IndexChange, TableUpdate};
-use table_schema::{Schema, SchemaFault};
+use table_schema::{Schema, SchemaFault, check_schema};
 use txn_core::Ruling;
 
 /// The most tables of a catalog.
@@ -122,16 +124,35 @@ fn update_ruling(
     })
 }
 
-/// What becomes of a Create: it is refused where there are 256 tables, and has the next number else. `NoMemory` is for
-/// want of numbers.
-fn create_ruling(catalog: &Catalog) -> Result<Ruling<CatalogAnswer>, NoMemory>
-    ensures { IfOk result (λ told. (schema : AnySchema) → told ≡ ruling (CatalogCommand.Create schema) catalog.now) }
+/// The first fault of a schema.
+fn first_fault(schema: &Schema) -> Option<SchemaFault>
+    ensures { result ≡ first_fault (stated_of schema.now) }
+{
+    check_schema(schema).err()
+}
+
+/// What becomes of a Create: it is refused where there are 256 tables, then for the first fault of its schema, and has the
+/// next number else. `NoMemory` is for want of numbers.
+fn create_ruling(schema: &Schema, catalog: &Catalog) -> Result<Ruling<CatalogAnswer>, NoMemory>
+    ensures { IfOk result (λ told. told ≡ create_ruling schema.now catalog.now) }
 {
     if catalog.tables.len() >= MAX_TABLES {
         return Ok(Ruling::Refuses {
             told: CatalogAnswer::Full,
         });
     }
+    match first_fault(schema) {
+        Some(fault) => Ok(Ruling::Refuses {
+            told: CatalogAnswer::BadSchema { fault },
+        }),
+        None => made_ruling(catalog),
+    }
+}
+
+/// A table is made, with the next number. `NoMemory` is for want of numbers.
+fn made_ruling(catalog: &Catalog) -> Result<Ruling<CatalogAnswer>, NoMemory>
+    ensures { IfOk result (λ told. told ≡ Ruling.Carries (CatalogAnswer.Made (last_drawn catalog.now + 1))) }
+{
     match last_drawn(catalog).checked_add(1) {
         Some(number) => Ok(Ruling::Carries {
             told: CatalogAnswer::Made { number },
@@ -181,7 +202,7 @@ pub fn ruling(
     ensures { IfOk result (λ told. told ≡ ruling command.now catalog.now) }
 {
     match command {
-        CatalogCommand::Create { .. } => create_ruling(catalog),
+        CatalogCommand::Create { schema } => create_ruling(schema, catalog),
         CatalogCommand::Drop { name } => drop_ruling(table_named(catalog, name)),
         CatalogCommand::Change { name, change } => {
             change_ruling(alloc, change, table_named(catalog, name))

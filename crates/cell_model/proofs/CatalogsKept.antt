@@ -1,5 +1,5 @@
 -- Each command that is carried out leaves a catalog that was made.
-use Rattle.std.specs.Prelude.{nat_eq, bytes_eq, if◌then◌else◌}
+use Rattle.std.specs.Prelude.{nat_eq, nat_le, bytes_eq, if◌then◌else◌}
 use Rattle.std.specs.List.{AllByRecursion, list_any, filter_map, zip}
 use Rattle.std.specs.List.Sorted.{IsStrictlySortedBy}
 use Rattle.std.specs.Cmp.Lexicographic.{slice_cmp}
@@ -13,7 +13,8 @@ use Rattle.table_schema.specs.declared.fault.SchemaFault.{SchemaFault}
 use Rattle.table_schema.specs.Index.{stated_of}
 use Rattle.table_schema.specs.Rule.{IsValid}
 use Rattle.table_request.specs.declared.tables.TableUpdate.{TableUpdate}
-use Rattle.table_model.specs.Catalog.{updated_schema, has_bad_definition}
+use Rattle.table_model.specs.Catalog.{most_tables, updated_schema, has_bad_definition}
+use Rattle.txn_core.specs.declared.ruling.Ruling.{Ruling}
 use Rattle.txn_core.specs.declared.ruling.Ruling.TheVariants.{Refuses}
 use Rattle.cell_model.specs.declared.answer.CatalogAnswer.{CatalogAnswer}
 use Rattle.cell_model.specs.declared.answer.CatalogAnswer.TheVariants as answer
@@ -22,9 +23,9 @@ use Rattle.cell_model.specs.declared.catalog.CatalogTable.{CatalogTable}
 use Rattle.cell_model.specs.declared.command.CatalogCommand.{CatalogCommand}
 use Rattle.cell_model.specs.declared.command.CatalogCommand.TheVariants.{Create, Drop, Change}
 use Rattle.cell_model.specs.Catalogs.{named, entered, ascend_from, numbered_indexes, greatest_of, greatest_in, last_drawn}
-use Rattle.cell_model.specs.Commands.{subject, is_number, is_typed, index_fault, judged, unless, update_ruling, change_ruling, ruling, refusal, numbers_after, draws_for, draws, updated_table, changed_table, new_table, kept, catalog_after}
+use Rattle.cell_model.specs.Commands.{subject, is_number, is_typed, index_fault, judged, unless, create_ruling, update_ruling, change_ruling, ruling, refusal, numbers_after, draws_for, draws, updated_table, changed_table, new_table, kept, catalog_after}
 use Rattle.cell_model.specs.FirstFault.{TellsFirst, first_fault}
-use Rattle.cell_model.specs.KeptCatalogs.{IsMade, AreApart, names_of, IsKept, IsStatedWell, IsCarried, CommandsKeep, KeptIsWhole}
+use Rattle.cell_model.specs.KeptCatalogs.{IsMade, AreApart, names_of, IsKept, IsCarried, CommandsKeep, KeptIsWhole}
 use Rattle.cell_model.proofs.FirstFaults.{answered}
 use Rattle.cell_model.proofs.Numbers.{some_parts}
 use Rattle.cell_model.proofs.Lookups.{kept_number}
@@ -66,20 +67,27 @@ each_both P Q (t ∷ ts) h k = ((h.0, k.0), each_both P Q ts h.1 k.1)
 
 -- ---- a table that is updated
 
--- an update that is carried out states a schema without a fault
-no_fault : (o : Option CatalogAnswer) (b : Bool) (other : CatalogAnswer) (schema : Schema) (f : Option SchemaFault)
-    → IsCarried (unless o (if b then Refuses other else judged schema f)) → f ≡ None
-no_fault (Some fault) b other schema f h = absurd h
-no_fault None true other schema f h = absurd h
-no_fault None false other schema None h = refl
-no_fault None false other schema (Some fault) h = absurd h
+-- a schema by which a command is carried out is valid
+well_stated : (schema : Schema) (told : CatalogAnswer) → IsCarried (judged told (first_fault (stated_of schema))) → IsValid schema
+well_stated schema told carried =
+    subst (TellsFirst (stated_of schema)) (none (first_fault (stated_of schema)) carried) (answered (stated_of schema))
+  where
+    none : (f : Option SchemaFault) → IsCarried (judged told f) → f ≡ None
+    none None h = refl
+    none (Some fault) h = absurd h
+
+-- what is carried out is not refused before
+not_before : (o : Option CatalogAnswer) (b : Bool) (other : CatalogAnswer) (r : Ruling CatalogAnswer) → IsCarried (unless o (if b then Refuses other else r)) → IsCarried r
+not_before (Some fault) b other r h = absurd h
+not_before None true other r h = absurd h
+not_before None false other r h = h
 
 carried_valid : (update : TableUpdate) (t : CatalogTable) → is_typed t.schema ≡ true → IsCarried (update_ruling update t) → IsValid (updated_schema t.schema update)
 carried_valid update t typed carried =
     let schema = updated_schema t.schema update in
     let ruled = subst IsCarried (cond-true (is_typed t.schema) _ _ typed) carried in
-    let none = no_fault (index_fault t.schema update.index) (has_bad_definition t.schema.definitions update.definitions) _ schema (first_fault (stated_of schema)) ruled in
-    subst (TellsFirst (stated_of schema)) none (answered (stated_of schema))
+    well_stated schema (answer.Changed schema)
+    (not_before (index_fault t.schema update.index) (has_bad_definition t.schema.definitions update.definitions) _ _ ruled)
 
 updated_made : (update : TableUpdate) (drawn : ℕ) (t : CatalogTable) → IsMade t → greatest_of t.indexes ≤ drawn → IsCarried (update_ruling update t)
     → IsMade (updated_table update drawn t) × (greatest_of (updated_table update drawn t).indexes ≤ drawn + draws_for update.index)
@@ -210,7 +218,7 @@ module _ (d : CatalogCommand) (on : Option ℕ) (drawn : ℕ) (ts : List Catalog
 
 -- ---- a table that is made
 
-unchanged : (schema : Schema) (drawn : ℕ) (ts : List CatalogTable) → filter_map (kept (Create schema) None drawn) ts ≡ ts
+pub unchanged : (schema : Schema) (drawn : ℕ) (ts : List CatalogTable) → filter_map (kept (Create schema) None drawn) ts ≡ ts
 unchanged schema drawn [] = refl
 unchanged schema drawn (t ∷ ts) = ap (λ l. t ∷ l) (unchanged schema drawn ts)
 
@@ -240,6 +248,12 @@ next_apart drawn (t ∷ ts) h =
 below_more : (drawn more : ℕ) (t : CatalogTable) → IsBelow drawn t → IsBelow (drawn + more) t
 unfolding IsBelow
 below_more drawn more t low = let a = low.0 in let b = low.1 in (omega arith, omega arith)
+
+-- a Create that is carried out states a valid schema
+created_valid : (schema : Schema) (c : Catalog) → IsCarried (create_ruling schema c) → IsValid schema
+created_valid schema c =
+    cond_both (nat_le most_tables (length c.tables)) (Refuses answer.Full) _ (λ r. IsCarried r → IsValid schema)
+    (λ full h. absurd h) (λ room. well_stated schema (answer.Made (last_drawn c + 1)))
 
 -- with a table that is made a catalog is kept
 created_kept : (schema : Schema) (moment drawn : ℕ) (c : Catalog) → IsKept c → IsValid schema → named c.tables schema.name ≡ None → greatest_in c.tables ≤ drawn
@@ -282,17 +296,17 @@ unfolding Before
 before d on drawn [] made low fit = tt
 before d on drawn (t ∷ ts) made low fit = ((made.0, low.0, fit.0), before d on drawn ts made.1 low.1 fit.1)
 
-pub command_keeps : (d : CatalogCommand) (moment : ℕ) (c : Catalog) → IsKept c → IsStatedWell d → refusal d c ≡ None → IsCarried (ruling d c) → IsKept (catalog_after d moment c)
+pub command_keeps : (d : CatalogCommand) (moment : ℕ) (c : Catalog) → IsKept c → refusal d c ≡ None → IsCarried (ruling d c) → IsKept (catalog_after d moment c)
 unfolding IsFit
-command_keeps (Create schema) moment c was valid free carried =
+command_keeps (Create schema) moment c was free carried =
     let drawn = last_drawn c in
     subst (λ ts. IsKept (record { drawn = drawn + (1 + length schema.globals); tables = entered (new_table schema moment drawn) ts })) (sym (unchanged schema drawn c.tables))
-    (created_kept schema moment drawn c was valid (absent_name (named c.tables schema.name) free) (omega arith))
-command_keeps (Drop name) moment c was valid free carried =
+    (created_kept schema moment drawn c was (created_valid schema c carried) (absent_name (named c.tables schema.name) free) (omega arith))
+command_keeps (Drop name) moment c was free carried =
     let drawn = last_drawn c in
     let on = subject (Drop name) c in
     left_kept (Drop name) on drawn c.tables (before (Drop name) on drawn c.tables was.tables (each_below drawn c.tables (omega arith)) (any_fit (Drop name) on (λ t. tt) c.tables)) was.apart was.ordered
-command_keeps (Change name update) moment c was valid free carried =
+command_keeps (Change name update) moment c was free carried =
     let drawn = last_drawn c in
     let on = subject (Change name update) c in
     let fit = fits update name c was.apart (named c.tables name) refl carried in

@@ -159,9 +159,9 @@ change_decides = decides same_change equal itself where
   equal : (x y : ItemChange) → same_change x y ≡ true → x ≡ y
   equal (Put a) (Put b) e = ap Put ((items_Decides a b).0 e)
   equal (Update a u) (Update b w) e =
-      let p = and_parts (same_attributes a b) (same_update u w) e in
+      let p = and_parts (same_attributes a b) (option_eq same_update u w) e in
       let key = (items_Decides a b).0 p.0 in
-      let update = (update_decides u w).0 p.1 in
+      let update = (optional update_decides u w).0 p.1 in
       λ i. Update (key i) (update i)
   equal (Delete a) (Delete b) e = ap Delete ((items_Decides a b).0 e)
   equal (Check a) (Check b) e = ap Check ((items_Decides a b).0 e)
@@ -169,7 +169,7 @@ change_decides = decides same_change equal itself where
 
   itself : (x : ItemChange) → same_change x x ≡ true
   itself (Put a) = (items_Decides a a).1 refl
-  itself (Update a u) = and_from (same_attributes a a) (same_update u u) ((items_Decides a a).1 refl) ((update_decides u u).1 refl)
+  itself (Update a u) = and_from (same_attributes a a) (option_eq same_update u u) ((items_Decides a a).1 refl) ((optional update_decides u u).1 refl)
   itself (Delete a) = (items_Decides a a).1 refl
   itself (Check a) = (items_Decides a a).1 refl
 

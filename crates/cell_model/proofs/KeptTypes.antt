@@ -1,7 +1,7 @@
 -- An update leaves the types of the keys that stay.
 use Rattle.std.specs.Prelude.{bytes_eq, if◌then◌else◌}
 use Rattle.std.specs.List.{list_any}
-use Rattle.std.proofs.Common.{◌≡◌, ℕ, Bool, true, false, ◌||◌, List, [], ◌∷◌, ◌++◌, filter, map, Option, None, Some, is_some, Result, unwrap_or, refl, sym, ap, ◌∙◌}
+use Rattle.std.proofs.Common.{◌≡◌, ℕ, Bool, true, false, ◌||◌, List, [], ◌∷◌, ◌++◌, filter, map, Option, None, Some, is_some, Result, refl, sym, ap, subst, ◌∙◌}
 use Rattle.std.specs.Result.{result_map_both}
 use Rattle.std.proofs.lemmas.Bool.{cond-true, cond-false, and_parts, or_left, or_right}
 use Rattle.std.proofs.lemmas.Slice.Eq.{bytes_eq-Decides}
@@ -76,8 +76,43 @@ in_front f (x ∷ xs) ys h = go (f x) h (in_front f xs ys)
 abbrev pub is_in_keys : List ℕ → List GlobalIndex → Bool
 is_in_keys name globals = list_any (λ index. is_key_name index.keys name) globals
 
+-- ---- keys of items
+
 both_alike : (p q : Result KeyValue KeyFault) (s t : Result (Option KeyValue) KeyFault) → p ≡ q → s ≡ t → both key_from p s ≡ both key_from q t
 both_alike p q s t e f = λ i. both key_from (e i) (f i)
+
+module _ (old new : Schema) (item : Attributes) where
+  abbrev SameKind : List ℕ → Type 0
+  SameKind name = kind_of name new.definitions ≡ kind_of name old.definitions
+
+  part_alike : (limit : ℕ) (name : List ℕ) → SameKind name → part_in new limit name item ≡ part_in old limit name item
+  part_alike limit name same = ap (λ kind. part_of limit kind (value_at name item)) same
+
+  sort_alike : (sort : Option (List ℕ)) → ((name : List ℕ) → is_sort_name sort name ≡ true → SameKind name) → sort_in new sort item ≡ sort_in old sort item
+  sort_alike None same = refl
+  sort_alike (Some name) same = ap (result_map_both Some (λ fault. fault)) (part_alike 1024 name (same name ((bytes_eq-Decides name name).1 refl)))
+
+  -- where the names of a key have the types that they had, an item has the key that it had
+  pub key_alike : (keys : KeyNames) → ((name : List ℕ) → is_key_name keys name ≡ true → kind_of name new.definitions ≡ kind_of name old.definitions)
+      → key_in new keys item ≡ key_in old keys item
+  unfolding key_in
+  key_alike keys same =
+      let own : bytes_eq keys.partition keys.partition ≡ true = (bytes_eq-Decides keys.partition keys.partition).1 refl in
+      both_alike _ _ _ _ (part_alike 2048 keys.partition (same keys.partition (or_left _ _ own)))
+      (sort_alike keys.sort (λ name sorts. same name (or_right (bytes_eq keys.partition name) (is_sort_name keys.sort name) sorts)))
+
+-- a name of a key whose attributes have types has one
+pub kind_known : (schema : Schema) (keys : KeyNames) (name : List ℕ) → has_kinds schema keys ≡ true → is_key_name keys name ≡ true
+    → is_some (kind_of name schema.definitions) ≡ true
+kind_known schema keys name known names =
+    let p = and_parts (is_some (kind_of keys.partition schema.definitions)) (has_sort_kind schema keys.sort) known in
+    go keys.sort p.1 (bytes_eq keys.partition name) refl names p.0
+  where
+    go : (sort : Option (List ℕ)) → has_sort_kind schema sort ≡ true → (b : Bool) → bytes_eq keys.partition name ≡ b → (b || is_sort_name sort name) ≡ true
+        → is_some (kind_of keys.partition schema.definitions) ≡ true → is_some (kind_of name schema.definitions) ≡ true
+    go sort kind true e h first = subst (λ x. is_some (kind_of x schema.definitions) ≡ true) ((bytes_eq-Decides keys.partition name).0 e) first
+    go None kind false e h first = absurd (cc)
+    go (Some other) kind false e h first = subst (λ x. is_some (kind_of x schema.definitions) ≡ true) ((bytes_eq-Decides other name).0 h) kind
 
 module _ (schema : Schema) (update : TableUpdate) where
   -- the keys of all indexes that the schema has afterwards
@@ -98,37 +133,18 @@ module _ (schema : Schema) (update : TableUpdate) where
       in_front (λ keys. is_key_name keys name) (map (λ index. index.keys) schema.locals) _
       (mapped (λ keys. is_key_name keys name) (λ index. index.keys) schema.locals ∙ used)
 
-  -- a name of a key that stays keeps its type
-  kept_kind : (name : List ℕ) → is_some (kind_of name schema.definitions) ≡ true → is_left name ≡ true
+  -- a name of the table's key, or of one of these, keeps its type
+  pub kept_kind : (name : List ℕ) → is_some (kind_of name schema.definitions) ≡ true → (is_key_name schema.keys name || is_left name) ≡ true
       → kind_of name (updated_schema schema update).definitions ≡ kind_of name schema.definitions
   kept_kind name known used =
       passing (λ n. is_key_name schema.keys n || list_any (λ keys. is_key_name keys n) all_keys)
-      name (with_definitions schema.definitions update.definitions) (or_right (is_key_name schema.keys name) _ used)
+      name (with_definitions schema.definitions update.definitions) used
       ∙ defined name schema.definitions update.definitions known
-
-  kept_part : (limit : ℕ) (name : List ℕ) (item : Attributes) → is_some (kind_of name schema.definitions) ≡ true
-      → is_left name ≡ true
-      → part_in (updated_schema schema update) limit name item ≡ part_in schema limit name item
-  kept_part limit name item known used = ap (λ kind. part_of limit kind (value_at name item)) (kept_kind name known used)
-
-  kept_sort : (sort : Option (List ℕ)) (item : Attributes) → has_sort_kind schema sort ≡ true
-      → ((name : List ℕ) → sort ≡ Some name → is_left name ≡ true)
-      → sort_in (updated_schema schema update) sort item ≡ sort_in schema sort item
-  kept_sort None item known used = refl
-  kept_sort (Some name) item known used = ap (result_map_both Some (λ fault. fault)) (kept_part 1024 name item known (used name refl))
 
   -- an item has the key that it had, in an index that stays and whose key has types
   pub kept_key : (keys : KeyNames) (item : Attributes) → has_kinds schema keys ≡ true
       → ((name : List ℕ) → is_key_name keys name ≡ true → is_left name ≡ true)
       → key_in (updated_schema schema update) keys item ≡ key_in schema keys item
-  unfolding key_in
   kept_key keys item known used =
-      let p = and_parts (is_some (kind_of keys.partition schema.definitions)) (has_sort_kind schema keys.sort) known in
-      let own : bytes_eq keys.partition keys.partition ≡ true = (bytes_eq-Decides keys.partition keys.partition).1 refl in
-      let partition = kept_part 2048 keys.partition item p.0 (used keys.partition (or_left _ _ own)) in
-      let sort = kept_sort keys.sort item p.1 (λ name e. used name (or_right (bytes_eq keys.partition name) (is_sort_name keys.sort name) (sorted name keys.sort e))) in
-      both_alike _ _ _ _ partition sort
-    where
-      sorted : (name : List ℕ) (sort : Option (List ℕ)) → sort ≡ Some name → is_sort_name sort name ≡ true
-      sorted name None e = absurd (cc)
-      sorted name (Some other) e = (bytes_eq-Decides other name).1 (ap (λ o. unwrap_or o name) e)
+      key_alike schema (updated_schema schema update) item keys
+      (λ name names. kept_kind name (kind_known schema keys name known names) (or_right (is_key_name schema.keys name) (is_left name) (used name names)))

@@ -54,9 +54,9 @@ unfolding cell_at
 cell_below partitions place many = below place partitions (2 ^ 64) (omega arith) many
 
 pub pages_below : (partitions : ℕ) (q : CatalogQuestion) → 1 ≤ partitions → page_cell partitions q < partitions
-pages_below partitions (Page page) many = cell_below partitions _ many
-pages_below partitions (Look name) many = cell_below partitions 0 many
-pages_below partitions (Names after limit) many = cell_below partitions 0 many
+pages_below partitions (Page page) many = mod-lt page.cell many
+pages_below partitions (Look name) many = many
+pages_below partitions (Names after limit) many = many
 
 -- ---- tables
 

@@ -1,5 +1,6 @@
 pub mod FaultTests
 pub mod FirstFaults
+pub mod IndexFaults
 pub mod Exact
 pub mod Numbers
 pub mod Lookups
@@ -7,6 +8,8 @@ pub mod KeptTypes
 pub mod Steady
 pub mod Lawful
 pub mod Ties
+pub mod FullPages
+pub mod OnePage
 pub mod Making
 pub mod Keeping
 pub mod CatalogsKept

@@ -1,5 +1,5 @@
 -- How what actions say is stored in the logic's own tree of numbers. Nothing that a caller relies on hangs on it.
-use Rattle.std.specs.Prelude.{◌≡◌, ℕ, zero, suc, List, Bool, Option, None, Some, refl}
+use Rattle.std.specs.Prelude.{◌≡◌, ℕ, zero, suc, List, Bool, Option, None, refl}
 use Rattle.std.specs.Coded.{Coded, code_by, coded_ℕ, coded_bool, coded_list, coded_option, coded×}
 use Rattle.std.proofs.Common.{ap}
 use base.Stored.{Gv, gnil, gnum, gcons}
@@ -157,15 +157,15 @@ update_code =
 -- a change is its number, what it names, and an update where it has one
 abbrev parts : ItemChange → ℕ × (Attributes × Option UpdateTree)
 parts (Put item) = (0, (item, None))
-parts (Update key update) = (1, (key, Some update))
+parts (Update key update) = (1, (key, update))
 parts (Delete key) = (2, (key, None))
 parts (Check key) = (3, (key, None))
 
 abbrev joined : ℕ × (Attributes × Option UpdateTree) → ItemChange
-joined (n, (item, Some update)) = Update item update
-joined (zero, (item, None)) = Put item
-joined (suc (suc zero), (item, None)) = Delete item
-joined (n, (item, None)) = Check item
+joined (zero, (item, update)) = Put item
+joined (suc zero, (item, update)) = Update item update
+joined (suc (suc zero), (item, update)) = Delete item
+joined (n, (item, update)) = Check item
 
 pub back : (c : ItemChange) → joined (parts c) ≡ c
 back (Put item) = refl

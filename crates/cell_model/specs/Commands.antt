@@ -128,10 +128,10 @@ index_fault schema None = None
 index_fault schema (Some (Remove name)) = if is_some (global_named name schema.globals) then None else Some answer.NoIndex
 index_fault schema (Some (Make index)) = if has_index schema index.name then Some answer.IndexExists else None
 
--- the schema that a table would have, or its first fault
-abbrev pub judged : Schema → Option SchemaFault → Ruling CatalogAnswer
-judged schema None = Carries (answer.Changed schema)
-judged schema (Some fault) = Refuses (answer.BadSchema fault)
+-- refused by the first fault of the schema that a table would have, or carried out, which tells this
+abbrev pub judged : CatalogAnswer → Option SchemaFault → Ruling CatalogAnswer
+judged told None = Carries told
+judged told (Some fault) = Refuses (answer.BadSchema fault)
 
 abbrev pub unless : Option CatalogAnswer → Ruling CatalogAnswer → Ruling CatalogAnswer
 unless (Some fault) ruling = Refuses fault
@@ -143,7 +143,7 @@ typed_ruling update table =
     let schema = updated_schema table.schema update in
     unless (index_fault table.schema update.index)
     (if has_bad_definition table.schema.definitions update.definitions then Refuses (answer.BadSchema BadDefinition)
-    else judged schema (first_fault (stated_of schema)))
+    else judged (answer.Changed schema) (first_fault (stated_of schema)))
 
 -- a table whose keys have no types can't be changed
 abbrev pub update_ruling : TableUpdate → CatalogTable → Ruling CatalogAnswer
@@ -158,9 +158,14 @@ abbrev pub change_ruling : TableUpdate → Option CatalogTable → Ruling Catalo
 change_ruling update None = Refuses answer.NoTable
 change_ruling update (Some table) = update_ruling update table
 
+-- a new table has the next number, where there is room for one and its schema breaks no rule
+abbrev pub create_ruling : Schema → Catalog → Ruling CatalogAnswer
+create_ruling schema catalog =
+    if nat_le most_tables (length catalog.tables) then Refuses answer.Full
+    else judged (answer.Made (last_drawn catalog + 1)) (first_fault (stated_of schema))
+
 -- what becomes of a command that no name and no pending stands in the way of
 abbrev pub ruling : CatalogCommand → Catalog → Ruling CatalogAnswer
-ruling (Create schema) catalog =
-    if nat_le most_tables (length catalog.tables) then Refuses answer.Full else Carries (answer.Made (last_drawn catalog + 1))
+ruling (Create schema) catalog = create_ruling schema catalog
 ruling (Drop name) catalog = drop_ruling (named catalog.tables name)
 ruling (Change name update) catalog = change_ruling update (named catalog.tables name)

@@ -10,7 +10,6 @@ use Rattle.txn_core.specs.declared.ruling.Ruling.TheVariants.{Carries, Refuses}
 use Rattle.cell_model.specs.declared.catalog.Catalog.{Catalog}
 use Rattle.cell_model.specs.declared.catalog.CatalogTable.{CatalogTable}
 use Rattle.cell_model.specs.declared.command.CatalogCommand.{CatalogCommand}
-use Rattle.cell_model.specs.declared.command.CatalogCommand.TheVariants.{Create, Drop, Change}
 use Rattle.cell_model.specs.declared.answer.CatalogAnswer.{CatalogAnswer}
 use Rattle.cell_model.specs.Catalogs.{no_table, ascend_from, numbered_indexes, greatest_in, last_drawn}
 use Rattle.cell_model.specs.Commands.{is_typed, refusal, ruling, catalog_after}
@@ -37,12 +36,6 @@ pub record IsKept (catalog : Catalog) : Type 0 where
   pub ordered : IsStrictlySortedBy (slice_cmp nat_cmp) (names_of catalog.tables)
   pub drawn : greatest_in catalog.tables ≤ catalog.drawn
 
--- the command's schema is valid, where it has one
-abbrev pub IsStatedWell : CatalogCommand → Type 0
-IsStatedWell (Create schema) = IsValid schema
-IsStatedWell (Drop name) = Unit {0}
-IsStatedWell (Change name change) = Unit {0}
-
 -- the command is carried out
 abbrev pub IsCarried : Ruling CatalogAnswer → Type 0
 IsCarried (Carries told) = Unit {0}
@@ -52,7 +45,7 @@ IsCarried (Refuses told) = ⊥
 pub record CommandsKeep : Type 0 where
   pub first : IsKept no_table
   pub next :
-      (command : CatalogCommand) (moment : ℕ) (catalog : Catalog) → IsKept catalog → IsStatedWell command → refusal command catalog ≡ None
+      (command : CatalogCommand) (moment : ℕ) (catalog : Catalog) → IsKept catalog → refusal command catalog ≡ None
       → IsCarried (ruling command catalog) → IsKept (catalog_after command moment catalog)
 
 -- of such a catalog the count is the greatest number that was drawn, and each table has all its indexes under their

@@ -1,5 +1,6 @@
 -- The definitions in reading order: keys and their order; the catalog; what actions say and do, and which are the same;
--- the first fault of a schema; commands; index rows; pages; and what the protocol needs to know of all these.
+-- the first fault of a schema; commands; index rows; pages, and pages that go from cell to cell; and what the protocol needs
+-- to know of all these.
 pub mod Keys
 pub mod KeyLaws
 pub mod Catalogs
@@ -10,6 +11,7 @@ pub mod FirstFault
 pub mod Commands
 pub mod IndexRows
 pub mod Pages
+pub mod Parts
 pub mod Service
 pub mod Laws
 pub mod KeptCatalogs

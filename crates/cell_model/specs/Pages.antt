@@ -1,5 +1,5 @@
 -- Pages of the rows of one cell (API Reference: Query, Scan).
-use Rattle.std.specs.Prelude.{ℕ, ◌-◌, Bool, true, false, ◌&&◌, nat_eq, nat_lt, List, [], ◌∷◌, map, filter, take, length, slice_get, Option, None, Some, option_map, if◌then◌else◌}
+use Rattle.std.specs.Prelude.{ℕ, ◌-◌, ◌%◌, Bool, true, false, ◌&&◌, nat_eq, nat_lt, List, [], ◌∷◌, map, filter, take, length, slice_get, Option, None, Some, option_map, if◌then◌else◌}
 use Rattle.std.specs.List.{filter_map, list_any, fold}
 use Rattle.attr_value.specs.Tree.{Attributes}
 use Rattle.attr_value.specs.Sizes.{item_size}
@@ -26,7 +26,6 @@ use Rattle.cell_model.specs.declared.question.CatalogQuestion.TheVariants.{Look,
 use Rattle.cell_model.specs.declared.answer.PageRow.{PageRow}
 use Rattle.cell_model.specs.declared.answer.CatalogAnswer.{CatalogAnswer}
 use Rattle.cell_model.specs.declared.answer.CatalogAnswer.TheVariants as answer
-use Rattle.cell_model.specs.Keys.{cell_at}
 use Rattle.cell_model.specs.Catalogs.{numbered, named, index_numbers}
 
 -- what a cell keeps: items, or rows of indexes, in the order of their keys
@@ -101,14 +100,10 @@ page_part catalog rows page = part_of page.room (taken page.room (asked_rows cat
 
 -- ---- where a page is answered
 
-abbrev pub place_or : Option RowKey → ℕ
-place_or None = 0
-place_or (Some key) = key.place
-
--- the cell of a page, by the low end of its span
+-- the cell that a page names
 abbrev pub page_cell : ℕ → CatalogQuestion → ℕ
-page_cell partitions (Page page) = cell_at partitions (place_or page.span.low)
-page_cell partitions _ = cell_at partitions 0
+page_cell partitions (Page page) = page.cell % partitions
+page_cell partitions _ = 0
 
 abbrev pub index_number : PageSource → Option ℕ
 index_number (source.Global index) = Some index

@@ -33,7 +33,7 @@ same_update u w =
 
 abbrev pub same_change : ItemChange → ItemChange → Bool
 same_change (Put item) (Put other) = same_attributes item other
-same_change (Update key u) (Update other w) = same_attributes key other && same_update u w
+same_change (Update key u) (Update other w) = same_attributes key other && option_eq same_update u w
 same_change (Delete key) (Delete other) = same_attributes key other
 same_change (Check key) (Check other) = same_attributes key other
 same_change x y = false

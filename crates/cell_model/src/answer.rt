@@ -43,7 +43,7 @@ pub enum CatalogAnswer {
     NoIndex,
     /// A Change: an index of the table has the name.
     IndexExists,
-    /// A Change: the schema would have this fault, and none before it.
+    /// A Create or a Change: the schema would have this fault, and none before it.
     BadSchema {
         fault: SchemaFault,
     },

@@ -4,7 +4,7 @@ ghost use Rattle.std.specs.Prelude.{ℕ};
 ghost use Rattle.txn_core.specs.Service.{IsServiceLawful};
 ghost use Rattle.cell_model.specs.Service.{service};
 ghost use Rattle.cell_model.specs.KeptCatalogs.{CommandsKeep, KeptIsWhole};
-ghost use Rattle.cell_model.specs.Laws.{ActAsTheDatabase, RowsAreTheDatabases, TakesItsPage, TellsItsRoom};
+ghost use Rattle.cell_model.specs.Laws.{ActAsTheDatabase, CellsTellParts, PartsAreOnePage, RowsAreTheDatabases, TakesItsPage, TellsItsRoom};
 
 /// They keep what the protocol asks of tables, for every number of partitions: so the laws of the one order hold of them.
 pub fn tables_are_lawful()
@@ -30,8 +30,15 @@ pub fn index_rows_are_the_databases()
 {}
 
 /// The rows that a page takes are its page of them and of all that follow (API Reference: Query, LastEvaluatedKey), and
-/// what it may still take is what they leave: so a page goes on from cell to cell.
+/// what it may still take is what they leave. Its filter counts for nothing in this.
 pub fn pages_end_where_they_are_full()
     ensures page { TakesItsPage }
     ensures room { TellsItsRoom }
+{}
+
+/// The parts of a page in several cells, each asked with the room that the one before left, up to the first with which it has
+/// ended, are one page of all rows that were there for it, whatever its filter is. What a cell answers to a page is such a part.
+pub fn parts_are_one_page()
+    ensures page { PartsAreOnePage }
+    ensures parts { CellsTellParts }
 {}

@@ -16,13 +16,13 @@ mod key;
 mod laws;
 mod question;
 
-pub use action::KeyedAction;
+pub use action::{KeyedAction, StatedChange, Statement};
 pub use answer::{CatalogAnswer, PageRow};
 pub use catalog::{Catalog, CatalogTable};
 pub use command::CatalogCommand;
 pub use key::{CellKey, IndexRowKey, ItemKey};
 pub use laws::{
     actions_are_the_databases, catalogs_are_kept, index_rows_are_the_databases,
-    pages_end_where_they_are_full, tables_are_lawful,
+    pages_end_where_they_are_full, parts_are_one_page, tables_are_lawful,
 };
 pub use question::{CatalogQuestion, PageQuestion, PageRoom, PageSource};

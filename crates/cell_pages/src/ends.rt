@@ -29,8 +29,18 @@ fn copy_of_key(key: &Option<RowKey>) -> Result<Option<RowKey>, NoMemory>
     }
 }
 
+/// A copy of a span.
+pub(crate) fn copy_of_span(span: &Span) -> Result<Span, NoMemory>
+    ensures { IfOk result (λ copy. copy ≡ span.now) }
+{
+    Ok(Span {
+        low: copy_of_key(&span.low)?,
+        high: copy_of_key(&span.high)?,
+    })
+}
+
 /// A copy of a position, where there is one.
-fn copy_of_position(position: &Option<Position>) -> Result<Option<Position>, NoMemory>
+pub(crate) fn copy_of_position(position: &Option<Position>) -> Result<Option<Position>, NoMemory>
     ensures { IfOk result (λ copy. copy ≡ position.now) }
 {
     match position {
@@ -43,11 +53,7 @@ fn copy_of_position(position: &Option<Position>) -> Result<Option<Position>, NoM
 fn positions_of(alloc: Global, span: &Span) -> Result<PositionSpan, NoMemory>
     ensures { IfOk result (λ positions. (at : AnyPosition) → stands_inside positions at ≡ is_inside span.now at.read) }
 {
-    let span = Span {
-        low: copy_of_key(&span.low)?,
-        high: copy_of_key(&span.high)?,
-    };
-    span.positions(alloc)
+    copy_of_span(span)?.positions(alloc)
 }
 
 /// The later one of two low ends.

@@ -27,9 +27,9 @@ use Rattle.expr_words.specs.EqualityLaws.{tree_decides, term_decides}
 use Rattle.expr_parse.specs.declared.tree.Update.{Update}
 use Rattle.expr_parse.specs.Update.{update_tree}
 use Rattle.expr_parse.specs.contracts.tree.UpdatePartialEq.TheImpl as update_eq
-use Rattle.table_request.specs.declared.transactions.TransactAction.{TransactAction}
+use Rattle.cell_model.specs.declared.action.Statement.{Statement}
 use Rattle.cell_model.specs.declared.key.CellKey.{CellKey}
-use Rattle.cell_model.specs.Actions.{ItemAction, stated_action}
+use Rattle.cell_model.specs.Actions.{ItemAction, action_of}
 
 -- lists of which each two elements that stand at one place are alike
 module _ {X Y : Type 0} (f : X → Y) (test : X → X → Bool) (tests : (x y : X) → Decides (test x y) (f x ≡ f y)) where
@@ -97,7 +97,7 @@ pair_decides a b =
     Decides-like _ (λ h i. record { path = h.0 i; value = h.1 i }) (λ e. (ap (λ s. s.path) e, ap (λ s. s.value) e))
     (Decides-and _ _ (path_decides a.path b.path) (Decides-eqb a.value b.value))
 
-pub update_decides : (a b : Update) → Decides (update_eq.ghosts.eq a b) (update_tree a ≡ update_tree b)
+update_decides : (a b : Update) → Decides (update_eq.ghosts.eq a b) (update_tree a ≡ update_tree b)
 update_decides a b =
     Decides-like _ (λ h i. record { sets = h.0 i; removes = h.1.0 i; adds = h.1.1.0 i; deletes = h.1.1.1 i })
     (λ e. (ap (λ u. u.sets) e, (ap (λ u. u.removes) e, (ap (λ u. u.adds) e, ap (λ u. u.deletes) e))))
@@ -105,7 +105,11 @@ update_decides a b =
     (Decides-and _ _ (slice_eq-Decides path_decides a.removes b.removes _ refl)
     (Decides-and _ _ (slice_eq-Decides pair_decides a.adds b.adds _ refl) (slice_eq-Decides pair_decides a.deletes b.deletes _ refl))))
 
--- the same of conditions that may not be there
+-- the same of updates and conditions that may not be there
+pub updates_decide : (r : Bool) (a b : Update) → r ≡ update_eq.ghosts.eq a b → IsTrue r ↔ (Some (update_tree a) ≡ Some (update_tree b))
+updates_decide r a b is =
+    Decides-at r (update_eq.ghosts.eq a b) is (Decides-like (update_eq.ghosts.eq a b) (λ e. ap Some e) (λ e. cc) (update_decides a b))
+
 pub conditions_decide : (r : Bool) (a b : Tree) → r ≡ same_tree a b → IsTrue r ↔ (Some a ≡ Some b)
 conditions_decide r a b is =
     Decides-at r (same_tree a b) is (Decides-like (same_tree a b) (λ e. ap Some e) (λ e. cc) (tree_decides a b))
@@ -116,9 +120,9 @@ differs r is e part = (λ passes. absurd (cc), λ whole. let passes = is.1 (part
 
 -- actions are equal where their keys are, and what they say of one item
 pub actions_decide :
-    (r : Bool) (a b : ItemAction) (x y : TransactAction) → a ≡ stated_action a.key x → b ≡ stated_action b.key y → a.key ≡ b.key
-    → ((key : CellKey) → IsTrue r ↔ (stated_action key x ≡ stated_action key y)) → IsTrue r ↔ (a ≡ b)
+    (r : Bool) (a b : ItemAction) (x y : Statement) → a ≡ action_of a.key x → b ≡ action_of b.key y → a.key ≡ b.key
+    → ((key : CellKey) → IsTrue r ↔ (action_of key x ≡ action_of key y)) → IsTrue r ↔ (a ≡ b)
 actions_decide r a b x y is_a is_b keys same = (
-  λ passes. is_a ∙ ap (λ key. stated_action key x) keys ∙ (same b.key).0 passes ∙ sym is_b,
-  λ e. (same a.key).1 (sym is_a ∙ e ∙ is_b ∙ ap (λ key. stated_action key y) (sym keys)),
+  λ passes. is_a ∙ ap (λ key. action_of key x) keys ∙ (same b.key).0 passes ∙ sym is_b,
+  λ e. (same a.key).1 (sym is_a ∙ e ∙ is_b ∙ ap (λ key. action_of key y) (sym keys)),
 )

@@ -4,20 +4,18 @@ ghost use Rattle.std.specs.Prelude.{◌≡◌, IfOk};
 ghost use Rattle.std.specs.Option.{option_copied, option_map};
 ghost use Rattle.expr_words.specs.Trees.{tree};
 ghost use Rattle.cell_model.specs.declared.key.CellKey.{CellKey as AnyKey};
-ghost use Rattle.cell_model.specs.Actions.{stated_action, stated_change, is_met, change_outcome, action_outcome, outcome_of, act};
+ghost use Rattle.cell_model.specs.Actions.{Update, action_of, change_of, is_met, change_outcome, action_outcome, outcome_of, act};
 ghost use Rattle.table_items.specs.Outcomes as items;
-ghost use Rattle.cell_model.specs.Actions.{Update};
 ghost use Rattle.expr_parse.specs.Update.{update_tree};
 
 use attr_value::{Item, SharedItem, Value, kept, lent};
 use base_types::Seq;
 use cell_catalog::{table_numbered, table_of};
-use cell_model::{Catalog, KeyedAction};
+use cell_model::{Catalog, KeyedAction, StatedChange, Statement};
 use expr_parse::Update as ItemUpdate;
 use expr_words::Condition;
 use std::alloc::{AllocError as NoMemory, Global};
 use table_items::{Outcome as TableOutcome, is_met, put_outcome, update_outcome};
-use table_request::{Change, TransactAction};
 use table_schema::Schema;
 use txn_core::Outcome;
 use update_eval::EvalFault;
@@ -52,20 +50,20 @@ fn is_allowed(condition: &Option<Condition>, values: &Seq<Value>, item: Option<&
     is_met(condition.as_ref(), values, lent(item))
 }
 
-/// What an update makes of an item, or of the key alone where there is none.
+/// What an update, if there is one, makes of an item, or of the key alone where there is none.
 fn update(
     alloc: Global,
     schema: &Schema,
     values: &Seq<Value>,
     key: &Item,
-    by: &ItemUpdate,
+    by: &Option<ItemUpdate>,
     item: Option<&SharedItem>,
 ) -> Result<Outcome<SharedItem, EvalFault>, NoMemory>
-    ensures { IfOk result (λ outcome. outcome
-        ≡ outcome_of (change_outcome schema.now values.now (option_copied item.entry) (Update key.now (update_tree by.now)))) }
+    ensures { IfOk result (λ outcome. outcome ≡ outcome_of
+        (change_outcome schema.now values.now (option_copied item.entry) (Update key.now (option_map update_tree by.now)))) }
 {
     let key = key.try_clone()?;
-    let outcome = update_outcome(alloc, schema, None, Some(by), values, key, item)?;
+    let outcome = update_outcome(alloc, schema, None, by.as_ref(), values, key, item)?;
     told(alloc, outcome)
 }
 
@@ -74,20 +72,20 @@ fn changed(
     alloc: Global,
     schema: &Schema,
     values: &Seq<Value>,
-    change: &Change,
+    change: &StatedChange,
     item: Option<&SharedItem>,
 ) -> Result<Outcome<SharedItem, EvalFault>, NoMemory>
     ensures { IfOk result (λ outcome. outcome
-        ≡ outcome_of (change_outcome schema.now values.now (option_copied item.entry) (stated_change change.now))) }
+        ≡ outcome_of (change_outcome schema.now values.now (option_copied item.entry) (change_of change.now))) }
 {
     match change {
-        Change::Put(new) => told(
+        StatedChange::Put(new) => told(
             alloc,
             put_outcome(schema, None, values, new.try_clone()?, item),
         ),
-        Change::Update { key, update: by } => update(alloc, schema, values, key, by, item),
-        Change::Delete(_) => Ok(Outcome::New { item: None }),
-        Change::Check(_) => Ok(Outcome::New {
+        StatedChange::Update { key, update: by } => update(alloc, schema, values, key, by, item),
+        StatedChange::Delete(_) => Ok(Outcome::New { item: None }),
+        StatedChange::Check(_) => Ok(Outcome::New {
             item: shared(item)?,
         }),
     }
@@ -97,16 +95,16 @@ fn changed(
 fn act_in(
     alloc: Global,
     schema: &Schema,
-    action: &TransactAction,
+    statement: &Statement,
     item: Option<&SharedItem>,
 ) -> Result<Outcome<SharedItem, EvalFault>, NoMemory>
     ensures { IfOk result (λ outcome. (key : AnyKey) → outcome
-        ≡ outcome_of (action_outcome schema.now (stated_action key action.now) (option_copied item.entry))) }
+        ≡ outcome_of (action_outcome schema.now (action_of key statement.now) (option_copied item.entry))) }
 {
-    if !is_allowed(&action.condition, &action.values, item) {
+    if !is_allowed(&statement.condition, &statement.values, item) {
         return Ok(Outcome::Unmet);
     }
-    changed(alloc, schema, &action.values, &action.change, item)
+    changed(alloc, schema, &statement.values, &statement.change, item)
 }
 
 /// What an action makes of its item under a catalog. Of a table that is not there nothing is kept.
@@ -119,7 +117,7 @@ pub(crate) fn act(
     ensures { IfOk result (λ outcome. outcome ≡ act catalog.now action.now (option_copied item.entry)) }
 {
     match table_numbered(catalog, table_of(action.key())) {
-        Some(table) => act_in(alloc, &table.schema, action.action(), item),
+        Some(table) => act_in(alloc, &table.schema, action.statement(), item),
         None => Ok(Outcome::New { item: None }),
     }
 }

@@ -3,26 +3,37 @@
 ghost use Rattle.std.specs.Prelude.{◌≡◌, IfOk};
 ghost use Rattle.std.specs.Option.{option_map};
 ghost use Rattle.expr_words.specs.Trees.{tree};
-ghost use Rattle.cell_model.specs.Actions.{stated_action, stated_change};
+ghost use Rattle.expr_parse.specs.Update.{update_tree};
+ghost use Rattle.cell_model.specs.Actions.{action_of, change_of};
 ghost use Rattle.cell_model.specs.declared.key.CellKey.{CellKey as AnyKey};
 
-use cell_model::KeyedAction;
+use cell_model::{KeyedAction, StatedChange, Statement};
+use expr_parse::Update;
 use expr_words::Condition;
 use std::alloc::AllocError as NoMemory;
-use table_request::{Change, TransactAction};
+
+/// A copy of an update, where there is one.
+fn copy_of_update(update: &Option<Update>) -> Result<Option<Update>, NoMemory>
+    ensures { IfOk result (λ copy. option_map update_tree copy ≡ option_map update_tree update.now) }
+{
+    match update {
+        Some(update) => Ok(Some(update.try_clone()?)),
+        None => Ok(None),
+    }
+}
 
 /// A copy of what becomes of an item.
-fn copy_of_change(change: &Change) -> Result<Change, NoMemory>
-    ensures { IfOk result (λ copy. stated_change copy ≡ stated_change change.now) }
+fn copy_of_change(change: &StatedChange) -> Result<StatedChange, NoMemory>
+    ensures { IfOk result (λ copy. change_of copy ≡ change_of change.now) }
 {
     match change {
-        Change::Put(item) => Ok(Change::Put(item.try_clone()?)),
-        Change::Update { key, update } => Ok(Change::Update {
+        StatedChange::Put(item) => Ok(StatedChange::Put(item.try_clone()?)),
+        StatedChange::Update { key, update } => Ok(StatedChange::Update {
             key: key.try_clone()?,
-            update: update.try_clone()?,
+            update: copy_of_update(update)?,
         }),
-        Change::Delete(key) => Ok(Change::Delete(key.try_clone()?)),
-        Change::Check(key) => Ok(Change::Check(key.try_clone()?)),
+        StatedChange::Delete(key) => Ok(StatedChange::Delete(key.try_clone()?)),
+        StatedChange::Check(key) => Ok(StatedChange::Check(key.try_clone()?)),
     }
 }
 
@@ -41,19 +52,19 @@ pub(crate) fn copy_of_action(action: &KeyedAction) -> Result<KeyedAction, NoMemo
     ensures { IfOk result (λ copy. copy ≡ action.now) }
 {
     let key = action.key().try_clone()?;
-    let says = copy_of_transact_action(action.action())?;
+    let says = copy_of_statement(action.statement())?;
     Ok(KeyedAction::new(key, says))
 }
 
 /// A copy of what an action says.
-fn copy_of_transact_action(action: &TransactAction) -> Result<TransactAction, NoMemory>
-    ensures { IfOk result (λ copy. (key : AnyKey) → stated_action key copy ≡ stated_action key action.now) }
+fn copy_of_statement(statement: &Statement) -> Result<Statement, NoMemory>
+    ensures { IfOk result (λ copy. (key : AnyKey) → action_of key copy ≡ action_of key statement.now) }
 {
-    Ok(TransactAction {
-        table: action.table.try_clone()?,
-        change: copy_of_change(&action.change)?,
-        condition: copy_of_condition(&action.condition)?,
-        values: action.values.try_clone()?,
-        show_old: action.show_old,
+    Ok(Statement {
+        table: statement.table.try_clone()?,
+        change: copy_of_change(&statement.change)?,
+        condition: copy_of_condition(&statement.condition)?,
+        values: statement.values.try_clone()?,
+        show_old: statement.show_old,
     })
 }

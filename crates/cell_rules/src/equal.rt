@@ -5,15 +5,14 @@ ghost use Rattle.expr_words.specs.Trees.{tree};
 ghost use Rattle.expr_parse.specs.Update.{update_tree};
 ghost use Rattle.std.specs.Cmp.Lexicographic.{pointwise};
 ghost use Rattle.cell_model.specs.SameActions.{same_action};
-ghost use Rattle.cell_model.specs.Actions.{stated_action, stated_change};
+ghost use Rattle.cell_model.specs.Actions.{action_of, change_of};
 ghost use Rattle.cell_model.specs.declared.key.CellKey.{CellKey as AnyKey};
 
 use attr_value::{Item, Value};
 use base_types::{Seq, Text};
-use cell_model::{CellKey, KeyedAction};
+use cell_model::{CellKey, KeyedAction, StatedChange, Statement};
 use expr_parse::Update;
 use expr_words::Condition;
-use table_request::{Change, TransactAction};
 use table_schema::Schema;
 use update_eval::EvalFault;
 
@@ -52,11 +51,15 @@ fn are_equal_values(left: &Seq<Value>, right: &Seq<Value>) -> bool
     left == right
 }
 
-/// Whether both updates are one tree.
-fn are_equal_updates(left: &Update, right: &Update) -> bool
-    ensures { IsTrue result ↔ (update_tree left.now ≡ update_tree right.now) }
+/// Whether both updates are one tree, or there is none.
+fn are_equal_updates(left: &Option<Update>, right: &Option<Update>) -> bool
+    ensures { IsTrue result ↔ (option_map update_tree left.now ≡ option_map update_tree right.now) }
 {
-    left == right
+    match (left, right) {
+        (None, None) => true,
+        (Some(one), Some(other)) => one == other,
+        _ => false,
+    }
 }
 
 /// Whether both conditions are one tree, or there is none.
@@ -78,27 +81,27 @@ pub(crate) fn are_equal_schemas(left: &Schema, right: &Schema) -> bool
 }
 
 /// Whether both changes say the same.
-fn are_equal_changes(left: &Change, right: &Change) -> bool
-    ensures { IsTrue result ↔ (stated_change left.now ≡ stated_change right.now) }
+fn are_equal_changes(left: &StatedChange, right: &StatedChange) -> bool
+    ensures { IsTrue result ↔ (change_of left.now ≡ change_of right.now) }
 {
     match (left, right) {
-        (Change::Put(one), Change::Put(other)) => are_equal_items(one, other),
+        (StatedChange::Put(one), StatedChange::Put(other)) => are_equal_items(one, other),
         (
-            Change::Update { key, update },
-            Change::Update {
+            StatedChange::Update { key, update },
+            StatedChange::Update {
                 key: other,
                 update: another,
             },
         ) => are_equal_items(key, other) && are_equal_updates(update, another),
-        (Change::Delete(one), Change::Delete(other)) => are_equal_items(one, other),
-        (Change::Check(one), Change::Check(other)) => are_equal_items(one, other),
+        (StatedChange::Delete(one), StatedChange::Delete(other)) => are_equal_items(one, other),
+        (StatedChange::Check(one), StatedChange::Check(other)) => are_equal_items(one, other),
         _ => false,
     }
 }
 
 /// Whether both say the same of an item.
-fn are_equal_statements(one: &TransactAction, other: &TransactAction) -> bool
-    ensures { (key : AnyKey) → IsTrue result ↔ (stated_action key one.now ≡ stated_action key other.now) }
+fn are_equal_statements(one: &Statement, other: &Statement) -> bool
+    ensures { (key : AnyKey) → IsTrue result ↔ (action_of key one.now ≡ action_of key other.now) }
 {
     if !are_equal_names(&one.table, &other.table) {
         return false;
@@ -122,7 +125,7 @@ pub(crate) fn are_equal_actions(left: &KeyedAction, right: &KeyedAction) -> bool
     if !are_equal_keys(left.key(), right.key()) {
         return false;
     }
-    are_equal_statements(left.action(), right.action())
+    are_equal_statements(left.statement(), right.statement())
 }
 
 /// Whether both lists have the same actions in the same order.

@@ -19,7 +19,7 @@ fn place_of(key: &CellKey) -> u64
 
 /// The cell of a place, where the places are cut into `partitions` parts of one length.
 #[tactic(auto, unfolding(cell_model::specs::Keys::cell_at))]
-pub(crate) fn cell_at(partitions: u32, place: u64) -> u32
+fn cell_at(partitions: u32, place: u64) -> u32
     requires { 1 ≤ partitions }
     ensures { result ≡ cell_at partitions place }
 {

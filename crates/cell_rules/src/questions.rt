@@ -4,33 +4,21 @@ ghost use Rattle.std.specs.Prelude.{◌≡◌, ◌≤◌, nat_eq};
 ghost use Rattle.std.specs.List.{list_any};
 ghost use Rattle.std.specs.Option.{option_copied};
 ghost use Rattle.cell_model.specs.Catalogs.{index_numbers};
-ghost use Rattle.cell_model.specs.Pages.{place_or, page_cell, index_number, page_index, has_source, has_source_in, serves};
+ghost use Rattle.cell_model.specs.Pages.{page_cell, index_number, page_index, has_source, has_source_in, serves};
 ghost use Rattle.cell_rules.specs.PageLaws.{read_table};
 
-use crate::keys::cell_at;
 use cell_catalog::{index_numbered, table_numbered};
 use cell_model::{Catalog, CatalogQuestion, CatalogTable, PageSource};
-use row_keys::RowKey;
 
-/// The key's place, or 0.
-fn place_or(key: &Option<RowKey>) -> u64
-    ensures { result ≡ place_or key.now }
-{
-    match key {
-        Some(key) => key.place,
-        None => 0,
-    }
-}
-
-/// The partition of a page of rows: that of the low end of its span.
+/// The partition of a page of rows: the one that it names.
 pub(crate) fn page_cell(partitions: u32, question: &CatalogQuestion) -> u32
     requires { 1 ≤ partitions }
     ensures { result ≡ page_cell partitions question.now }
 {
     match question {
-        CatalogQuestion::Page(page) => cell_at(partitions, place_or(&page.span.low)),
-        CatalogQuestion::Look { .. } => cell_at(partitions, 0),
-        CatalogQuestion::Names { .. } => cell_at(partitions, 0),
+        CatalogQuestion::Page(page) => page.cell % partitions,
+        CatalogQuestion::Look { .. } => 0,
+        CatalogQuestion::Names { .. } => 0,
     }
 }
 

@@ -1,7 +1,7 @@
 //! A table comes with its index, gets an item, and goes.
 
 use crate::cells::{Cells, Told};
-use crate::parts::{index_key, item, item_key, position, put, row_key, schema};
+use crate::parts::{index_key, item, item_key, keep, position, put, row_key, schema};
 use attr_value::SharedItem;
 use base_types::Text;
 use cell_model::{
@@ -14,6 +14,7 @@ use row_keys::Position;
 use std::alloc::{AllocError as NoMemory, Global};
 use std::process::Abort;
 use std::test::Fail;
+use table_schema::SchemaFault;
 use txn_core::{Answer, Message, Rules};
 
 /// The bytes of a page, and the one that ends it.
@@ -22,6 +23,8 @@ const BYTES: u64 = 1_048_577;
 /// What is done, and what comes of it.
 #[derive(Clone, Copy)]
 enum Line {
+    /// A table of a name that is too short is refused.
+    Short,
     /// The table is made under this number.
     Create(u64),
     /// It is there already.
@@ -31,6 +34,8 @@ enum Line {
     Look,
     /// The item is put where there was none.
     Put,
+    /// An update without an expression leaves it as it is.
+    Keep,
     /// The item is there or not.
     Get(bool),
     /// A page of the table's items, of which there is one or none.
@@ -43,13 +48,15 @@ enum Line {
     Rows(bool),
 }
 
-static LINES: [Line; 13] = [
+static LINES: [Line; 15] = [
+    Line::Short,
     Line::Create(1),
     Line::Again,
     Line::Look,
     Line::Get(false),
     Line::Put,
     Line::Get(true),
+    Line::Keep,
     Line::Scan(true),
     Line::Rows(false),
     Line::Peek,
@@ -68,6 +75,21 @@ fn create(alloc: Global) -> Result<CatalogCommand, NoMemory> {
 fn told_of_create(alloc: Global, cells: &mut Cells) -> Result<CatalogAnswer, NoMemory> {
     let command = create(alloc)?;
     cells.change(alloc, &command)
+}
+
+fn told_of_short(alloc: Global, cells: &mut Cells) -> Result<CatalogAnswer, NoMemory> {
+    let mut schema = schema(alloc)?;
+    schema.name = Text::copied(alloc, "T")?;
+    cells.change(alloc, &CatalogCommand::Create { schema })
+}
+
+fn is_badly_named(told: &CatalogAnswer) -> bool {
+    matches!(
+        told,
+        CatalogAnswer::BadSchema {
+            fault: SchemaFault::BadName
+        }
+    )
 }
 
 fn is_made(told: &CatalogAnswer, drawn: u64) -> bool {
@@ -112,12 +134,27 @@ fn write(alloc: Global, cells: &mut Cells) -> Result<Told, NoMemory> {
     cells.ask(alloc, Message::Write { action })
 }
 
+fn update(alloc: Global, cells: &mut Cells) -> Result<Told, NoMemory> {
+    let action = keep(alloc)?;
+    cells.ask(alloc, Message::Write { action })
+}
+
 fn is_written(told: &Told, item: &SharedItem) -> bool {
     match told {
         Answer::Written {
             old: None,
             new: Some(new),
         } => TableRules::are_equal_values(new, item),
+        _ => false,
+    }
+}
+
+fn is_left(told: &Told, item: &SharedItem) -> bool {
+    match told {
+        Answer::Written {
+            old: Some(old),
+            new: Some(new),
+        } => TableRules::are_equal_values(old, item) && TableRules::are_equal_values(new, item),
         _ => false,
     }
 }
@@ -139,6 +176,7 @@ fn is_found(told: &Told, item: &SharedItem, is_there: bool) -> bool {
 fn question(alloc: Global, source: PageSource, read: &str) -> Result<PageQuestion, NoMemory> {
     let low = row_key(alloc, read)?;
     Ok(PageQuestion {
+        cell: 0,
         table: 1,
         source,
         span: Span {
@@ -147,10 +185,7 @@ fn question(alloc: Global, source: PageSource, read: &str) -> Result<PageQuestio
         },
         forward: true,
         after: None,
-        room: PageRoom {
-            rows: Some(10),
-            bytes: BYTES,
-        },
+        room: PageRoom::whole(Some(10)),
     })
 }
 
@@ -235,6 +270,7 @@ fn is_right(
     line: Line,
 ) -> Result<bool, NoMemory> {
     match line {
+        Line::Short => Ok(is_badly_named(&told_of_short(alloc, cells)?)),
         Line::Create(number) => Ok(is_made(&told_of_create(alloc, cells)?, number)),
         Line::Again => Ok(matches!(&told_of_create(alloc, cells)?, CatalogAnswer::Exists)),
         Line::Drop => Ok(is_dropped(&told_of_drop(alloc, cells)?)),
@@ -251,6 +287,7 @@ fn is_right_of_items(
 ) -> Result<bool, NoMemory> {
     match line {
         Line::Put => Ok(is_written(&write(alloc, cells)?, item)),
+        Line::Keep => Ok(is_left(&update(alloc, cells)?, item)),
         Line::Get(is_there) => Ok(is_found(&get(alloc, cells)?, item, is_there)),
         Line::Peek => is_waiting(alloc, cells, item),
         Line::Feed => Ok(matches!(&feed(alloc, cells)?, Answer::Fed)),

@@ -2,11 +2,10 @@
 
 use attr_value::{Item, SharedItem, Value};
 use base_types::{Seq, Text};
-use cell_model::{CellKey, IndexRowKey, ItemKey, KeyedAction};
+use cell_model::{CellKey, IndexRowKey, ItemKey, KeyedAction, StatedChange, Statement};
 use item_keys::{Key, KeyValue};
 use row_keys::{Position, RowKey};
 use std::alloc::{AllocError as NoMemory, Global};
-use table_request::{Change, TransactAction};
 use table_schema::{Definition, GlobalIndex, KeyKind, KeyNames, Projection, Schema};
 
 /// When everything happens.
@@ -112,20 +111,30 @@ pub(crate) fn index_key(alloc: Global) -> Result<CellKey, NoMemory> {
     }))
 }
 
-fn putting(alloc: Global, table: Text, item: Item, key: CellKey) -> KeyedAction {
-    let action = TransactAction {
+fn changing(alloc: Global, table: Text, change: StatedChange, key: CellKey) -> KeyedAction {
+    let statement = Statement {
         table,
-        change: Change::Put(item),
+        change,
         condition: None,
         values: Seq::new(alloc),
         show_old: false,
     };
-    KeyedAction::new(key, action)
+    KeyedAction::new(key, statement)
 }
 
 /// Puts the item.
 pub(crate) fn put(alloc: Global) -> Result<KeyedAction, NoMemory> {
     let table = Text::copied(alloc, "Tab")?;
     let item = plain_item(alloc)?;
-    Ok(putting(alloc, table, item, item_key(alloc)?))
+    let key = item_key(alloc)?;
+    Ok(changing(alloc, table, StatedChange::Put(item), key))
+}
+
+/// Updates the item without an expression.
+pub(crate) fn keep(alloc: Global) -> Result<KeyedAction, NoMemory> {
+    let table = Text::copied(alloc, "Tab")?;
+    let mut key = Item::new(alloc);
+    attribute(alloc, &mut key, "id", "a")?;
+    let change = StatedChange::Update { key, update: None };
+    Ok(changing(alloc, table, change, item_key(alloc)?))
 }
