@@ -1,0 +1,16 @@
+pub mod Carried
+pub mod KeptHistories
+pub mod LastingKinds
+pub mod Found
+pub mod NumbersStay
+pub mod Looks
+pub mod Listed
+pub mod Stand
+pub mod OneDatabase
+pub mod Named
+pub mod Steps
+pub mod Altered
+pub mod CreateEffect
+pub mod DeleteEffect
+pub mod UpdateEffect
+pub mod CommandEffects

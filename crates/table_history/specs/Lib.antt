@@ -1,0 +1,7 @@
+-- The definitions in reading order: entries; the catalogs of histories; what a number stands for; the databases that stand
+-- for a history.
+pub mod Entries
+pub mod KeptHistories
+pub mod SameTable
+pub mod Standing
+pub mod CommandEffects

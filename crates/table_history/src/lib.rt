@@ -1,0 +1,10 @@
+//! What is so of the tables of every legal history of the cells of real tables (`cell_model`).
+//!
+//! The catalog is kept at every point ([`catalogs_of_histories`]), a number stands for one table as long as it is there
+//! ([`same_table`]), and some sequential database has what the history makes of tables ([`tables_stand`]). The functions do
+//! nothing: their clauses are laws, over histories of entries that no program stores.
+#![tactic(auto)]
+
+mod laws;
+
+pub use laws::{catalogs_of_histories, commands_are_effects, same_table, tables_stand};
