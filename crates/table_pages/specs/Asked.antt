@@ -8,6 +8,7 @@ use Rattle.table_request.specs.declared.pages.Query.{Query}
 use Rattle.table_request.specs.declared.pages.Scan.{Scan}
 use Rattle.table_rows.specs.View.{TableView}
 use Rattle.table_model.specs.declared.reply.Reply.{Reply}
+use Rattle.table_model.specs.declared.reply.Reply.TheVariants as answer
 use Rattle.table_model.specs.Pages.{Source, source_of, source_keys, source_entries, queried, scanned, IsPageOf, IsFrom, IsQueriedFrom, IsScannedFrom}
 use Rattle.table_items.specs.Effects.{table_at}
 
@@ -22,6 +23,11 @@ abbrev pub IsScanOf : TableView → Scan → Reply → Type 0
 IsScanOf kept r reply =
     (number : ℕ) → IsFrom r.page.index (source_of kept.schema r.page.index) reply
     (λ source. IsScannedFrom (table_at number kept) r source reply)
+
+-- how many rows the page of a reply looked at
+abbrev pub looked : Reply → ℕ
+looked (answer.Page page consumed) = page.scanned
+looked reply = 0
 
 -- ---- what inner steps say
 

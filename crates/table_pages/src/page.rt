@@ -1,6 +1,6 @@
 //! The page of the rows at keys in a range.
 
-ghost use Rattle.std.specs.Prelude.{◌≡◌, ◌<◌, ◌≤◌, [], IfOk};
+ghost use Rattle.std.specs.Prelude.{◌≡◌, ◌+◌, ◌≤◌, [], IfOk};
 ghost use Rattle.std.specs.Option.{option_copied, option_map, ForSome};
 ghost use Rattle.table_model.specs.Pages.{whole_table};
 ghost use Rattle.table_pages.specs.Sources.{source_in, HasNumber, IsNumber};
@@ -13,8 +13,7 @@ use page_ranges::{PositionSpan, Span, from_low, up_to_high};
 use paging::Steps;
 use row_keys::{Position, RowKey};
 use std::alloc::{AllocError as NoMemory, Global};
-use std::marker::Brand;
-use std::sync::ledger::{Blank, Ledger};
+use std::sync::ledger::Ledger;
 use table_model::Page;
 use table_request::PageRequest;
 use table_rows::TableRows;
@@ -41,11 +40,17 @@ fn item_key(position: Option<&Position>) -> Option<&RowKey>
 
 impl Reading<'_> {
     /// The page of the rows at keys in a range. No change of the table is prepared.
-    pub(crate) fn page_in(&self, alloc: Global, span: Span) -> Result<Page, NoMemory>
+    pub(crate) fn page_in<L: Ledger>(
+        &self,
+        alloc: Global,
+        span: Span,
+        steps: &mut Steps<L>,
+    ) -> Result<Page, NoMemory>
         requires idle { self.now.rows.now.pending ≡ [] }
         requires number { HasNumber self.now.rows.now.schema self.now.source }
         requires start { IsStart (source_in self.now.source) (option_copied self.now.start) }
-        ensures { IfOk result (IsPageIn self.now (source_in self.now.source) span) }
+        ensures page { IfOk result (IsPageIn self.now (source_in self.now.source) span) }
+        ensures cost { IfOk result (λ page. steps.new ≤ steps.old + page.scanned + 1) }
     {
         if self.request.limit == Some(0) {
             drop(span);
@@ -53,13 +58,13 @@ impl Reading<'_> {
         }
         match self.source {
             Source::Table => {
-                let page = self.table_page::<Brand>(alloc, Blank::new(1), &span);
+                let page = self.table_page(alloc, &span, steps);
                 drop(span);
                 page
             }
             Source::Local(number, _) | Source::Global(number, _) => {
                 let ends = span.positions(alloc)?;
-                let page = self.index_page::<Brand>(alloc, Blank::new(1), number, &ends);
+                let page = self.index_page(alloc, number, &ends, steps);
                 drop(ends);
                 page
             }
@@ -70,16 +75,14 @@ impl Reading<'_> {
     fn table_page<L: Ledger>(
         &self,
         alloc: Global,
-        blank: Blank,
         span: &Span,
+        steps: &mut Steps<L>,
     ) -> Result<Page, NoMemory>
-        requires name { blank.name ≡ L.name }
-        requires parts { blank.parts ≡ L.parts }
-        requires some { 0 < L.parts }
         requires idle { self.now.rows.now.pending ≡ [] }
         requires limit { ForSome self.now.request.now.limit (λ most. 1 ≤ most) }
         requires start { IsStart whole_table (option_copied self.now.start) }
-        ensures { IfOk result (IsPageIn self.now whole_table span.now) }
+        ensures page { IfOk result (IsPageIn self.now whole_table span.now) }
+        ensures cost { IfOk result (λ page. steps.new ≤ steps.old + page.scanned + 1) }
     {
         let low = from_low(span.low.as_ref());
         let high = up_to_high(span.high.as_ref());
@@ -89,32 +92,23 @@ impl Reading<'_> {
             source: Source::Table,
             page: self.request,
         };
-        let mut steps = Steps::<L>::start(blank);
-        fill(
-            alloc,
-            &sight,
-            &range,
-            item_key(self.start),
-            self.forward,
-            &mut steps,
-        )
+        let start = item_key(self.start);
+        fill(alloc, &sight, &range, start, self.forward, steps)
     }
 
     /// The page of the rows at positions in a range of the index that is read, which has this number.
     fn index_page<L: Ledger>(
         &self,
         alloc: Global,
-        blank: Blank,
         number: usize,
         ends: &PositionSpan,
+        steps: &mut Steps<L>,
     ) -> Result<Page, NoMemory>
-        requires name { blank.name ≡ L.name }
-        requires parts { blank.parts ≡ L.parts }
-        requires some { 0 < L.parts }
         requires idle { self.now.rows.now.pending ≡ [] }
         requires number { IsNumber self.now.rows.now.schema number self.now.source }
         requires limit { ForSome self.now.request.now.limit (λ most. 1 ≤ most) }
-        ensures { IfOk result (IsPageBetween self.now (source_in self.now.source) ends.now) }
+        ensures page { IfOk result (IsPageBetween self.now (source_in self.now.source) ends.now) }
+        ensures cost { IfOk result (λ page. steps.new ≤ steps.old + page.scanned + 1) }
     {
         let low = from_low(ends.low.as_ref());
         let high = up_to_high(ends.high.as_ref());
@@ -127,7 +121,6 @@ impl Reading<'_> {
             source: self.source,
             page: self.request,
         };
-        let mut steps = Steps::<L>::start(blank);
-        fill(alloc, &sight, &range, self.start, self.forward, &mut steps)
+        fill(alloc, &sight, &range, self.start, self.forward, steps)
     }
 }

@@ -1,11 +1,11 @@
 //! Queries.
 
-ghost use Rattle.std.specs.Prelude.{◌≡◌, ℕ, [], IfOk};
+ghost use Rattle.std.specs.Prelude.{◌≡◌, ◌+◌, ◌≤◌, ℕ, [], IfOk};
 ghost use Rattle.std.specs.Option.{option_copied};
 ghost use Rattle.table_items.specs.Effects.{table_at};
 ghost use Rattle.table_model.specs.Pages.{IsQueriedIn, IsQueriedFrom};
 ghost use Rattle.page_ranges.specs.AtKeys.{AreAtKeys};
-ghost use Rattle.table_pages.specs.Asked.{IsQueryOf, IsQueryPage, HasRange};
+ghost use Rattle.table_pages.specs.Asked.{IsQueryOf, IsQueryPage, HasRange, looked};
 ghost use Rattle.table_pages.specs.Filled.{IsStart};
 ghost use Rattle.table_pages.specs.Sources.{source_in, HasNumber};
 
@@ -16,27 +16,31 @@ use crate::source::{Source, index_named};
 use crate::start::{Start, Within, start_of};
 use key_condition::{KeyRange, RangeEnd, range};
 use page_ranges::Span;
+use paging::Steps;
 use row_keys::Position;
 use std::alloc::{AllocError as NoMemory, Global};
+use std::sync::ledger::Ledger;
 use table_model::{Invalid, Reply};
 use table_request::Query;
 use table_rows::TableRows;
 
 /// The page of the rows for whose keys the key condition is true, which has this range, from behind a position on.
-fn page_of<'a>(
+fn page_of<'a, L: Ledger>(
     rows: &'a TableRows,
     alloc: Global,
     request: &'a Query,
     source: Source<'a>,
     range: &KeyRange,
     start: Option<&'a Position>,
+    steps: &mut Steps<L>,
 ) -> Result<Reply, NoMemory>
     requires idle { rows.now.pending ≡ [] }
     requires keyed { AreAtKeys rows.now.schema rows.now.rows }
     requires number { HasNumber rows.now.schema source }
     requires start { IsStart (source_in source) (option_copied start) }
     requires truth { HasRange rows.now request.now (source_in source) range.now }
-    ensures { IfOk result (IsQueryPage rows.now request.now (source_in source.entry) (option_copied start.entry)) }
+    ensures reply { IfOk result (IsQueryPage rows.now request.now (source_in source.entry) (option_copied start.entry)) }
+    ensures cost { IfOk result (λ reply. steps.new ≤ steps.old + looked reply + 1) }
 {
     let span = Span::of_range(alloc, range)?;
     let reading = Reading {
@@ -46,7 +50,7 @@ fn page_of<'a>(
         start,
         forward: request.forward,
     };
-    let page = reading.page_in(alloc, span)?;
+    let page = reading.page_in(alloc, span, steps)?;
     Ok(Reply::Page {
         page,
         consumed: None,
@@ -54,18 +58,20 @@ fn page_of<'a>(
 }
 
 /// A Query of a source whose key condition has this range.
-fn query_in(
+fn query_in<L: Ledger>(
     rows: &TableRows,
     alloc: Global,
     request: &Query,
     source: Source<'_>,
     range: &KeyRange,
+    steps: &mut Steps<L>,
 ) -> Result<Reply, NoMemory>
     requires idle { rows.now.pending ≡ [] }
     requires keyed { AreAtKeys rows.now.schema rows.now.rows }
     requires number { HasNumber rows.now.schema source }
     requires truth { HasRange rows.now request.now (source_in source) range.now }
-    ensures { IfOk result (λ reply. (number : ℕ) → IsQueriedIn (table_at number rows.now) request.now (source_in source.entry) range.now reply) }
+    ensures reply { IfOk result (λ reply. (number : ℕ) → IsQueriedIn (table_at number rows.now) request.now (source_in source.entry) range.now reply) }
+    ensures cost { IfOk result (λ reply. steps.new ≤ steps.old + looked reply + 1) }
 {
     let schema = rows.schema();
     let page = &request.page;
@@ -78,9 +84,9 @@ fn query_in(
     let within = Within::Partition(&range.partition);
     match start_of(alloc, schema, source, within, page.start.as_ref())? {
         Start::Invalid => Ok(invalid(Invalid::StartKey)),
-        Start::First => page_of(rows, alloc, request, source, range, None),
+        Start::First => page_of(rows, alloc, request, source, range, None, steps),
         Start::Behind(at) => {
-            let reply = page_of(rows, alloc, request, source, range, Some(&at));
+            let reply = page_of(rows, alloc, request, source, range, Some(&at), steps);
             drop(at);
             reply
         }
@@ -88,16 +94,18 @@ fn query_in(
 }
 
 /// A Query of a source.
-fn query_from(
+fn query_from<L: Ledger>(
     rows: &TableRows,
     alloc: Global,
     request: &Query,
     source: Source<'_>,
+    steps: &mut Steps<L>,
 ) -> Result<Reply, NoMemory>
     requires idle { rows.now.pending ≡ [] }
     requires keyed { AreAtKeys rows.now.schema rows.now.rows }
     requires number { HasNumber rows.now.schema source }
-    ensures { IfOk result (λ reply. (number : ℕ) → IsQueriedFrom (table_at number rows.now) request.now (source_in source.entry) reply) }
+    ensures reply { IfOk result (λ reply. (number : ℕ) → IsQueriedFrom (table_at number rows.now) request.now (source_in source.entry) reply) }
+    ensures cost { IfOk result (λ reply. steps.new ≤ steps.old + looked reply + 1) }
 {
     let schema = rows.schema();
     if let Some(why) = reading_refusal(&request.page, source) {
@@ -112,7 +120,7 @@ fn query_from(
         source.keys(schema),
     ) {
         Ok(range) => {
-            let reply = query_in(rows, alloc, request, source, &range);
+            let reply = query_in(rows, alloc, request, source, &range, steps);
             drop(range);
             reply
         }
@@ -126,16 +134,24 @@ fn query_from(
 ///
 /// It is refused where the index is not there, where what is asked of a global index is not kept there or can't be, where
 /// the key condition is none, where the filter names the key, and where the start key is none of the partition.
-pub fn query(rows: &TableRows, alloc: Global, request: &Query) -> Result<Reply, NoMemory>
+///
+/// Each row that it looks at is a step, and so is finding the end of the rows: it looks at no row behind those of its page.
+pub fn query<L: Ledger>(
+    rows: &TableRows,
+    alloc: Global,
+    request: &Query,
+    steps: &mut Steps<L>,
+) -> Result<Reply, NoMemory>
     requires idle { rows.now.pending ≡ [] }
     requires keyed { AreAtKeys rows.now.schema rows.now.rows }
-    ensures { IfOk result (IsQueryOf rows.now request.now) }
+    ensures reply { IfOk result (IsQueryOf rows.now request.now) }
+    ensures cost { IfOk result (λ reply. steps.new ≤ steps.old + looked reply + 1) }
 {
     let Some(name) = &request.page.index else {
-        return query_from(rows, alloc, request, Source::Table);
+        return query_from(rows, alloc, request, Source::Table, steps);
     };
     match index_named(rows.schema(), name) {
-        Some(source) => query_from(rows, alloc, request, source),
+        Some(source) => query_from(rows, alloc, request, source, steps),
         None => Ok(invalid(Invalid::UnknownIndex(name.try_clone()?))),
     }
 }

@@ -9,8 +9,8 @@ use Rattle.table_pages.specs.Starts.{start_as}
 use Rattle.table_pages.proofs.Replies.{page_read}
 use Rattle.table_pages.proofs.queries.query_in.Goals as goal
 
-pub returns-in-First : goal.returns-in-First
-returns-in-First c =
+pub returns-in-First-clause-reply : goal.returns-in-First-clause-reply
+returns-in-First-clause-reply g c =
     let kept = c.args.rows.now in
     let source = source_in c.args.source in
     let r = c.args.request.now in
@@ -29,10 +29,10 @@ returns-in-First c =
     IfOk-weaker c.page_of.result _ _
     (λ reply read number.
     page_read (table_at number kept) r source reply c.args.range.now unnamed projected (None) begins (read number))
-    c.page_of.ensures
+    c.page_of.ensures.reply
 
-pub returns-in-Behind : goal.returns-in-Behind
-returns-in-Behind c =
+pub returns-in-Behind-clause-reply : goal.returns-in-Behind-clause-reply
+returns-in-Behind-clause-reply g c =
     let kept = c.args.rows.now in
     let source = source_in c.args.source in
     let r = c.args.request.now in
@@ -51,4 +51,4 @@ returns-in-Behind c =
     IfOk-weaker c.page_of-reply.result _ _
     (λ reply read number.
     page_read (table_at number kept) r source reply c.args.range.now unnamed projected (Some c.in-Behind.at) begins (read number))
-    c.page_of-reply.ensures
+    c.page_of-reply.ensures.reply

@@ -11,8 +11,8 @@ use Rattle.table_pages.proofs.Ranged.{scanned_are}
 use Rattle.table_pages.proofs.Replies.{page_is}
 use Rattle.table_pages.proofs.scans.page_of.Goals as goal
 
-pub returns : goal.returns
-returns c = λ number.
+pub returns-clause-reply : goal.returns-clause-reply
+returns-clause-reply g c = λ number.
     let kept = c.args.rows.now in
     let source = source_in c.args.source in
     let r = c.args.request.now in
@@ -20,4 +20,7 @@ returns c = λ number.
     (subst
     (λ (entries : Entries). IsFilled kept.schema source r.page (rows_after position_order true (option_copied c.args.start) entries) c.in_ok-page.page)
     (scanned_are kept.schema kept.rows number source r c.in_ok-span.span c.requires.keyed c.in_ok-span.ensures)
-    (c.in_ok-page.ensures number))
+    (c.in_ok-page.ensures.page number))
+
+pub returns-clause-cost : goal.returns-clause-cost
+returns-clause-cost g c = c.in_ok-page.ensures.cost

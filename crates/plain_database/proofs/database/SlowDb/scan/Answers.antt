@@ -19,13 +19,21 @@ returns-in_default c =
     (λ source. IsScannedFrom table r source (answer.Refused (NoTable c.in_ok-name.name)))))
     (sym (absent t.tables.entries t.tokens t.made r.page.table none)) (ap (λ n. answer.Refused (NoTable n)) c.in_ok-name.ensures))
 
-pub scan-requires : goal.scan-requires
-scan-requires c =
+pub scan_table-requires-clause-idle : goal.scan_table-requires-clause-idle
+scan_table-requires-clause-idle c =
     let es = c.self.inside.tables.entries in
     let x = c.in-Some.table.now in
     let name = c.args.request.now.page.table in
     let found : lookup (at name) es ≡ Some x = search rules in
-    record { idle = idle_at (at name) es x found c.self.invariant.idle; keyed = keyed_at es name x found c.self.invariant.keyed }
+    idle_at (at name) es x found c.self.invariant.idle
+
+pub scan_table-requires-clause-keyed : goal.scan_table-requires-clause-keyed
+scan_table-requires-clause-keyed c =
+    let es = c.self.inside.tables.entries in
+    let x = c.in-Some.table.now in
+    let name = c.args.request.now.page.table in
+    let found : lookup (at name) es ≡ Some x = search rules in
+    keyed_at es name x found c.self.invariant.keyed
 
 pub returns : goal.returns
 returns c =

@@ -10,8 +10,8 @@ use Rattle.table_pages.specs.Sources.{source_in}
 use Rattle.table_pages.proofs.Ranged.{numbered, index_filled}
 use Rattle.table_pages.proofs.page.Reading.index_page.Goals as goal
 
-pub returns : goal.returns
-returns g c =
+pub returns-clause-page : goal.returns-clause-page
+returns-clause-page g c =
     let kept = c.args.self.now.rows.now in
     let ends = c.args.ends.now in
     let low : option_copied c.as_ref.result ≡ ends.low = search rules in

@@ -9,16 +9,16 @@ use Rattle.table_pages.specs.Sources.{source_in}
 use Rattle.table_pages.proofs.Ranged.{none_at_zero, positions_are}
 use Rattle.table_pages.proofs.page.Reading.page_in.Goals as goal
 
-pub returns-then-eq : goal.returns-then-eq
-returns-then-eq c = λ number.
+pub returns-then-eq-clause-page : goal.returns-then-eq-clause-page
+returns-then-eq-clause-page g c = λ number.
     let kept = c.args.self.now.rows.now in
     let source = source_in c.args.self.now.source in
     none_at_zero kept.schema source c.args.self.now.request.now
     (rows_in (table_at number kept) source c.args.span c.args.self.now.forward (option_copied c.args.self.now.start)) c.empty_page.result c.if-eq.ensures
     (c.empty_page.ensures kept.schema source)
 
-pub returns-in-Table : goal.returns-in-Table
-returns-in-Table c =
+pub returns-in-Table-clause-page : goal.returns-in-Table-clause-page
+returns-in-Table-clause-page g c =
     let kept = c.args.self.now.rows.now in
     IfOk-weaker c.table_page-page.result _ _
     (λ page filled number.
@@ -27,10 +27,10 @@ returns-in-Table c =
     IsFilled kept.schema source c.args.self.now.request.now
     (rows_in (table_at number kept) source c.args.span c.args.self.now.forward (option_copied c.args.self.now.start)) page)
     (sym (ap source_in c.in-Table.is)) (filled number))
-    c.table_page-page.ensures
+    c.table_page-page.ensures.page
 
-pub returns-in_ok-ends-in-Local : goal.returns-in_ok-ends-in-Local
-returns-in_ok-ends-in-Local c =
+pub returns-in_ok-ends-in-Local-clause-page : goal.returns-in_ok-ends-in-Local-clause-page
+returns-in_ok-ends-in-Local-clause-page g c =
     let kept = c.args.self.now.rows.now in
     let source = source_in c.args.self.now.source in
     IfOk-weaker c.index_page-page.result _ _
@@ -39,4 +39,4 @@ returns-in_ok-ends-in-Local c =
     (positions_are (table_at number kept) source c.in_ok-ends-in-Local.ends c.args.span c.args.self.now.forward (option_copied c.args.self.now.start)
     c.in_ok-ends-in-Local.ensures)
     (filled number))
-    c.index_page-page.ensures
+    c.index_page-page.ensures.page

@@ -7,8 +7,8 @@ use Rattle.page_ranges.specs.Span.{low_end, high_end}
 use Rattle.table_pages.proofs.Ranged.{table_filled}
 use Rattle.table_pages.proofs.page.Reading.table_page.Goals as goal
 
-pub returns : goal.returns
-returns g c =
+pub returns-clause-page : goal.returns-clause-page
+returns-clause-page g c =
     let kept = c.args.self.now.rows.now in
     let span = c.args.span.now in
     let low : option_copied c.as_ref.result ≡ span.low = search rules in
@@ -19,5 +19,5 @@ returns g c =
     IfOk-weaker c.fill.result _ _
     (λ page filled.
     table_filled kept.schema c.schema.result.now kept.rows c.rows-range.result c.args.self.now.request.now span c.args.self.now.forward (option_copied c.args.self.now.start)
-    (option_copied c.item_key.result) page c.schema.ensures c.item_key.ensures range c.requires.start filled)
+    (option_copied c.item_key-start.result) page c.schema.ensures c.item_key-start.ensures range c.requires.start filled)
     c.fill.ensures.page
