@@ -1,7 +1,10 @@
 -- The body of every reply (API Reference: each operation's response elements).
 use Rattle.std.specs.Prelude.{ℕ, List, ◌++◌, codes, Option, None, Some, option_map}
+use Rattle.json.specs.Json.{Json}
+use Rattle.json.specs.Print.{print}
+use Rattle.json.specs.Tree.{json_tokens}
 use Rattle.serde_json.specs.Data.{Data, no_members, member, object, string}
-use Rattle.serde_json.specs.Written.{compact_text}
+use Rattle.serde_json.specs.Written.{compact_text, outline}
 use Rattle.attr_value.specs.Tree.{Attributes}
 use Rattle.table_request.specs.declared.batches.TableKeys.{TableKeys}
 use Rattle.table_request.specs.declared.batches.TableWrites.{TableWrites}
@@ -17,6 +20,7 @@ use Rattle.table_model.specs.declared.reply.TableNames.{TableNames}
 use Rattle.request_parts.specs.declared.refusal.Refusal.{Refusal as EdgeRefusal}
 use Rattle.api_reply.specs.declared.kind.ErrorKind.TheVariants as kind
 use Rattle.api_reply.specs.Batches.{item, items, unread, unwritten}
+use Rattle.api_reply.specs.Capacity.{capacity, capacities, with_consumed}
 use Rattle.api_reply.specs.Descriptions.{description, specification, time_to_live}
 use Rattle.api_reply.specs.Edge.{edge_kind, edge_message}
 use Rattle.api_reply.specs.Errors.{error, typed}
@@ -98,7 +102,7 @@ page p =
 abbrev pub transact_read : List (Option Attributes) → Data
 transact_read found = object (member (codes "Responses") (list_of (shown (codes "Item")) found) no_members)
 
--- what was consumed of the tables' capacity is not told
+-- a reply, but for what was consumed of the tables' capacity
 abbrev pub data_of : Reply → Data
 data_of (reply.Described schema) = object (member (codes "TableDescription") (description schema) no_members)
 data_of (reply.Table schema) = object (member (codes "Table") (description schema) no_members)
@@ -116,9 +120,24 @@ data_of (reply.Refused why) = refusal_data why
 
 -- ---- bodies and statuses
 
+-- what was consumed of the tables' capacity, where that is told
+abbrev pub consumption : Reply → Option Json
+consumption (reply.Written attributes consumed) = option_map capacity consumed
+consumption (reply.Read attributes consumed) = option_map capacity consumed
+consumption (reply.BatchRead found rest consumed) = option_map capacities consumed
+consumption (reply.BatchWritten rest consumed) = option_map capacities consumed
+consumption (reply.Page p consumed) = option_map capacity consumed
+consumption (reply.TransactWritten consumed) = option_map capacities consumed
+consumption (reply.TransactRead found consumed) = option_map capacities consumed
+consumption other = None
+
+-- a reply whole
+abbrev pub told : Reply → Json
+told r = with_consumed (consumption r) (outline (data_of r))
+
 -- the body of a reply: compact JSON
 abbrev pub body_of : Reply → List ℕ
-body_of r = compact_text (data_of r)
+body_of r = print (json_tokens (told r))
 
 -- the status of a reply
 abbrev pub reply_status : Reply → ℕ

@@ -1,13 +1,18 @@
 //! The status and the body of every reply.
 
-ghost use Rattle.std.specs.Prelude.{◌≡◌, ◌++◌, [], IfOk, OnOk, codes, option_map, string_bytes};
+ghost use Rattle.std.specs.Prelude.{◌≡◌, ◌++◌, [], IfOk, None, OnOk, codes, option_map, string_bytes};
 ghost use Rattle.json.specs.Print.{print};
-ghost use Rattle.serde_json.specs.Data.{member, no_members, object};
+ghost use Rattle.json.specs.Tree.{json_tokens};
+ghost use Rattle.serde_json.specs.Data.{no_members, object};
+ghost use Rattle.serde_json.specs.Written.{compact_text};
 ghost use Rattle.attr_json.specs.Text.{tokens_of};
 ghost use Rattle.api_reply.specs.Batches.{item};
-ghost use Rattle.api_reply.specs.Bodies.{batch_read, batch_written, body_of, budget_body, edge_body, memory_body, reply_status, shown, transact_read};
+ghost use Rattle.api_reply.specs.Bodies.{batch_read, batch_written, body_of, budget_body, consumption, data_of, edge_body};
+ghost use Rattle.api_reply.specs.Bodies.{memory_body, page as page_data, reply_status, shown, told, transact_read};
+ghost use Rattle.api_reply.specs.Capacity.{beside, capacities, capacity};
 ghost use Rattle.api_reply.specs.Json.{Adds, list_of, optional};
 
+use crate::consumed::write_consumed;
 use crate::edge::{edge_kind, edge_message};
 use crate::error::write_error;
 use crate::message::kind_of;
@@ -21,7 +26,7 @@ use json::Writer;
 use request_parts::Refusal as EdgeRefusal;
 use std::alloc::{AllocError as NoMemory, Global};
 use table_model::{Page, Reply, TableItems, TableNames};
-use table_request::{TableKeys, TableWrites};
+use table_request::{Consumed, TableKeys, TableWrites};
 
 /// The status of a reply: 200, or that of its error.
 pub fn status(reply: &Reply) -> u16
@@ -33,13 +38,15 @@ pub fn status(reply: &Reply) -> u16
     }
 }
 
-/// The body of a reply: compact JSON, the members of each object in the order of their names. What was consumed of the
-/// tables' capacity is not told.
+/// The body of a reply: compact JSON, the members of each object in the order of their names.
 pub fn body(alloc: Global, reply: &Reply) -> Result<String, NoMemory>
-    ensures { IfOk result (λ text. string_bytes text ≡ body_of reply.now) }
+    ensures text { IfOk result (λ text. string_bytes text ≡ body_of reply.now) }
+    // A reply that tells nothing of capacity is the text of what was done.
+    ensures nothing_consumed { IfOk result
+        (λ text. consumption reply.now ≡ None → string_bytes text ≡ compact_text (data_of reply.now)) }
 {
     let mut writer = Writer::new(Vec::new(alloc));
-    reply.write(alloc, &mut writer)?;
+    write_reply(alloc, &mut writer, reply)?;
     printed(writer)
 }
 
@@ -78,62 +85,77 @@ fn printed(writer: Writer) -> Result<String, NoMemory>
     }
 }
 
-impl ToJson for Reply {
-    ghost use Rattle.api_reply.specs.Bodies.{data_of};
-
-    ghost as_data = { data_of };
-
-    fn write(&self, alloc: Global, writer: &mut Writer) -> Result<(), NoMemory> {
-        match self {
-            Reply::Described(schema) => write_named(alloc, writer, "TableDescription", schema),
-            Reply::Table(schema) => write_named(alloc, writer, "Table", schema),
-            Reply::Tables(names) => names.write(alloc, writer),
-            Reply::TimeToLiveSet { name, enabled } => {
-                let stated = Specification {
-                    name,
-                    enabled: *enabled,
-                };
-                write_named(alloc, writer, "TimeToLiveSpecification", &stated)
-            }
-            Reply::TimeToLive(name) => {
-                let described = Description { name };
-                write_named(alloc, writer, "TimeToLiveDescription", &described)
-            }
-            Reply::Written { shown, .. } => write_shown(alloc, writer, "Attributes", shown),
-            Reply::Read { shown, .. } => write_shown(alloc, writer, "Item", shown),
-            Reply::BatchRead { found, unread, .. } => {
-                write_batch_read(alloc, writer, found, unread)
-            }
-            Reply::BatchWritten { unwritten, .. } => write_batch_written(alloc, writer, unwritten),
-            Reply::Page { page, .. } => page.write(alloc, writer),
-            Reply::TransactWritten { .. } => write_nothing(writer),
-            Reply::TransactRead { shown, .. } => write_responses(alloc, writer, shown),
-            Reply::Refused(refusal) => refusal.write(alloc, writer),
+/// Writes a reply.
+fn write_reply(alloc: Global, writer: &mut Writer, reply: &Reply) -> Result<(), NoMemory>
+    ensures tokens { OnOk result (writer.new.tokens ≡ writer.old.tokens ++ json_tokens (told reply.now)) }
+    ensures before { writer.new.before ≡ writer.old.before }
+{
+    match reply {
+        Reply::Described(schema) => write_named(alloc, writer, "TableDescription", schema),
+        Reply::Table(schema) => write_named(alloc, writer, "Table", schema),
+        Reply::Tables(names) => names.write(alloc, writer),
+        Reply::TimeToLiveSet { name, enabled } => {
+            let stated = Specification {
+                name,
+                enabled: *enabled,
+            };
+            write_named(alloc, writer, "TimeToLiveSpecification", &stated)
         }
+        Reply::TimeToLive(name) => {
+            let described = Description { name };
+            write_named(alloc, writer, "TimeToLiveDescription", &described)
+        }
+        Reply::Written { shown, consumed } => write_written(alloc, writer, shown, consumed),
+        Reply::Read { shown, consumed } => write_read(alloc, writer, shown, consumed),
+        Reply::BatchRead {
+            found,
+            unread,
+            consumed,
+        } => write_batch_read(alloc, writer, found, unread, consumed),
+        Reply::BatchWritten {
+            unwritten,
+            consumed,
+        } => write_batch_written(alloc, writer, unwritten, consumed),
+        Reply::Page { page, consumed } => write_page(alloc, writer, page, consumed),
+        Reply::TransactWritten { consumed } => write_transact_written(alloc, writer, consumed),
+        Reply::TransactRead { shown, consumed } => {
+            write_transact_read(alloc, writer, shown, consumed)
+        }
+        Reply::Refused(refusal) => refusal.write(alloc, writer),
     }
 }
 
-/// Writes an object without members.
-fn write_nothing(writer: &mut Writer) -> Result<(), NoMemory>
-    ensures tokens { OnOk result (writer.new.tokens ≡ writer.old.tokens ++ tokens_of (object no_members)) }
+/// Writes what a single write is answered.
+fn write_written(
+    alloc: Global,
+    writer: &mut Writer,
+    attributes: &Option<SharedItem>,
+    consumed: &Option<Consumed>,
+) -> Result<(), NoMemory>
+    ensures tokens { OnOk result (writer.new.tokens
+        ≡ writer.old.tokens ++ beside (option_map capacity consumed.now) (shown (codes "Attributes") attributes.now)) }
     ensures before { writer.new.before ≡ writer.old.before }
 {
     writer.begin_object()?;
+    write_optional(alloc, writer, "Attributes", attributes)?;
+    write_consumed(alloc, writer, consumed)?;
     writer.end_object()
 }
 
-/// Writes an object that has the item under this name, where there is one.
-fn write_shown(
+/// Writes what a GetItem is answered.
+fn write_read(
     alloc: Global,
     writer: &mut Writer,
-    name: &str,
     item: &Option<SharedItem>,
+    consumed: &Option<Consumed>,
 ) -> Result<(), NoMemory>
-    ensures tokens { OnOk result (writer.new.tokens ≡ writer.old.tokens ++ tokens_of (shown name.now item.now)) }
+    ensures tokens { OnOk result (writer.new.tokens
+        ≡ writer.old.tokens ++ beside (option_map capacity consumed.now) (shown (codes "Item") item.now)) }
     ensures before { writer.new.before ≡ writer.old.before }
 {
     writer.begin_object()?;
-    write_optional(alloc, writer, name, item)?;
+    write_consumed(alloc, writer, consumed)?;
+    write_optional(alloc, writer, "Item", item)?;
     writer.end_object()
 }
 
@@ -141,22 +163,10 @@ impl ToJson for Option<SharedItem> {
     ghost as_data = { shown (codes "Item") };
 
     fn write(&self, alloc: Global, writer: &mut Writer) -> Result<(), NoMemory> {
-        write_shown(alloc, writer, "Item", self)
+        writer.begin_object()?;
+        write_optional(alloc, writer, "Item", self)?;
+        writer.end_object()
     }
-}
-
-/// Writes what a TransactGetItems is answered.
-fn write_responses(
-    alloc: Global,
-    writer: &mut Writer,
-    found: &Seq<Option<SharedItem>>,
-) -> Result<(), NoMemory>
-    ensures tokens { OnOk result (writer.new.tokens ≡ writer.old.tokens ++ tokens_of (transact_read found.now)) }
-    ensures before { writer.new.before ≡ writer.old.before }
-{
-    writer.begin_object()?;
-    write_list_member(alloc, writer, "Responses", found)?;
-    writer.end_object()
 }
 
 /// Writes what a BatchGetItem is answered.
@@ -165,11 +175,14 @@ fn write_batch_read(
     writer: &mut Writer,
     found: &Seq<TableItems>,
     unread: &Seq<TableKeys>,
+    consumed: &Option<Seq<Consumed>>,
 ) -> Result<(), NoMemory>
-    ensures tokens { OnOk result (writer.new.tokens ≡ writer.old.tokens ++ tokens_of (batch_read found.now unread.now)) }
+    ensures tokens { OnOk result (writer.new.tokens
+        ≡ writer.old.tokens ++ beside (option_map capacities consumed.now) (batch_read found.now unread.now)) }
     ensures before { writer.new.before ≡ writer.old.before }
 {
     writer.begin_object()?;
+    write_consumed(alloc, writer, consumed)?;
     write_object_member(alloc, writer, "Responses", found)?;
     write_object_member(alloc, writer, "UnprocessedKeys", unread)?;
     writer.end_object()
@@ -180,12 +193,47 @@ fn write_batch_written(
     alloc: Global,
     writer: &mut Writer,
     unwritten: &Seq<TableWrites>,
+    consumed: &Option<Seq<Consumed>>,
 ) -> Result<(), NoMemory>
-    ensures tokens { OnOk result (writer.new.tokens ≡ writer.old.tokens ++ tokens_of (batch_written unwritten.now)) }
+    ensures tokens { OnOk result (writer.new.tokens
+        ≡ writer.old.tokens ++ beside (option_map capacities consumed.now) (batch_written unwritten.now)) }
     ensures before { writer.new.before ≡ writer.old.before }
 {
     writer.begin_object()?;
+    write_consumed(alloc, writer, consumed)?;
     write_object_member(alloc, writer, "UnprocessedItems", unwritten)?;
+    writer.end_object()
+}
+
+/// Writes what a TransactWriteItems is answered.
+fn write_transact_written(
+    alloc: Global,
+    writer: &mut Writer,
+    consumed: &Option<Seq<Consumed>>,
+) -> Result<(), NoMemory>
+    ensures tokens { OnOk result (writer.new.tokens
+        ≡ writer.old.tokens ++ beside (option_map capacities consumed.now) (object no_members)) }
+    ensures before { writer.new.before ≡ writer.old.before }
+{
+    writer.begin_object()?;
+    write_consumed(alloc, writer, consumed)?;
+    writer.end_object()
+}
+
+/// Writes what a TransactGetItems is answered.
+fn write_transact_read(
+    alloc: Global,
+    writer: &mut Writer,
+    found: &Seq<Option<SharedItem>>,
+    consumed: &Option<Seq<Consumed>>,
+) -> Result<(), NoMemory>
+    ensures tokens { OnOk result (writer.new.tokens
+        ≡ writer.old.tokens ++ beside (option_map capacities consumed.now) (transact_read found.now)) }
+    ensures before { writer.new.before ≡ writer.old.before }
+{
+    writer.begin_object()?;
+    write_consumed(alloc, writer, consumed)?;
+    write_list_member(alloc, writer, "Responses", found)?;
     writer.end_object()
 }
 
@@ -202,19 +250,23 @@ impl ToJson for TableNames {
     }
 }
 
-impl ToJson for Page {
-    ghost use Rattle.api_reply.specs.Bodies.{page};
-
-    ghost as_data = { page };
-
-    fn write(&self, alloc: Global, writer: &mut Writer) -> Result<(), NoMemory> {
-        writer.begin_object()?;
-        write_whole(writer, "Count", self.count)?;
-        write_items(alloc, writer, &self.items)?;
-        write_optional(alloc, writer, "LastEvaluatedKey", &self.last)?;
-        write_whole(writer, "ScannedCount", self.scanned)?;
-        writer.end_object()
-    }
+/// Writes what a Query or a Scan is answered.
+fn write_page(
+    alloc: Global,
+    writer: &mut Writer,
+    page: &Page,
+    consumed: &Option<Consumed>,
+) -> Result<(), NoMemory>
+    ensures tokens { OnOk result (writer.new.tokens ≡ writer.old.tokens ++ beside (option_map capacity consumed.now) (page_data page.now)) }
+    ensures before { writer.new.before ≡ writer.old.before }
+{
+    writer.begin_object()?;
+    write_consumed(alloc, writer, consumed)?;
+    write_whole(writer, "Count", page.count)?;
+    write_items(alloc, writer, &page.items)?;
+    write_optional(alloc, writer, "LastEvaluatedKey", &page.last)?;
+    write_whole(writer, "ScannedCount", page.scanned)?;
+    writer.end_object()
 }
 
 /// Writes the rows of a page, unless they were counted alone.

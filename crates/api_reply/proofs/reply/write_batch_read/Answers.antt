@@ -1,9 +1,10 @@
-use Rattle.api_reply.proofs.Joins.{further, wrapped}
+use Rattle.std.proofs.Common.{refl}
+use Rattle.api_reply.proofs.Beside.{wrapped_first}
+use Rattle.api_reply.proofs.Joins.{further}
 use Rattle.api_reply.proofs.reply.write_batch_read.Goals as goal
 
 pub returns-clause-tokens : goal.returns-clause-tokens
 returns-clause-tokens c =
-    wrapped _ _ _ _ _ _ c.in_ok-begin_object.ensures.ok
-    (further _ _ _ _ _ c.in_ok-write_object_member.ensures.adds
-    c.in_ok-write_object_member-2.ensures.adds)
-    c.end_object.ensures.ok
+    wrapped_first _ _ _ _ _ _ _ _ c.in_ok-begin_object.ensures.ok c.in_ok-write_consumed.ensures.tokens
+    (further _ _ _ _ _ c.in_ok-write_object_member.ensures.adds c.in_ok-write_object_member-2.ensures.adds)
+    (λ j. refl) c.end_object.ensures.ok

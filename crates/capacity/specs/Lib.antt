@@ -1,0 +1,3 @@
+-- The definitions in reading order: capacity units, and examples of them.
+pub mod Units
+pub mod Worked
