@@ -1,0 +1,11 @@
+pub mod Operators
+pub mod Tests
+pub mod Changes
+pub mod Faults
+pub mod Trees
+pub mod Answers
+pub mod Drafts
+pub mod Texts
+pub mod Sentences
+pub mod Spelled
+pub mod Worked
