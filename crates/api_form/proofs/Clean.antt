@@ -93,7 +93,6 @@ object_clean s name (rule.Word words) ms stated entries e = refl
 object_clean s name (rule.Whole least most) ms stated entries e = refl
 object_clean s name rule.Flag ms stated entries e = refl
 object_clean s name rule.Value ms stated entries e = refl
-object_clean s name rule.Legacy ms stated entries e = refl
 
 abbrev pub ElementsClean : Stage → Items → Type 0
 ElementsClean s ds = (name : Name) (rule : Rule)
@@ -112,7 +111,6 @@ list_clean s name (rule.Word words) ds elements e = refl
 list_clean s name (rule.Whole least most) ds elements e = refl
 list_clean s name rule.Flag ds elements e = refl
 list_clean s name rule.Value ds elements e = refl
-list_clean s name rule.Legacy ds elements e = refl
 
 unless_null_clean : (s : Stage) (b : Bool) (ask : Asked) → IsCleanAt s ask → IfSome (if b then None else Some ask) (IsCleanAt s)
 unless_null_clean s true ask clean = tt

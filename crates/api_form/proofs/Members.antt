@@ -1,5 +1,6 @@
 -- A member of an object by its name, in the map and in the data.
-use Rattle.std.proofs.Common.{◌≡◌, ℕ, Bool, true, false, cond, List, [], ◌∷◌, length, Option, Some, None, option_map, is_some, String, Vec, Global, string_bytes, nat_cmp, refl, sym, ap, ◌∙◌, arith}
+use Rattle.std.proofs.Common.{◌≡◌, ℕ, Bool, true, false, cond, List, [], ◌∷◌, length, Option, Some, None, option_map, is_some, String, Vec, Global, string_bytes, nat_cmp, nat_lt, refl, sym, ap, ◌∙◌, arith}
+use Rattle.std.proofs.lemmas.Bool.Decides.{nat_tests}
 use Rattle.std.specs.Cmp.Lexicographic.{slice_cmp}
 use Rattle.std.specs.Map.{lookup}
 use Rattle.std.specs.BTreeMap.{is_at}
@@ -10,7 +11,7 @@ use Rattle.serde_json.specs.declared.value.Value.{Value, Array}
 use Rattle.serde_json.proofs.Views.{view-Array, view-lookup}
 use Rattle.api_form.specs.declared.name.Name.{Name}
 use Rattle.api_form.specs.Names.{text_of}
-use Rattle.api_form.specs.Faults.{is_null, stated_at, unless_null, item_count, array_count, list_count, is_in_range}
+use Rattle.api_form.specs.Faults.{is_null, has_members, stated_at, unless_null, item_count, array_count, list_count, is_in_range}
 use Rattle.api_form.specs.Spellings.{is_between}
 use Rattle.api_form.specs.declared.form.Form.{Form}
 use Rattle.api_form.specs.declared.form.Rule.TheVariants as rule
@@ -58,6 +59,10 @@ stated_null m name es v b is found test holds =
 pub stated_missed : (m : Name) (name : List ℕ) (es : List Entry) → name ≡ text_of m → None ≡ in_map name es → None ≡ stated_at m (members_view es)
 stated_missed m name es is missed =
     ap unless_null (member_missed name es missed) ∙ ap (λ n. unless_null (get_member n (members_view es))) is
+
+pub has_members_length : (es : List Entry) → has_members (object (members_view es)) ≡ nat_lt 0 (length es)
+has_members_length [] = refl
+has_members_length (e ∷ es) = grind (arith, nat_tests)
 
 -- ---- counts
 

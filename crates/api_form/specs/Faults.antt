@@ -1,5 +1,5 @@
 -- The faults of a body, in their one order.
-use Rattle.std.specs.Prelude.{ℕ, ◌+◌, ◌&&◌, not, codes, List, [], ◌∷◌, ◌++◌, Bool, true, false, nat_le, nat_lt, nat_eq, if◌then◌else◌, Option, Some, None, option_and_then, bytes_eq}
+use Rattle.std.specs.Prelude.{ℕ, ◌+◌, ◌&&◌, ◌||◌, not, codes, List, [], ◌∷◌, ◌++◌, Bool, true, false, nat_le, nat_lt, nat_eq, if◌then◌else◌, Option, Some, None, option_and_then, unwrap_or, bytes_eq}
 use Rattle.std.specs.Option.{is_some}
 use Rattle.serde_json.specs.Data.{Data, null, boolean, number, string, array, object, Items, no_items, item, Members, no_members, member, unsigned, negative}
 use Rattle.serde_json.specs.Find.{get_member, as_number, as_str, as_u64}
@@ -41,6 +41,14 @@ stated_at name ms = unless_null (get_member (text_of name) ms)
 abbrev pub is_there : Name → Members → Bool
 is_there name ms = is_some (stated_at name ms)
 
+-- whether a member is an object with members
+abbrev pub has_members : Data → Bool
+has_members (object (member k d ms)) = true
+has_members d = false
+
+abbrev pub is_filled : Name → Members → Bool
+is_filled name ms = has_members (unwrap_or (stated_at name ms) null)
+
 -- how many of the members of a table are there
 abbrev pub stated_count : List Member → Members → ℕ
 stated_count [] ms = 0
@@ -58,6 +66,10 @@ is_below _ _ = true
 -- the text of a member, where it is there and one
 abbrev pub text_at : Name → Members → Option (List ℕ)
 text_at name ms = option_and_then as_str (stated_at name ms)
+
+-- whether it is stated which attributes are shown
+abbrev pub states_projection : Members → Bool
+states_projection ms = is_there name.ProjectionExpression ms || is_there name.AttributesToGet ms
 
 -- whether what is selected goes with whether an index is named and whether a projection is stated: the attributes that
 -- are projected are those of an index, and a projection is stated just where specific attributes are selected
@@ -103,7 +115,7 @@ element_count table (item d ds) = inner_count table d + element_count table ds
 
 -- ---- what is at one place
 
--- whether the value is of the JSON kind that the rule states; an attribute value and a legacy member may be anything
+-- whether the value is of the JSON kind that the rule states; an attribute value may be anything
 abbrev pub has_kind : Rule → Data → Bool
 has_kind (rule.Object form) (object ms) = true
 has_kind (rule.OneOf form) (object ms) = true
@@ -117,7 +129,6 @@ has_kind (rule.Whole least most) (number (unsigned n)) = true
 has_kind (rule.Whole least most) (number (negative z)) = true
 has_kind rule.Flag (boolean b) = true
 has_kind rule.Value d = true
-has_kind rule.Legacy d = true
 has_kind _ _ = false
 
 -- whether the value itself, not what is inside it, is in its range
@@ -143,7 +154,6 @@ bad_value (Some f) = fault.BadValue f ∷ []
 
 -- the fault of the value itself in the last stage
 abbrev pub range_faults : Name → Rule → Data → List Fault
-range_faults name rule.Legacy d = fault.Legacy name ∷ []
 range_faults name rule.Value d = bad_value (value_fault d)
 range_faults name rule d = unless (is_in_range rule d) (fault.OutOfRange name)
 
@@ -163,7 +173,7 @@ key_faults _ name spelling key = []
 -- what a member has to be beside others of its object
 abbrev pub sibling_faults : Name → Members → List Fault
 sibling_faults name.Select ms =
-    unless (is_selection (text_at name.Select ms) (is_there name.IndexName ms) (is_there name.ProjectionExpression ms)) fault.Select
+    unless (is_selection (text_at name.Select ms) (is_there name.IndexName ms) (states_projection ms)) fault.Select
 sibling_faults name.TotalSegments ms =
     unless (is_below (whole_at name.Segment ms) (whole_at name.TotalSegments ms)) (fault.OutOfRange name.Segment)
 sibling_faults name ms = []
@@ -185,6 +195,7 @@ abbrev pub is_needed : Need → Members → Bool
 is_needed need.Required ms = true
 is_needed need.Optional ms = false
 is_needed (need.With other) ms = is_there other ms
+is_needed (need.UnlessFilled other) ms = not (is_filled other ms)
 
 -- the fault of a member that is absent
 abbrev pub absence : Stage → Member → Members → List Fault

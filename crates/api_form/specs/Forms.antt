@@ -62,6 +62,9 @@ members_of form.Put = table.PUT
 members_of form.Update = table.UPDATE
 members_of form.TransactGet = table.TRANSACT_GET
 members_of form.Get = table.GET
+members_of form.AttributeValueUpdate = table.ATTRIBUTE_VALUE_UPDATE
+members_of form.Condition = table.CONDITION_OF_ATTRIBUTE
+members_of form.ExpectedAttributeValue = table.EXPECTED_ATTRIBUTE_VALUE
 members_of _ = []
 
 -- the names are in the order of their bytes, each once

@@ -1,9 +1,10 @@
 //! The members of an object that are there, and how many.
 
 ghost use Rattle.std.specs.Prelude.{◌≡◌, option_map, nat_le};
+ghost use Rattle.serde_json.specs.Data as json;
 ghost use Rattle.serde_json.specs.Find.{get_member};
 ghost use Rattle.serde_json.specs.View.{view, items_view, members_view};
-ghost use Rattle.api_form.specs.Faults.{stated_at, whole_at, text_at, is_there, is_below, stated_count, inner_count, element_count, array_count, list_count, request_count, total_count};
+ghost use Rattle.api_form.specs.Faults.{stated_at, whole_at, text_at, is_there, has_members, is_filled, is_below, stated_count, inner_count, element_count, array_count, list_count, request_count, total_count};
 ghost use Rattle.api_form.specs.Names.{text_of};
 ghost use Rattle.api_form.specs.Spellings.{is_between};
 
@@ -24,6 +25,31 @@ pub fn is_there(map: &Map<String, Value>, name: Name) -> bool
     ensures { result ≡ is_there name (members_view map.now.entries) }
 {
     stated_at(map, name).is_some()
+}
+
+/// Whether the member is an object with members.
+pub fn is_filled(map: &Map<String, Value>, name: Name) -> bool
+    ensures { result ≡ is_filled name (members_view map.now.entries) }
+{
+    match stated_at(map, name) {
+        Some(value) => has_members(value),
+        None => false,
+    }
+}
+
+fn has_members(json: &Value) -> bool
+    ensures { result ≡ has_members (view json.now) }
+{
+    match json {
+        Value::Object(map) => is_more_than_empty(map),
+        _ => false,
+    }
+}
+
+fn is_more_than_empty(map: &Map<String, Value>) -> bool
+    ensures { result ≡ has_members (json.object (members_view map.now.entries)) }
+{
+    0 < map.len()
 }
 
 /// Whether the number of one member is below that of another, where both are there.

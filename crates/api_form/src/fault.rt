@@ -25,8 +25,6 @@ pub enum Fault {
     Missing(Name),
     /// A length, a number, a word or a count is not among those that the member may have.
     OutOfRange(Name),
-    /// A member that expressions have taken the place of is there.
-    Legacy(Name),
     /// An attribute value is of no form that it may have.
     BadValue(JsonFault),
     /// The attributes to select do not go with the index and the projection that are stated.

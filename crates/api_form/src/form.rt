@@ -52,6 +52,10 @@ pub enum Form {
     Update,
     TransactGet,
     Get,
+    // tests and changes of single attributes
+    AttributeValueUpdate,
+    Condition,
+    ExpectedAttributeValue,
     // values and texts
     Item,
     Value,
@@ -66,6 +70,8 @@ pub enum Need {
     Optional,
     /// Required where the other member is there.
     With(Name),
+    /// Required unless the other member is an object that is not empty.
+    UnlessFilled(Name),
 }
 
 /// A stated member of an object.
@@ -98,8 +104,6 @@ pub enum Rule {
     Flag,
     /// An attribute value.
     Value,
-    /// Anything, and refused by its name.
-    Legacy,
 }
 
 /// What the form states.
@@ -157,6 +161,9 @@ pub fn members(form: Form) -> &'static [Member]
         Form::Update => &tables::UPDATE,
         Form::TransactGet => &tables::TRANSACT_GET,
         Form::Get => &tables::GET,
+        Form::AttributeValueUpdate => &tables::ATTRIBUTE_VALUE_UPDATE,
+        Form::Condition => &tables::CONDITION_OF_ATTRIBUTE,
+        Form::ExpectedAttributeValue => &tables::EXPECTED_ATTRIBUTE_VALUE,
         _ => &tables::NO_MEMBERS,
     }
 }

@@ -8,13 +8,16 @@ ghost use Rattle.api_form.specs.Names.{text_of};
 pub enum Name {
     /// The body as a whole, which is no member.
     Body,
+    Action,
     AttributeDefinitions,
     AttributeName,
     AttributeType,
     AttributeUpdates,
+    AttributeValueList,
     AttributesToGet,
     BillingMode,
     ClientRequestToken,
+    ComparisonOperator,
     ConditionCheck,
     ConditionExpression,
     ConditionalOperator,
@@ -25,6 +28,7 @@ pub enum Name {
     Enabled,
     ExclusiveStartKey,
     ExclusiveStartTableName,
+    Exists,
     Expected,
     ExpressionAttributeNames,
     ExpressionAttributeValues,
@@ -66,6 +70,7 @@ pub enum Name {
     TransactItems,
     Update,
     UpdateExpression,
+    Value,
     WriteCapacityUnits,
 }
 
@@ -76,13 +81,16 @@ impl Name {
     {
         match self {
             Name::Body => "",
+            Name::Action => "Action",
             Name::AttributeDefinitions => "AttributeDefinitions",
             Name::AttributeName => "AttributeName",
             Name::AttributeType => "AttributeType",
             Name::AttributeUpdates => "AttributeUpdates",
+            Name::AttributeValueList => "AttributeValueList",
             Name::AttributesToGet => "AttributesToGet",
             Name::BillingMode => "BillingMode",
             Name::ClientRequestToken => "ClientRequestToken",
+            Name::ComparisonOperator => "ComparisonOperator",
             Name::ConditionCheck => "ConditionCheck",
             Name::ConditionExpression => "ConditionExpression",
             Name::ConditionalOperator => "ConditionalOperator",
@@ -93,6 +101,7 @@ impl Name {
             Name::Enabled => "Enabled",
             Name::ExclusiveStartKey => "ExclusiveStartKey",
             Name::ExclusiveStartTableName => "ExclusiveStartTableName",
+            Name::Exists => "Exists",
             Name::Expected => "Expected",
             Name::ExpressionAttributeNames => "ExpressionAttributeNames",
             Name::ExpressionAttributeValues => "ExpressionAttributeValues",
@@ -134,6 +143,7 @@ impl Name {
             Name::TransactItems => "TransactItems",
             Name::Update => "Update",
             Name::UpdateExpression => "UpdateExpression",
+            Name::Value => "Value",
             Name::WriteCapacityUnits => "WriteCapacityUnits",
         }
     }

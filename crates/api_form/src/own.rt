@@ -6,9 +6,11 @@ ghost use Rattle.serde_json.specs.View.{view, number_view, items_view, members_v
 ghost use Rattle.attr_json.specs.Values.{value_fault};
 ghost use Rattle.api_form.specs.declared.name.Name.TheVariants as name;
 ghost use Rattle.api_form.specs.declared.fault.Fault.TheVariants as fault;
-ghost use Rattle.api_form.specs.Faults.{first, own_faults, range_faults, bad_value, has_kind, is_in_range, key_faults, beside_faults, is_selection, text_at, is_there, absence, is_needed, unless};
+ghost use Rattle.api_form.specs.Faults.{first, own_faults, range_faults, bad_value, has_kind, is_in_range, key_faults, beside_faults, is_selection, states_projection, text_at, is_there, absence, is_needed, unless};
 
-use crate::count::{has_at_most_one, has_requests, is_below, is_there, stated_count, text_at};
+use crate::count::{
+    has_at_most_one, has_requests, is_below, is_filled, is_there, stated_count, text_at,
+};
 use crate::fault::{Fault, Stage};
 use crate::form::{Member, Need, Rule, members};
 use crate::name::Name;
@@ -57,7 +59,7 @@ fn has_kind(rule: Rule, json: &Value) -> bool
         Rule::Text(_) | Rule::Word(_) => json.is_string(),
         Rule::Whole { .. } => json.is_u64() || json.is_i64(),
         Rule::Flag => json.is_boolean(),
-        Rule::Value | Rule::Legacy => true,
+        Rule::Value => true,
     }
 }
 
@@ -71,7 +73,6 @@ fn range_fault(
     ensures { IfOk result (λ fault. fault ≡ first (range_faults name rule (view json.now))) }
 {
     match rule {
-        Rule::Legacy => Ok(Some(Fault::Legacy(name))),
         Rule::Value => bad_value(alloc, json),
         _ => Ok(unless(is_in_range(json, rule), Fault::OutOfRange(name))),
     }
@@ -168,16 +169,23 @@ pub fn beside_fault(map: &Map<String, Value>, stage: Stage, name: Name) -> Optio
 /// Whether what is selected goes with the index and the projection that are stated.
 fn is_selection(map: &Map<String, Value>) -> bool
     ensures { let ms = members_view map.now.entries in
-        result ≡ is_selection (text_at name.Select ms) (is_there name.IndexName ms) (is_there name.ProjectionExpression ms) }
+        result ≡ is_selection (text_at name.Select ms) (is_there name.IndexName ms) (states_projection ms) }
 {
     let indexed = is_there(map, Name::IndexName);
-    let projected = is_there(map, Name::ProjectionExpression);
+    let projected = states_projection(map);
     match text_at(map, Name::Select) {
         Some("SPECIFIC_ATTRIBUTES") => projected,
         Some("ALL_PROJECTED_ATTRIBUTES") => indexed && !projected,
         Some(_) => !projected,
         None => true,
     }
+}
+
+/// Whether it is stated which attributes are shown.
+fn states_projection(map: &Map<String, Value>) -> bool
+    ensures { result ≡ states_projection (members_view map.now.entries) }
+{
+    is_there(map, Name::ProjectionExpression) || is_there(map, Name::AttributesToGet)
 }
 
 /// The fault of a member that is absent.
@@ -198,6 +206,7 @@ fn is_needed(map: &Map<String, Value>, need: Need) -> bool
         Need::Required => true,
         Need::Optional => false,
         Need::With(other) => is_there(map, other),
+        Need::UnlessFilled(other) => !is_filled(map, other),
     }
 }
 

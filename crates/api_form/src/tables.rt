@@ -2,7 +2,7 @@
 //! is stated of it. Rows stand in the order of the names' bytes. Each table names its page of the DynamoDB API Reference, and
 //! has of it the members that this server knows.
 
-use crate::form::Need::{Optional, Required, With};
+use crate::form::Need::{Optional, Required, UnlessFilled, With};
 use crate::form::{Form, Member, Rule};
 use crate::name::Name;
 use crate::spelling::Spelling;
@@ -47,6 +47,18 @@ const DEFINITIONS: Rule = Rule::List {
 
 const KEY_SCHEMA: Rule = Rule::List {
     of: Form::KeyElement,
+    least: 0,
+    most: u64::MAX,
+};
+
+/// Tests of attributes, by their names.
+const TESTS: Rule = Rule::Map {
+    names: Spelling::Filled,
+    of: Form::Condition,
+};
+
+const VALUES_IN_ORDER: Rule = Rule::List {
+    of: Form::Value,
     least: 0,
     most: u64::MAX,
 };
@@ -97,6 +109,38 @@ const FAILED_IMAGE: Member = Member(
     Name::ReturnValuesOnConditionCheckFailure,
     Optional,
     OLD_IMAGE,
+);
+
+// Members that expressions have taken the place of (Developer Guide: Legacy conditional parameters). Their words are judged with
+// the expressions.
+const OPERATOR: Member = Member(Name::ConditionalOperator, Optional, TEXT);
+
+const EXPECTED: Member = Member(
+    Name::Expected,
+    Optional,
+    Rule::Map {
+        names: Spelling::Filled,
+        of: Form::ExpectedAttributeValue,
+    },
+);
+
+const UPDATES: Member = Member(
+    Name::AttributeUpdates,
+    Optional,
+    Rule::Map {
+        names: Spelling::Filled,
+        of: Form::AttributeValueUpdate,
+    },
+);
+
+const ATTRIBUTES: Member = Member(
+    Name::AttributesToGet,
+    Optional,
+    Rule::List {
+        of: Form::Text,
+        least: 0,
+        most: u64::MAX,
+    },
 );
 
 pub const NO_MEMBERS: [Member; 0] = [];
@@ -176,8 +220,8 @@ pub const UPDATE_TIME_TO_LIVE: [Member; 4] = [
 /// API Reference: PutItem.
 pub const PUT_ITEM: [Member; 11] = [
     CONDITION,
-    Member(Name::ConditionalOperator, Optional, Rule::Legacy),
-    Member(Name::Expected, Optional, Rule::Legacy),
+    OPERATOR,
+    EXPECTED,
     NAMES,
     VALUES,
     Member(Name::Item, Required, ITEM),
@@ -190,7 +234,7 @@ pub const PUT_ITEM: [Member; 11] = [
 
 /// API Reference: GetItem.
 pub const GET_ITEM: [Member; 8] = [
-    Member(Name::AttributesToGet, Optional, Rule::Legacy),
+    ATTRIBUTES,
     Member(Name::ConsistentRead, Optional, Rule::Flag),
     NAMES,
     Member(Name::Key, Required, ITEM),
@@ -202,10 +246,10 @@ pub const GET_ITEM: [Member; 8] = [
 
 /// API Reference: UpdateItem.
 pub const UPDATE_ITEM: [Member; 13] = [
-    Member(Name::AttributeUpdates, Optional, Rule::Legacy),
+    UPDATES,
     CONDITION,
-    Member(Name::ConditionalOperator, Optional, Rule::Legacy),
-    Member(Name::Expected, Optional, Rule::Legacy),
+    OPERATOR,
+    EXPECTED,
     NAMES,
     VALUES,
     Member(Name::Key, Required, ITEM),
@@ -220,8 +264,8 @@ pub const UPDATE_ITEM: [Member; 13] = [
 /// API Reference: DeleteItem.
 pub const DELETE_ITEM: [Member; 11] = [
     CONDITION,
-    Member(Name::ConditionalOperator, Optional, Rule::Legacy),
-    Member(Name::Expected, Optional, Rule::Legacy),
+    OPERATOR,
+    EXPECTED,
     NAMES,
     VALUES,
     Member(Name::Key, Required, ITEM),
@@ -262,19 +306,23 @@ pub const BATCH_WRITE_ITEM: [Member; 3] = [
 
 /// API Reference: Query.
 pub const QUERY: [Member; 18] = [
-    Member(Name::AttributesToGet, Optional, Rule::Legacy),
-    Member(Name::ConditionalOperator, Optional, Rule::Legacy),
+    ATTRIBUTES,
+    OPERATOR,
     Member(Name::ConsistentRead, Optional, Rule::Flag),
     Member(Name::ExclusiveStartKey, Optional, ITEM),
     NAMES,
     VALUES,
     FILTER,
     Member(Name::IndexName, Optional, TABLE_NAME),
-    Member(Name::KeyConditionExpression, Required, TEXT),
-    Member(Name::KeyConditions, Optional, Rule::Legacy),
+    Member(
+        Name::KeyConditionExpression,
+        UnlessFilled(Name::KeyConditions),
+        TEXT,
+    ),
+    Member(Name::KeyConditions, Optional, TESTS),
     Member(Name::Limit, Optional, LIMIT),
     PROJECTED,
-    Member(Name::QueryFilter, Optional, Rule::Legacy),
+    Member(Name::QueryFilter, Optional, TESTS),
     CAPACITY,
     METRICS,
     Member(Name::ScanIndexForward, Optional, Rule::Flag),
@@ -284,8 +332,8 @@ pub const QUERY: [Member; 18] = [
 
 /// API Reference: Scan.
 pub const SCAN: [Member; 17] = [
-    Member(Name::AttributesToGet, Optional, Rule::Legacy),
-    Member(Name::ConditionalOperator, Optional, Rule::Legacy),
+    ATTRIBUTES,
+    OPERATOR,
     Member(Name::ConsistentRead, Optional, Rule::Flag),
     Member(Name::ExclusiveStartKey, Optional, ITEM),
     NAMES,
@@ -296,7 +344,7 @@ pub const SCAN: [Member; 17] = [
     PROJECTED,
     CAPACITY,
     METRICS,
-    Member(Name::ScanFilter, Optional, Rule::Legacy),
+    Member(Name::ScanFilter, Optional, TESTS),
     Member(
         Name::Segment,
         With(Name::TotalSegments),
@@ -421,7 +469,7 @@ pub const TIME_TO_LIVE_SPECIFICATION: [Member; 2] = [
 
 /// API Reference: KeysAndAttributes.
 pub const KEYS_AND_ATTRIBUTES: [Member; 5] = [
-    Member(Name::AttributesToGet, Optional, Rule::Legacy),
+    ATTRIBUTES,
     Member(Name::ConsistentRead, Optional, Rule::Flag),
     NAMES,
     Member(
@@ -514,4 +562,24 @@ pub const GET: [Member; 4] = [
     Member(Name::Key, Required, ITEM),
     PROJECTED,
     Member(Name::TableName, Required, TABLE_NAME),
+];
+
+/// API Reference: AttributeValueUpdate.
+pub const ATTRIBUTE_VALUE_UPDATE: [Member; 2] = [
+    Member(Name::Action, Optional, TEXT),
+    Member(Name::Value, Optional, Rule::Value),
+];
+
+/// API Reference: Condition. Without an operator it asks for equality.
+pub const CONDITION_OF_ATTRIBUTE: [Member; 2] = [
+    Member(Name::AttributeValueList, Optional, VALUES_IN_ORDER),
+    Member(Name::ComparisonOperator, Optional, TEXT),
+];
+
+/// API Reference: ExpectedAttributeValue.
+pub const EXPECTED_ATTRIBUTE_VALUE: [Member; 4] = [
+    Member(Name::AttributeValueList, Optional, VALUES_IN_ORDER),
+    Member(Name::ComparisonOperator, Optional, TEXT),
+    Member(Name::Exists, Optional, Rule::Flag),
+    Member(Name::Value, Optional, Rule::Value),
 ];

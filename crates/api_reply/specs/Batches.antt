@@ -22,14 +22,15 @@ items t = list_of item t.items
 abbrev pub names : List NamePair → Data
 names pairs = object_of (λ pair. pair.placeholder) (λ pair. string pair.name) pairs
 
--- keys that were not read, and how they were to be read; attributes in place of an expression are not told
+-- keys that were not read, and how they were to be read
 abbrev pub unread : TableKeys → Data
 unread t =
     object
+    (optional (codes "AttributesToGet") (option_map (list_of string) t.attributes)
     (optional (codes "ConsistentRead") (option_map boolean t.consistent)
     (optional (codes "ExpressionAttributeNames") (option_map names t.names)
     (member (codes "Keys") (list_of item t.keys)
-    (optional (codes "ProjectionExpression") (option_map string t.expression) no_members))))
+    (optional (codes "ProjectionExpression") (option_map string t.expression) no_members)))))
 
 abbrev pub unwritten_one : WriteRequest → Data
 unwritten_one (write.Put attributes) =

@@ -10,6 +10,8 @@ use Rattle.api_form.specs.Names.{text_of}
 use Rattle.api_form.specs.declared.name.Name.{Name}
 use Rattle.api_form.specs.declared.fault.Fault.{Fault}
 use Rattle.api_form.specs.declared.fault.Fault.TheVariants as fault
+use Rattle.legacy_params.specs.declared.fault.LegacyFault.{LegacyFault}
+use Rattle.legacy_params.specs.declared.fault.LegacyFault.TheVariants as legacy
 use Rattle.request_parts.specs.declared.refusal.Refusal.{Refusal}
 use Rattle.request_parts.specs.declared.refusal.Refusal.TheVariants as refusal
 use Rattle.api_reply.specs.declared.kind.ErrorKind.{ErrorKind}
@@ -22,7 +24,6 @@ abbrev pub body_message : Fault → List ℕ
 body_message fault.Kind = shape_message
 body_message (fault.Missing member) = codes "Member is missing: " ++ text_of member
 body_message (fault.OutOfRange member) = codes "Member is out of range: " ++ text_of member
-body_message (fault.Legacy member) = codes "Legacy member is not supported: " ++ text_of member
 body_message (fault.BadValue why) = codes "Attribute value is not valid: " ++ json_fault why
 body_message fault.Select = codes "Select is not valid"
 
@@ -43,6 +44,14 @@ parse_message parse.Overlap = codes "two document paths overlap"
 parse_message (parse.ClauseTwice twice) = codes "clause twice: " ++ clause_word twice
 parse_message parse.NoMemory = codes "not read"
 
+-- the name of a fault of legacy members
+abbrev pub legacy_word : LegacyFault → List ℕ
+legacy_word legacy.Mixed = codes "Mixed"
+legacy_word legacy.BadOperator = codes "BadOperator"
+legacy_word legacy.BadCount = codes "BadCount"
+legacy_word legacy.TwoForms = codes "TwoForms"
+legacy_word legacy.NoAttributes = codes "NoAttributes"
+
 -- which expression is refused
 abbrev pub about : Name → List ℕ
 about member = codes "Invalid " ++ text_of member ++ codes ": "
@@ -52,6 +61,7 @@ edge_message refusal.UnknownOperation = codes "Unknown operation"
 edge_message refusal.Serialization = shape_message
 edge_message (refusal.Body why) = body_message why
 edge_message (refusal.Schema why) = codes "Table schema is not valid: " ++ schema_fault why
+edge_message (refusal.Legacy why) = codes "Legacy member is not valid: " ++ legacy_word why
 edge_message (refusal.Expression member why) = about member ++ parse_message why
 edge_message (refusal.UnusedName name) = codes "Unused attribute name: " ++ name
 edge_message (refusal.UnusedValue name) = codes "Unused attribute value: " ++ name

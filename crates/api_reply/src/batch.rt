@@ -1,16 +1,16 @@
 //! What a batch found, and what of it was left undone.
 
 ghost use Rattle.std.specs.Prelude.{◌≡◌, ◌++◌, OnOk, codes, option_map};
-ghost use Rattle.serde_json.specs.Data.{member, no_members, object};
+ghost use Rattle.serde_json.specs.Data.{member, no_members, object, string};
 ghost use Rattle.attr_json.specs.Text.{tokens_of};
 ghost use Rattle.api_reply.specs.Batches.{item as shown, names};
-ghost use Rattle.api_reply.specs.Json.{Adds, optional};
+ghost use Rattle.api_reply.specs.Json.{Adds, list_of, optional};
 
 use crate::to_json::{
     Entry, ToJson, write_list, write_list_member, write_named, write_object_member, write_optional,
 };
 use attr_value::Item;
-use base_types::Seq;
+use base_types::{Seq, Text};
 use expr_words::NamePair;
 use json::Writer;
 use std::alloc::{AllocError as NoMemory, Global};
@@ -60,6 +60,7 @@ impl ToJson for TableKeys {
 
     fn write(&self, alloc: Global, writer: &mut Writer) -> Result<(), NoMemory> {
         writer.begin_object()?;
+        write_attributes(alloc, writer, &self.attributes)?;
         write_optional(alloc, writer, "ConsistentRead", &self.consistent)?;
         write_names(alloc, writer, &self.names)?;
         write_list_member(alloc, writer, "Keys", &self.keys)?;
@@ -73,6 +74,22 @@ impl Entry for TableKeys {
 
     fn key(&self) -> &str {
         self.table.as_str()
+    }
+}
+
+/// Writes the names of the attributes that were asked for without an expression, where they are stated.
+#[tactic(auto, unfolding(crate::specs::Json::Adds))]
+fn write_attributes(
+    alloc: Global,
+    writer: &mut Writer,
+    names: &Option<Seq<Text>>,
+) -> Result<(), NoMemory>
+    ensures adds { OnOk result (Adds (optional (codes "AttributesToGet") (option_map (list_of string) names.now)) writer.old writer.new) }
+    ensures before { writer.new.before ≡ writer.old.before }
+{
+    match names {
+        Some(names) => write_list_member(alloc, writer, "AttributesToGet", names),
+        None => Ok(()),
     }
 }
 

@@ -1,13 +1,13 @@
 //! What people are told of a message that is refused before the tables are looked at.
 
-ghost use Rattle.std.specs.Prelude.{◌≡◌, ◌++◌, IfOk, string_bytes};
+ghost use Rattle.std.specs.Prelude.{◌≡◌, ◌++◌, IfOk, codes, string_bytes};
 ghost use Rattle.api_form.specs.Names.{text_of};
-ghost use Rattle.api_reply.specs.Edge.{about, body_message, clause_word, edge_kind, edge_message, parse_message};
+ghost use Rattle.api_reply.specs.Edge.{about, body_message, clause_word, edge_kind, edge_message, legacy_word, parse_message};
 
 use crate::kind::ErrorKind;
 use api_form::{Fault, Name};
 use expr_words::{Clause, ParseEnd};
-use request_parts::Refusal;
+use request_parts::{LegacyFault, Refusal};
 use std::alloc::{AllocError as NoMemory, Global};
 
 /// The kind of the error.
@@ -32,6 +32,7 @@ pub(crate) fn edge_message(alloc: Global, refusal: &Refusal) -> Result<String, N
         }
         Refusal::Body(why) => body_message(alloc, *why),
         Refusal::Schema(why) => format!(in alloc; "Table schema is not valid: {why}"),
+        Refusal::Legacy(why) => legacy_message(alloc, *why),
         Refusal::Expression { member, fault } => expression_message(alloc, *member, fault),
         Refusal::UnusedName(name) => format!(in alloc; "Unused attribute name: {name}"),
         Refusal::UnusedValue(name) => format!(in alloc; "Unused attribute value: {name}"),
@@ -46,9 +47,29 @@ fn body_message(alloc: Global, why: Fault) -> Result<String, NoMemory>
         Fault::Kind => String::from_str(alloc, "Body is not JSON of the expected shape"),
         Fault::Missing(member) => named(alloc, "Member is missing: ", member),
         Fault::OutOfRange(member) => named(alloc, "Member is out of range: ", member),
-        Fault::Legacy(member) => named(alloc, "Legacy member is not supported: ", member),
         Fault::BadValue(why) => format!(in alloc; "Attribute value is not valid: {why}"),
         Fault::Select => String::from_str(alloc, "Select is not valid"),
+    }
+}
+
+/// The text of a fault of legacy members.
+fn legacy_message(alloc: Global, why: LegacyFault) -> Result<String, NoMemory>
+    ensures { IfOk result (λ text. string_bytes text ≡ codes "Legacy member is not valid: " ++ legacy_word why) }
+{
+    let word = legacy_word(why);
+    format!(in alloc; "Legacy member is not valid: {word}")
+}
+
+/// The name of a fault of legacy members.
+fn legacy_word(why: LegacyFault) -> &'static str
+    ensures { result.now ≡ legacy_word why }
+{
+    match why {
+        LegacyFault::Mixed => "Mixed",
+        LegacyFault::BadOperator => "BadOperator",
+        LegacyFault::BadCount => "BadCount",
+        LegacyFault::TwoForms => "TwoForms",
+        LegacyFault::NoAttributes => "NoAttributes",
     }
 }
 

@@ -1,8 +1,9 @@
-pub mod Lists
 pub mod Parts
 pub mod Told
 pub mod Elements
 pub mod Changes
 pub mod Messages
+pub mod Beside
+pub mod Keyed
 pub mod Totals
 pub mod Operations

@@ -1,6 +1,6 @@
 -- What the bodies of BatchGetItem and BatchWriteItem state (API Reference: BatchGetItem, BatchWriteItem). Tables come in
 -- the order of their names' bytes, as the members of the body's object do.
-use Rattle.std.specs.Prelude.{◌≡◌, ⊤, ℕ, List, [], ◌∷◌, false, Option, Some, None, option_map, option_and_then, Result, Ok, Err}
+use Rattle.std.specs.Prelude.{◌≡◌, ◌⊎◌, ⊤, ℕ, List, [], ◌∷◌, false, Option, Some, None, option_map, option_and_then, Result, Ok, Err}
 use Rattle.serde_json.specs.Data.{Data, Members, no_members, member}
 use Rattle.serde_json.specs.Find.{as_object}
 use Rattle.attr_value.specs.Tree.{Attributes}
@@ -15,9 +15,11 @@ use Rattle.table_request.specs.declared.batches.WriteRequest.TheVariants as writ
 use Rattle.request_parts.specs.declared.refusal.Refusal.{Refusal}
 use Rattle.request_parts.specs.Members.{member_at, stated_text, stated_flag, list_at, elements, item_at, item_in, inside, object_at, each}
 use Rattle.request_parts.specs.Placeholders.{known_names, members_in, name_pairs}
-use Rattle.request_parts.specs.Asks.{Asks, AreAccepted, IsFirstRefused}
+use Rattle.request_parts.specs.Asks.{IsPart}
 use Rattle.request_parts.specs.Parts.{projection_asks}
 use Rattle.request_parts.specs.Trees.{StatesPaths}
+use Rattle.request_parts.specs.declared.legacy.LegacyKind.TheVariants as kind
+use Rattle.api_request.specs.Legacy.{WithLegacy, in_table}
 
 -- the placeholders of names, where they are stated
 abbrev pub stated_names : Data → Option (List NamePair)
@@ -33,19 +35,16 @@ pub record StatesKeys (table : List ℕ) (d : Data) (r : TableKeys) : Type 0 whe
   pub names : r.names ≡ stated_names d
   pub attributes : r.attributes ≡ None
 
--- the expressions of the tables, in order
-abbrev pub table_asks : Members → List Asks
-table_asks no_members = []
-table_asks (member k d ms) = projection_asks d ∷ table_asks ms
+-- what is asked of a table, or why it is refused
+abbrev pub IsTable : List ℕ → Data → Result TableKeys Refusal → Type 0
+IsTable table d = WithLegacy kind.Read (in_table d) (IsPart projection_asks (StatesKeys table)) d
 
-abbrev pub EachStatesKeys : Members → List TableKeys → Type 0
-EachStatesKeys no_members [] = ⊤
-EachStatesKeys (member k d ms) (r ∷ rs) = StatesKeys k d r × EachStatesKeys ms rs
-EachStatesKeys _ _ = ⊥
-
+-- all tables, in order, or the first refusal: those before it are not refused
 abbrev pub AreTables : Members → Result (List TableKeys) Refusal → Type 0
-AreTables ms (Ok rs) = EachStatesKeys ms rs × AreAccepted (table_asks ms)
-AreTables ms (Err why) = IsFirstRefused (table_asks ms) why
+AreTables no_members (Ok []) = ⊤
+AreTables (member k d ms) (Ok (r ∷ rs)) = IsTable k d (Ok r) × AreTables ms (Ok rs)
+AreTables (member k d ms) (Err why) = IsTable k d (Err why) ⊎ ((r : TableKeys) × IsTable k d (Ok r) × AreTables ms (Err why))
+AreTables _ _ = ⊥
 
 abbrev pub IsBatchGet : Data → Result BatchGet Refusal → Type 0
 IsBatchGet d (Ok r) = AreTables (members_in name.RequestItems d) (Ok r.tables) × (r.capacity ≡ false)

@@ -4,6 +4,7 @@ pub mod Catalog
 pub mod Schemas
 pub mod Items
 pub mod Pages
+pub mod Legacy
 pub mod Tables
 pub mod Batches
 pub mod Transactions

@@ -9,6 +9,7 @@ use Rattle.table_request.specs.declared.request.Request.{Request}
 use Rattle.table_request.specs.declared.request.Request.TheVariants as request
 use Rattle.request_parts.specs.declared.refusal.Refusal.{Refusal}
 use Rattle.request_parts.specs.declared.refusal.Refusal.TheVariants as refusal
+use Rattle.request_parts.specs.declared.legacy.LegacyKind.TheVariants as kind
 use Rattle.api_request.specs.declared.operation.Operation.{Operation}
 use Rattle.api_request.specs.declared.operation.Operation.TheVariants as operation
 use Rattle.api_request.specs.Operations.{form_of, IsNamed}
@@ -16,7 +17,8 @@ use Rattle.api_request.specs.Catalog.{IsDeleteTable, IsDescribeTable, IsListTabl
 use Rattle.api_request.specs.Schemas.{IsCreateTable}
 use Rattle.api_request.specs.Tables.{IsUpdateTable}
 use Rattle.api_request.specs.Items.{IsPutItem, IsGetItem, IsUpdateItem, IsDeleteItem}
-use Rattle.api_request.specs.Pages.{IsQuery, IsScan}
+use Rattle.api_request.specs.Pages.{IsScan}
+use Rattle.api_request.specs.Legacy.{WithLegacy, in_put, in_get, in_update, in_delete, in_scan, IsAnyQuery}
 use Rattle.api_request.specs.Batches.{IsBatchGet, IsBatchWrite}
 use Rattle.api_request.specs.Transactions.{IsTransactWrite, IsTransactGet}
 
@@ -32,12 +34,12 @@ Always States (Err why) = ⊥
 
 -- the request that a body without fault states, or why it is refused
 abbrev pub IsStated : Operation → Data → Result Request Refusal → Type 0
-IsStated operation.PutItem d = IsOne request.PutItem (IsPutItem d)
-IsStated operation.GetItem d = IsOne request.GetItem (IsGetItem d)
-IsStated operation.UpdateItem d = IsOne request.UpdateItem (IsUpdateItem d)
-IsStated operation.DeleteItem d = IsOne request.DeleteItem (IsDeleteItem d)
-IsStated operation.Query d = IsOne request.Query (IsQuery d)
-IsStated operation.Scan d = IsOne request.Scan (IsScan d)
+IsStated operation.PutItem d = IsOne request.PutItem (WithLegacy kind.Write in_put IsPutItem d)
+IsStated operation.GetItem d = IsOne request.GetItem (WithLegacy kind.Read in_get IsGetItem d)
+IsStated operation.UpdateItem d = IsOne request.UpdateItem (WithLegacy kind.Update in_update IsUpdateItem d)
+IsStated operation.DeleteItem d = IsOne request.DeleteItem (WithLegacy kind.Write in_delete IsDeleteItem d)
+IsStated operation.Query d = IsOne request.Query (IsAnyQuery d)
+IsStated operation.Scan d = IsOne request.Scan (WithLegacy kind.Scan in_scan IsScan d)
 IsStated operation.BatchGetItem d = IsOne request.BatchGet (IsBatchGet d)
 IsStated operation.BatchWriteItem d = IsOne request.BatchWrite (Always (IsBatchWrite d))
 IsStated operation.TransactWriteItems d = IsOne request.TransactWrite (IsTransactWrite d)

@@ -9,6 +9,7 @@ ghost use Rattle.request_parts.specs.Asks.{IsPart};
 ghost use Rattle.request_parts.specs.Parts.{projection_asks};
 ghost use Rattle.api_request.specs.Batches.{StatesKeys, stated_names, AreTables, IsBatchGet, table_writes, IsBatchWrite};
 
+use crate::legacy;
 use crate::stated::{Stated, read_all};
 use api_form::Name;
 use attr_value::Item;
@@ -47,13 +48,13 @@ fn all_keys(alloc: Global, members: &Map<String, Value>) -> Result<Seq<TableKeys
 {
     let mut tables = Seq::new(alloc);
     for (key, json) in members.iter() {
-        tables.push(table_keys(alloc, key, json)?)?;
+        tables.push(legacy::table_keys(alloc, key, json)?)?;
     }
     Ok(tables)
 }
 
 /// The keys that are asked of a table, or why its expression is refused.
-fn table_keys(alloc: Global, table: &str, json: &Value) -> Result<TableKeys, RequestEnd>
+pub(crate) fn table_keys(alloc: Global, table: &str, json: &Value) -> Result<TableKeys, RequestEnd>
     ensures { IsToldOf (IsPart projection_asks (StatesKeys table.now) (view json.now)) result }
 {
     let table = Text::copied(alloc, table)?;

@@ -10,6 +10,7 @@ mod batch;
 mod catalog;
 mod change;
 mod item;
+mod legacy;
 mod message;
 mod operation;
 mod page;

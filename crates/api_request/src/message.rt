@@ -11,9 +11,8 @@ use crate::catalog::{
     delete_table, describe_table, describe_time_to_live, list_tables, update_time_to_live,
 };
 use crate::change::update_table;
-use crate::item::{delete_item, get_item, put_item, update_item};
+use crate::legacy::{delete_item, get_item, put_item, query, scan, update_item};
 use crate::operation::{Operation, form_of, operation_named};
-use crate::page::{query, scan};
 use crate::schema::create_table;
 use crate::transaction::{transact_get, transact_write};
 use api_form::{Fault, check_body};

@@ -2,8 +2,9 @@
 
 ghost use Rattle.std.specs.Prelude.{◌≡◌, IfOk};
 ghost use Rattle.serde_json.specs.View.{view};
+ghost use Rattle.request_parts.specs.Asks.{IsPart};
 ghost use Rattle.request_parts.specs.Ends.{IsToldOf};
-ghost use Rattle.api_request.specs.Pages.{select_named, rows, segment_of, IsScan, IsQuery, IsPageOf};
+ghost use Rattle.api_request.specs.Pages.{select_named, rows, segment_of, StatesPage, scan_asks, IsScan, IsQuery, IsPageOf};
 
 use api_form::Name;
 use attr_value::{Item, Value};
@@ -92,17 +93,24 @@ fn segment_of(json: &Json) -> Option<Segment>
     Some(Segment { segment, total })
 }
 
-/// What the body of a Scan states (API Reference: Scan), or why its expressions are refused.
-pub fn scan(alloc: Global, json: &Json) -> Result<Scan, RequestEnd>
-    ensures { IsToldOf (IsScan (view json.now)) result }
+/// What the body of a page states, but for a segment or a key condition, or why its expressions are refused.
+pub fn page(alloc: Global, json: &Json) -> Result<PageRequest, RequestEnd>
+    ensures { IsToldOf (IsPart scan_asks StatesPage (view json.now)) result }
 {
     let rows = Rows::read(alloc, json)?;
     let placeholders = Placeholders::read(alloc, json)?;
     let filter = stated_text(json, Name::FilterExpression);
     let projection = stated_text(json, Name::ProjectionExpression);
     let trees = read_page(alloc, &placeholders, filter, projection)?;
+    Ok(page_of(rows, trees, placeholders.values))
+}
+
+/// What the body of a Scan states (API Reference: Scan), or why its expressions are refused.
+pub fn scan(alloc: Global, json: &Json) -> Result<Scan, RequestEnd>
+    ensures { IsToldOf (IsScan (view json.now)) result }
+{
     Ok(Scan {
-        page: page_of(rows, trees, placeholders.values),
+        page: page(alloc, json)?,
         segment: segment_of(json),
     })
 }

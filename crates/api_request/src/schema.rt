@@ -9,8 +9,7 @@ ghost use Rattle.api_request.specs.Schemas.{kind_named, role_named, projection, 
 
 use crate::stated::{Stated, read_all};
 use api_form::Name;
-use base_types::Text;
-use request_parts::{Refusal, RequestEnd, copy_at, list_at, stated_whole, text_at};
+use request_parts::{Refusal, RequestEnd, copy_at, list_at, stated_whole, text_at, texts};
 use serde_json::Value;
 use std::alloc::{AllocError as NoMemory, Global};
 use table_request::CreateTable;
@@ -114,7 +113,7 @@ impl Stated for Projection {
     fn read(alloc: Global, json: &Value) -> Result<Projection, NoMemory> {
         match text_at(json, Name::ProjectionType) {
             "KEYS_ONLY" => Ok(Projection::KeysOnly),
-            "INCLUDE" => Ok(Projection::Include(read_all::<Text>(
+            "INCLUDE" => Ok(Projection::Include(texts(
                 alloc,
                 list_at(json, Name::NonKeyAttributes),
             )?)),

@@ -6,7 +6,7 @@ ghost use Rattle.serde_json.specs.View.{view, items_view};
 ghost use Rattle.request_parts.specs.Members.{each};
 
 use attr_value::Item;
-use base_types::{Seq, Text};
+use base_types::Seq;
 use request_parts::item_in;
 use serde_json::Value;
 use std::alloc::{AllocError as NoMemory, Global};
@@ -21,7 +21,7 @@ pub(crate) trait Stated: Sized {
 }
 
 /// What each element states, in order.
-#[tactic(auto, using(crate::proofs::Lists::each_step))]
+#[tactic(auto, using(request_parts::proofs::Lists::each_step))]
 pub(crate) fn read_all<T: Stated + Drop>(alloc: Global, items: &[Value]) -> Result<Seq<T>, NoMemory>
     ensures { IfOk result (λ values. values ≡ each T.stated (items_view items.now)) }
 {
@@ -30,16 +30,6 @@ pub(crate) fn read_all<T: Stated + Drop>(alloc: Global, items: &[Value]) -> Resu
         values.push(T::read(alloc, item)?)?;
     }
     Ok(values)
-}
-
-impl Stated for Text {
-    ghost use Rattle.request_parts.specs.Members.{text};
-
-    ghost stated = { text };
-
-    fn read(alloc: Global, json: &Value) -> Result<Text, NoMemory> {
-        Text::copied(alloc, json.as_str().unwrap_or(""))
-    }
 }
 
 impl Stated for Item {

@@ -1,4 +1,4 @@
--- What the parts of a body state, in reading order: members; placeholders and expressions; what requests have in common.
+-- What the parts of a body state, in reading order: members; placeholders and expressions; what requests have in common; legacy members.
 pub mod Ends
 pub mod Members
 pub mod Placeholders
@@ -6,3 +6,4 @@ pub mod Expressions
 pub mod Asks
 pub mod Trees
 pub mod Parts
+pub mod Legacy

@@ -8,11 +8,14 @@
 //!   request or action: each in order, then the first placeholder of a name that none of them uses, then the first of a
 //!   value. A value that has to name a type is looked at right behind its own expression.
 //! - [`Conditional`] and [`Projected`] are what requests of one item have in common with actions of a transaction.
+//! - [`read_legacy`] reads what clients sent before there were expressions, as the same trees.
 //! - A [`Refusal`] is told to the client, in the place of a request.
 #![tactic(auto)]
 
 mod asks;
 mod expression;
+mod legacy;
+mod legacy_part;
 mod member;
 mod part;
 mod placeholder;
@@ -22,9 +25,12 @@ pub use asks::{
     ChangeTrees, PageTrees, QueryTrees, WriteTrees, read_change, read_page, read_projection,
     read_query, read_write,
 };
+pub use legacy::{LegacyKind, LegacyTrees, has_legacy, read_legacy};
+pub use legacy_params::LegacyFault;
+pub use legacy_part::stated_names;
 pub use member::{
     copy_at, elements, flag_at, item_at, item_in, list_at, map_at, object_at, stated_copy,
-    stated_flag, stated_item, stated_text, stated_whole, text_at,
+    stated_flag, stated_item, stated_text, stated_whole, text_at, texts,
 };
 pub use part::{Conditional, Placed, Projected};
 pub use placeholder::{Placeholders, pairs_of, values};

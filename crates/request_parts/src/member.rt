@@ -3,13 +3,13 @@
 
 ghost use Rattle.std.specs.Prelude.{◌≡◌, IfOk, option_map, option_and_then};
 ghost use Rattle.serde_json.specs.View.{view, items_view, members_view};
-ghost use Rattle.serde_json.specs.Find.{as_object};
-ghost use Rattle.request_parts.specs.Members.{member_at, stated_text, text_at, stated_flag, flag_at, stated_whole, list_at, elements, item_at, item_in, stated_item, object_at};
+ghost use Rattle.serde_json.specs.Find.{as_array, as_object};
+ghost use Rattle.request_parts.specs.Members.{each, text, member_at, stated_text, text_at, stated_flag, flag_at, stated_whole, list_at, elements, item_at, item_in, stated_item, object_at};
 
 use api_form::Name;
 use attr_json::{JsonEnd, item_from};
 use attr_value::Item;
-use base_types::Text;
+use base_types::{Seq, Text};
 use serde_json::{Map, Value};
 use std::alloc::{AllocError as NoMemory, Global};
 
@@ -73,6 +73,28 @@ pub fn list_at(json: &Value, name: Name) -> &[Value]
         Some(items) => items.as_slice(),
         None => &[],
     }
+}
+
+/// The elements of a member, in order; None where it is absent or no list.
+pub(crate) fn stated_list(json: &Value, name: Name) -> Option<&[Value]>
+    ensures { option_map (λ items. items_view items.now) result ≡ option_and_then as_array (member_at name (view json.now)) }
+{
+    match json.get(name.text()).and_then(Value::as_array) {
+        Some(items) => Some(items.as_slice()),
+        None => None,
+    }
+}
+
+/// The texts of elements, copied, in order; the empty text where one is none. NoMemory where memory is refused.
+#[tactic(auto, using(crate::proofs::Lists::each_step))]
+pub fn texts(alloc: Global, items: &[Value]) -> Result<Seq<Text>, NoMemory>
+    ensures { IfOk result (λ texts. texts ≡ each text (items_view items.now)) }
+{
+    let mut texts = Seq::with_capacity(alloc, items.len())?;
+    for item in items {
+        texts.push(Text::copied(alloc, item.as_str().unwrap_or(""))?)?;
+    }
+    Ok(texts)
 }
 
 /// The elements of a list, in order; none where the JSON is no list.

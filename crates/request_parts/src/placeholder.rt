@@ -118,7 +118,7 @@ fn values_of(alloc: Global, members: &Map<String, Json>) -> Result<Seq<Value>, N
 }
 
 /// The value that JSON states.
-fn value_in(alloc: Global, json: &Json) -> Result<Value, NoMemory>
+pub(crate) fn value_in(alloc: Global, json: &Json) -> Result<Value, NoMemory>
     ensures { IfOk result (λ value. tree_of value ≡ value_in (view json.now)) }
 {
     match value_from(alloc, json) {

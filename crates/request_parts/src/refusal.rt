@@ -3,6 +3,7 @@
 use api_form::{Fault, Name};
 use base_types::Text;
 use expr_parse::ParseEnd;
+use legacy_params::LegacyFault;
 use std::alloc::{AllocError as NoMemory, AllocFailed};
 use table_schema::SchemaFault;
 
@@ -16,6 +17,8 @@ pub enum Refusal {
     Body(Fault),
     /// What is stated of a table breaks this rule (ValidationException).
     Schema(SchemaFault),
+    /// Legacy members of the body have this fault (ValidationException).
+    Legacy(LegacyFault),
     /// The text of this member is no expression. The fault is never of memory (ValidationException).
     Expression { member: Name, fault: ParseEnd },
     /// A placeholder of a name, with its `#`, that no expression uses (ValidationException).
@@ -32,6 +35,7 @@ impl Drop for Refusal {
             | Refusal::Serialization
             | Refusal::Body(_)
             | Refusal::Schema(_)
+            | Refusal::Legacy(_)
             | Refusal::Expression {
                 member: _,
                 fault: _,

@@ -5,7 +5,9 @@ use Rattle.table_request.specs.declared.request.Request.TheVariants as request
 use Rattle.api_request.specs.declared.operation.Operation.{Operation}
 use Rattle.api_request.specs.declared.operation.Operation.TheVariants as operation
 use Rattle.api_request.specs.Items.{IsPutItem, IsGetItem, IsUpdateItem, IsDeleteItem}
-use Rattle.api_request.specs.Pages.{IsQuery, IsScan}
+use Rattle.api_request.specs.Pages.{IsScan}
+use Rattle.api_request.specs.Legacy.{WithLegacy, in_put, in_get, in_update, in_delete, in_scan, IsAnyQuery}
+use Rattle.request_parts.specs.declared.legacy.LegacyKind.TheVariants as kind
 use Rattle.api_request.specs.Batches.{IsBatchGet}
 use Rattle.api_request.specs.Transactions.{IsTransactWrite, IsTransactGet}
 use Rattle.api_request.specs.Schemas.{IsCreateTable}
@@ -18,37 +20,37 @@ pub returns-in_err-put_item-in-PutItem : goal.returns-in_err-put_item-in-PutItem
 returns-in_err-put_item-in-PutItem c =
     let d = view c.args.json.now in
     let p = err_from_is_err_and c.from_residual.result c.from_residual.ensures.1 in
-    rw (p.1, p.2) (one_refused request.PutItem (IsPutItem d) c.args.operation operation.PutItem d c.in_err-put_item-in-PutItem.field-0.0 c.in-PutItem.is (λ why told. told) c.in_err-put_item-in-PutItem.ensures)
+    rw (p.1, p.2) (one_refused request.PutItem (WithLegacy kind.Write in_put IsPutItem d) c.args.operation operation.PutItem d c.in_err-put_item-in-PutItem.field-0.0 c.in-PutItem.is (λ why told. told) c.in_err-put_item-in-PutItem.ensures)
 
 pub returns-in_err-get_item-in-GetItem : goal.returns-in_err-get_item-in-GetItem
 returns-in_err-get_item-in-GetItem c =
     let d = view c.args.json.now in
     let p = err_from_is_err_and c.from_residual-in_err-get_item-in-GetItem.result c.from_residual-in_err-get_item-in-GetItem.ensures.1 in
-    rw (p.1, p.2) (one_refused request.GetItem (IsGetItem d) c.args.operation operation.GetItem d c.in_err-get_item-in-GetItem.field-0.0 c.in-GetItem.is (λ why told. told) c.in_err-get_item-in-GetItem.ensures)
+    rw (p.1, p.2) (one_refused request.GetItem (WithLegacy kind.Read in_get IsGetItem d) c.args.operation operation.GetItem d c.in_err-get_item-in-GetItem.field-0.0 c.in-GetItem.is (λ why told. told) c.in_err-get_item-in-GetItem.ensures)
 
 pub returns-in_err-update_item-in-UpdateItem : goal.returns-in_err-update_item-in-UpdateItem
 returns-in_err-update_item-in-UpdateItem c =
     let d = view c.args.json.now in
     let p = err_from_is_err_and c.from_residual-in_err-update_item-in-UpdateItem.result c.from_residual-in_err-update_item-in-UpdateItem.ensures.1 in
-    rw (p.1, p.2) (one_refused request.UpdateItem (IsUpdateItem d) c.args.operation operation.UpdateItem d c.in_err-update_item-in-UpdateItem.field-0.0 c.in-UpdateItem.is (λ why told. told) c.in_err-update_item-in-UpdateItem.ensures)
+    rw (p.1, p.2) (one_refused request.UpdateItem (WithLegacy kind.Update in_update IsUpdateItem d) c.args.operation operation.UpdateItem d c.in_err-update_item-in-UpdateItem.field-0.0 c.in-UpdateItem.is (λ why told. told) c.in_err-update_item-in-UpdateItem.ensures)
 
 pub returns-in_err-delete_item-in-DeleteItem : goal.returns-in_err-delete_item-in-DeleteItem
 returns-in_err-delete_item-in-DeleteItem c =
     let d = view c.args.json.now in
     let p = err_from_is_err_and c.from_residual-in_err-delete_item-in-DeleteItem.result c.from_residual-in_err-delete_item-in-DeleteItem.ensures.1 in
-    rw (p.1, p.2) (one_refused request.DeleteItem (IsDeleteItem d) c.args.operation operation.DeleteItem d c.in_err-delete_item-in-DeleteItem.field-0.0 c.in-DeleteItem.is (λ why told. told) c.in_err-delete_item-in-DeleteItem.ensures)
+    rw (p.1, p.2) (one_refused request.DeleteItem (WithLegacy kind.Write in_delete IsDeleteItem d) c.args.operation operation.DeleteItem d c.in_err-delete_item-in-DeleteItem.field-0.0 c.in-DeleteItem.is (λ why told. told) c.in_err-delete_item-in-DeleteItem.ensures)
 
 pub returns-in_err-query-in-Query : goal.returns-in_err-query-in-Query
 returns-in_err-query-in-Query c =
     let d = view c.args.json.now in
     let p = err_from_is_err_and c.from_residual-in_err-query-in-Query.result c.from_residual-in_err-query-in-Query.ensures.1 in
-    rw (p.1, p.2) (one_refused request.Query (IsQuery d) c.args.operation operation.Query d c.in_err-query-in-Query.field-0.0 c.in-Query.is (λ why told. told) c.in_err-query-in-Query.ensures)
+    rw (p.1, p.2) (one_refused request.Query (IsAnyQuery d) c.args.operation operation.Query d c.in_err-query-in-Query.field-0.0 c.in-Query.is (λ why told. told) c.in_err-query-in-Query.ensures)
 
 pub returns-in_err-scan-in-Scan : goal.returns-in_err-scan-in-Scan
 returns-in_err-scan-in-Scan c =
     let d = view c.args.json.now in
     let p = err_from_is_err_and c.from_residual-in_err-scan-in-Scan.result c.from_residual-in_err-scan-in-Scan.ensures.1 in
-    rw (p.1, p.2) (one_refused request.Scan (IsScan d) c.args.operation operation.Scan d c.in_err-scan-in-Scan.field-0.0 c.in-Scan.is (λ why told. told) c.in_err-scan-in-Scan.ensures)
+    rw (p.1, p.2) (one_refused request.Scan (WithLegacy kind.Scan in_scan IsScan d) c.args.operation operation.Scan d c.in_err-scan-in-Scan.field-0.0 c.in-Scan.is (λ why told. told) c.in_err-scan-in-Scan.ensures)
 
 pub returns-in_err-batch_get-in-BatchGetItem : goal.returns-in_err-batch_get-in-BatchGetItem
 returns-in_err-batch_get-in-BatchGetItem c =

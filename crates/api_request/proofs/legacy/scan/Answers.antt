@@ -1,0 +1,30 @@
+use Rattle.std.proofs.Common.{◌≡◌, ap, sym, ◌∙◌}
+use Rattle.std.proofs.lemmas.Result.{err_from_is_err_and}
+use Rattle.serde_json.specs.View.{view}
+use Rattle.request_parts.specs.declared.legacy.LegacyKind.TheVariants as kind
+use Rattle.request_parts.specs.Legacy.{has_legacy}
+use Rattle.table_request.specs.declared.pages.PageRequest.{PageRequest}
+use Rattle.table_request.specs.declared.pages.Scan.{Scan}
+use Rattle.api_request.specs.Pages.{IsScan}
+use Rattle.api_request.specs.Legacy.{Becomes, in_scan}
+use Rattle.api_request.proofs.Beside.{with_refused, with_both}
+use Rattle.api_request.proofs.legacy.scan.Goals as goal
+
+pub returns-in_err-trees : goal.returns-in_err-trees
+returns-in_err-trees c =
+    let d = view c.args.json.now in
+    let p = err_from_is_err_and c.from_residual.result c.from_residual.ensures.1 in
+    rw (p.1, p.2)
+    (with_refused (has_legacy kind.Scan d) kind.Scan (Becomes in_scan) IsScan d (IsScan d) c.read_legacy-legacy.result c.scan-2.result c.in_err-trees.field-0.0
+    (sym c.has_legacy.ensures ∙ c.if-not-has_legacy.false)
+    c.read_legacy-legacy.ensures c.scan-2.ensures c.in_err-trees.ensures)
+
+pub returns : goal.returns
+returns c =
+    let d = view c.args.json.now in
+    let made : Scan = record { page = c.in_page.result; segment = c.in_ok-trees.bare.segment } in
+    let is : made ≡ in_scan c.in_ok-trees.trees c.in_ok-trees.bare =
+    ap (λ (p : PageRequest). record { page = p; segment = c.in_ok-trees.bare.segment }) c.in_page.ensures in
+    with_both (has_legacy kind.Scan d) kind.Scan (Becomes in_scan) IsScan d (IsScan d) c.read_legacy-legacy.result c.scan-2.result
+    (c.in_ok-trees.trees, c.in_ok-trees.bare) made (sym c.has_legacy.ensures ∙ c.if-not-has_legacy.false)
+    c.read_legacy-legacy.ensures c.scan-2.ensures c.in_ok-trees.ensures is
