@@ -1,8 +1,8 @@
 -- The items of tables that stay, and of one that comes, after a command that is carried out.
-use Rattle.std.specs.Prelude.{nat_eq}
+use Rattle.std.specs.Prelude.{nat_eq, if◌then◌else◌}
 use Rattle.std.specs.List.{AllByRecursion}
 use Rattle.std.proofs.Common.{◌≡◌, ℕ, ◌+◌, Bool, true, false, List, [], ◌∷◌, Option, None, Some, is_some, refl, sym, ap, ◌∙◌, arith}
-use Rattle.std.proofs.lemmas.Bool.{cond_both, eq-eqb}
+use Rattle.std.proofs.lemmas.Bool.{cond_both, eqb-true, eq-eqb}
 use Rattle.attr_value.specs.Tree.{Attributes}
 use Rattle.row_keys.specs.declared.row_key.RowKey.{RowKey}
 use Rattle.txn_core.specs.State.{kept_or}
@@ -10,6 +10,8 @@ use Rattle.cell_model.specs.declared.key.CellKey.{CellKey}
 use Rattle.cell_model.specs.declared.catalog.Catalog.{Catalog}
 use Rattle.cell_model.specs.declared.catalog.CatalogTable.{CatalogTable}
 use Rattle.cell_model.specs.declared.command.CatalogCommand.{CatalogCommand}
+use Rattle.cell_model.specs.declared.answer.CatalogAnswer.{CatalogAnswer}
+use Rattle.cell_model.specs.declared.answer.CatalogAnswer.TheVariants as answer
 use Rattle.cell_model.specs.Catalogs.{numbered, has_table, last_drawn}
 use Rattle.cell_model.specs.Commands.{subject, is_number, catalog_after}
 use Rattle.cell_model.specs.Keys.{table_of}
@@ -17,6 +19,23 @@ use Rattle.cell_model.proofs.Lookups.{bounded, same_table}
 use Rattle.cell_model.proofs.Making.{each_weaker}
 use Rattle.table_history.proofs.Listed.{of_table}
 use Rattle.table_history.proofs.Steps.{Stays}
+
+-- equal numbers are equal either way round
+pub turned : (a b : ℕ) (c : Bool) → nat_eq a b ≡ c → nat_eq b a ≡ c
+turned a b true e = eq-eqb b a (sym (eqb-true a b e))
+turned a b false e = go (nat_eq b a) refl
+  where
+    go : (c : Bool) → nat_eq b a ≡ c → c ≡ false
+    go true f = absurd (let clash : true ≡ false = sym (eq-eqb a b (sym (eqb-true b a f))) ∙ e in cc)
+    go false f = refl
+
+pub itself : (n : ℕ) → nat_eq n n ≡ true
+itself n = eq-eqb n n refl
+
+-- where the table is not there
+pub gone : (o : Option CatalogTable) (told : CatalogAnswer) → (if is_some o then None else Some answer.NoTable) ≡ Some told → (o ≡ None) × (told ≡ answer.NoTable)
+gone None told e = (refl, let same : told ≡ answer.NoTable = cc in same)
+gone (Some t) told e = absurd (cc)
 
 -- a number that is not drawn yet has no table
 pub next_is_free : (c : Catalog) → has_table c (last_drawn c + 1) ≡ false

@@ -1,7 +1,7 @@
 -- A Drop that is carried out takes out the table of the DeleteTable that states it, and one that is refused changes nothing.
-use Rattle.std.specs.Prelude.{nat_eq, if◌then◌else◌}
-use Rattle.std.proofs.Common.{◌≡◌, ℕ, Bool, true, false, List, Option, None, Some, is_some, option_map, refl, sym, ap, ◌∙◌, inl, inr}
-use Rattle.std.proofs.lemmas.Bool.{cond-true, cond-false, eqb-true, eq-eqb}
+use Rattle.std.specs.Prelude.{nat_eq}
+use Rattle.std.proofs.Common.{◌≡◌, ℕ, false, List, Option, None, Some, option_map, refl, sym, ap, ◌∙◌, inl, inr}
+use Rattle.std.proofs.lemmas.Bool.{cond-true, cond-false}
 use Rattle.attr_value.specs.Tree.{Attributes}
 use Rattle.table_model.specs.declared.reply.Reply.{Reply}
 use Rattle.table_model.specs.declared.reply.Reply.TheVariants.{Described, Refused}
@@ -23,26 +23,9 @@ use Rattle.cell_model.proofs.Numbers.{some_parts}
 use Rattle.table_history.specs.Standing.{StandsFor}
 use Rattle.table_history.specs.CommandEffects.{delete_reply}
 use Rattle.table_history.proofs.Carried.{Carried, Denied}
-use Rattle.table_history.proofs.Altered.{items, others_stay}
+use Rattle.table_history.proofs.Altered.{turned, itself, gone, items, others_stay}
 use Rattle.table_history.proofs.Named.{absent_named, found_named}
 use Rattle.table_history.proofs.Steps.{removed_stands}
-
--- equal numbers are equal either way round
-pub turned : (a b : ℕ) (c : Bool) → nat_eq a b ≡ c → nat_eq b a ≡ c
-turned a b true e = eq-eqb b a (sym (eqb-true a b e))
-turned a b false e = go (nat_eq b a) refl
-  where
-    go : (c : Bool) → nat_eq b a ≡ c → c ≡ false
-    go true f = absurd (let clash : true ≡ false = sym (eq-eqb a b (sym (eqb-true b a f))) ∙ e in cc)
-    go false f = refl
-
-pub itself : (n : ℕ) → nat_eq n n ≡ true
-itself n = eq-eqb n n refl
-
--- where the table is not there
-gone : (o : Option CatalogTable) (told : CatalogAnswer) → (if is_some o then None else Some answer.NoTable) ≡ Some told → (o ≡ None) × (told ≡ answer.NoTable)
-gone None told e = (refl, let same : told ≡ answer.NoTable = cc in same)
-gone (Some t) told e = absurd (cc)
 
 dropped : (o : Option CatalogTable) (told : CatalogAnswer) → drop_ruling o ≡ Carries told → (t : CatalogTable) × (o ≡ Some t) × (told ≡ answer.Dropped t.schema)
 dropped None told e = absurd (cc)

@@ -14,3 +14,5 @@ pub mod CreateEffect
 pub mod DeleteEffect
 pub mod UpdateEffect
 pub mod CommandEffects
+pub mod WriteEffects
+pub mod Others

@@ -61,45 +61,57 @@ in_table k m key same =
     let tied : nat_cmp k.table m ≡ Equal = ap (nat_cmp k.table) (sym same) ∙ tied_itself nat_cmp_total k.table in
     ap (λ o. is_eq (ordering_then o (row_order k.key key))) tied
 
-other_table : (k : ItemKey) (m : ℕ) (key : RowKey) → nat_eq k.table m ≡ false → same_key (Item k) (of_table m key) ≡ false
+other_table : (k : ItemKey) (m : ℕ) (key : RowKey) → nat_eq m k.table ≡ false → same_key (Item k) (of_table m key) ≡ false
 other_table k m key apart = go (same_key (Item k) (of_table m key)) refl
   where
     go : (b : Bool) → same_key (Item k) (of_table m key) ≡ b → b ≡ false
     go true e =
         let table : k.table ≡ m = ap table_of (same_is (Item k) (of_table m key) e) in
-        absurd (let clash : true ≡ false = sym (eq-eqb k.table m table) ∙ apart in cc)
+        absurd (let clash : true ≡ false = sym (eq-eqb m k.table (sym table)) ∙ apart in cc)
     go false e = refl
 
-module _ (f g F : CellKey → Option Attributes) (k : CellKey) (is : (q : CellKey) → g q ≡ (if same_key k q then F q else f q)) where
+module _ (f g F : CellKey → Option Attributes) where
+  -- one item is another, and all others are as they were
+  abbrev pub Changes : CellKey → Type 0
+  Changes k = (q : CellKey) → g q ≡ (if same_key k q then F q else f q)
+
   -- what the new item is, wherever the key is met
-  met : (q : CellKey) → g q ≡ cond (same_key k q) (F k) (f q)
-  met q = go (same_key k q) refl (is q)
+  met : (k : CellKey) → Changes k → (q : CellKey) → g q ≡ cond (same_key k q) (F k) (f q)
+  met k is q = go (same_key k q) refl (is q)
     where
       go : (b : Bool) → same_key k q ≡ b → g q ≡ (if b then F q else f q) → g q ≡ cond b (F k) (f q)
       go true e h = h ∙ sym (ap F (same_is k q e))
       go false e h = h
 
-  stays : (m : ℕ) → ((key : RowKey) → same_key k (of_table m key) ≡ false) → IsListing f m → IsListing g m
-  stays m apart l = alike_listed f g m (λ key. met (of_table m key) ∙ ap (λ b. cond b (F k) (f (of_table m key))) (apart key)) l
+  away : (k : CellKey) → Changes k → (m : ℕ) (key : RowKey) → same_key k (of_table m key) ≡ false → g (of_table m key) ≡ f (of_table m key)
+  away k is m key apart = met k is (of_table m key) ∙ ap (λ b. cond b (F k) (f (of_table m key))) apart
 
-pub one_listed : (f g F : CellKey → Option Attributes) (k : CellKey) → ((q : CellKey) → g q ≡ (if same_key k q then F q else f q)) → IsListed f → IsListed g
-one_listed f g F (Row k) is listed m = stays f g F (Row k) is m (λ key. of_rows k m key) (listed m)
-one_listed f g F (Item k) is listed m = go (nat_eq k.table m) refl
-  where
-    go : (b : Bool) → nat_eq k.table m ≡ b → IsListing g m
-    go true e =
-        let same : k.table ≡ m = eqb-true k.table m e in
-        let l = listed m in
-        record {
-          rows = with_item l.rows k.key (F (Item k));
-          ordered = with_sorted l.rows k.key (F (Item k)) l.ordered;
-          at = λ key.
-              with_at l.rows k.key (F (Item k)) l.ordered key
-              ∙ ap (cond (is_at (row_order k.key) key) (F (Item k))) (l.at key)
-              ∙ ap (λ b. cond b (F (Item k)) (f (of_table m key))) (sym (in_table k m key same))
-              ∙ sym (met f g F (Item k) is (of_table m key));
-        }
-    go false e = stays f g F (Item k) is m (λ key. other_table k m key e) (listed m)
+  -- the items of other tables stay
+  pub untouched : (k : ItemKey) → Changes (Item k) → (m : ℕ) → nat_eq m k.table ≡ false → (key : RowKey) → g (of_table m key) ≡ f (of_table m key)
+  untouched k is m apart key = away (Item k) is m key (other_table k m key apart)
+
+  -- in its own table it stands among the rows
+  pub changed_at : (k : ItemKey) → Changes (Item k) → (m : ℕ) → k.table ≡ m → (rows : Rows) → IsStrictlySortedBy row_order (keys_of rows)
+      → ((key : RowKey) → item_at rows key ≡ f (of_table m key)) → (key : RowKey) → item_at (with_item rows k.key (F (Item k))) key ≡ g (of_table m key)
+  changed_at k is m same rows ordered at key =
+      with_at rows k.key (F (Item k)) ordered key
+      ∙ ap (cond (is_at (row_order k.key) key) (F (Item k))) (at key)
+      ∙ ap (λ b. cond b (F (Item k)) (f (of_table m key))) (sym (in_table k m key same))
+      ∙ sym (met (Item k) is (of_table m key))
+
+  pub one_listed : (k : CellKey) → Changes k → IsListed f → IsListed g
+  one_listed (Row k) is listed m = alike_listed f g m (λ key. away (Row k) is m key (of_rows k m key)) (listed m)
+  one_listed (Item k) is listed m = go (nat_eq m k.table) refl
+    where
+      go : (b : Bool) → nat_eq m k.table ≡ b → IsListing g m
+      go true e =
+          let l = listed m in
+          record {
+            rows = with_item l.rows k.key (F (Item k));
+            ordered = with_sorted l.rows k.key (F (Item k)) l.ordered;
+            at = changed_at k is m (sym (eqb-true m k.table e)) l.rows l.ordered l.at;
+          }
+      go false e = alike_listed f g m (untouched k is m e) (listed m)
 
 -- ---- a database of listed items
 

@@ -38,18 +38,13 @@ use Rattle.cell_model.proofs.Numbers.{some_parts}
 use Rattle.table_history.specs.Standing.{IsTableOf, StandsFor}
 use Rattle.table_history.specs.CommandEffects.{index_named, update_reply}
 use Rattle.table_history.proofs.Carried.{Carried, Denied}
-use Rattle.table_history.proofs.Altered.{items, others_stay, items_stay}
-use Rattle.table_history.proofs.DeleteEffect.{turned, itself}
+use Rattle.table_history.proofs.Altered.{turned, itself, gone, items, others_stay, items_stay}
 use Rattle.table_history.proofs.Found.{number_of_named, table_found}
 use Rattle.table_history.proofs.Listed.{of_table}
 use Rattle.table_history.proofs.Named.{absent_named, found_named}
 use Rattle.table_history.proofs.Steps.{Stays, set_stands}
 
--- where the table is not there
-gone : (o : Option CatalogTable) (told : CatalogAnswer) → (if is_some o then None else Some answer.NoTable) ≡ Some told → (o ≡ None) × (told ≡ answer.NoTable)
-gone None told e = (refl, let same : told ≡ answer.NoTable = cc in same)
-gone (Some t) told e = absurd (cc)
-
+-- where it is there
 there : (o : Option CatalogTable) → (if is_some o then None else Some answer.NoTable) ≡ None → (t : CatalogTable) × (o ≡ Some t)
 there None e = absurd (cc)
 there (Some t) e = (t, refl)

@@ -1,5 +1,5 @@
 -- The sequential databases that stand for what a history makes of tables, and for what readers are shown then.
-use Rattle.std.specs.Prelude.{◌≡◌, ℕ, List, Option, reverse}
+use Rattle.std.specs.Prelude.{◌≡◌, ℕ, false, List, [], ◌∷◌, ◌++◌, Option, reverse}
 use Rattle.std.specs.List.{AllZip}
 use Rattle.std.specs.List.Sorted.{IsStrictlySortedBy}
 use Rattle.std.specs.Map.{keys_of}
@@ -9,7 +9,7 @@ use Rattle.row_keys.specs.Keys.{row_order}
 use Rattle.row_keys.specs.Rows.{item_at}
 use Rattle.table_model.specs.Database.{Database, Table}
 use Rattle.txn_core.specs.Legal.{IsLegal}
-use Rattle.txn_core.specs.Laws.{catalog_by, item_by, shown_by}
+use Rattle.txn_core.specs.Laws.{catalog_by, item_by, shown_by, enters_order}
 use Rattle.cell_model.specs.declared.key.CellKey.{CellKey}
 use Rattle.cell_model.specs.declared.key.CellKey.TheVariants.{Item}
 use Rattle.cell_model.specs.declared.catalog.Catalog.{Catalog}
@@ -58,3 +58,8 @@ abbrev pub StandAlike : Type 0
 StandAlike =
     (catalog : Catalog) (item : CellKey → Option Attributes) (db other : Database) → StandsFor catalog item db → StandsFor catalog item other
     → AllZip AreOneTable db.tables other.tables
+
+-- an entry that puts nothing into the one order leaves the tables: a read, a refusal, what is held, a message of the feed
+abbrev pub OthersLeaveTables : ℕ → Type 0
+OthersLeaveTables n =
+    (log : List TableEvent) (e : TableEvent) → enters_order e.message e.answer ≡ false → (db : Database) → HasTables n log db → HasTables n (log ++ e ∷ []) db

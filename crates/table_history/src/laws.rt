@@ -4,7 +4,8 @@ ghost use Rattle.std.specs.Prelude.{ℕ};
 ghost use Rattle.table_history.specs.CommandEffects.{CommandsAreEffects};
 ghost use Rattle.table_history.specs.KeptHistories.{CatalogsAreKept};
 ghost use Rattle.table_history.specs.SameTable.{LooksHold, NumbersStay};
-ghost use Rattle.table_history.specs.Standing.{StandAlike, TablesStand};
+ghost use Rattle.table_history.specs.Standing.{OthersLeaveTables, StandAlike, TablesStand};
+ghost use Rattle.table_history.specs.WriteEffects.{WritesAreEffects};
 
 /// At every point the tables have valid schemas, names and numbers of their own, and each global index has its number.
 pub fn catalogs_of_histories()
@@ -20,14 +21,21 @@ pub fn same_table()
 {}
 
 /// Some sequential database has the tables that the one order of the history makes, and some has what readers are shown. All
-/// that stand for the same have the same tables, rows and schemas.
+/// that stand for the same have the same tables, rows and schemas. What puts nothing into the one order leaves the tables.
 pub fn tables_stand()
     ensures some { (partitions : ℕ) → TablesStand partitions }
     ensures one { StandAlike }
+    ensures others { (partitions : ℕ) → OthersLeaveTables partitions }
 {}
 
 /// Each command of a request does to every database that has the tables what the request does, and is answered its reply:
 /// what is left has the tables with the command's entry.
 pub fn commands_are_effects()
     ensures { (partitions : ℕ) → CommandsAreEffects partitions }
+{}
+
+/// Each single write of a request does to every database that has the tables what the request does, and is answered its
+/// reply: what is left has the tables with the write's entry.
+pub fn writes_are_effects()
+    ensures { (partitions : ℕ) → WritesAreEffects partitions }
 {}
