@@ -78,9 +78,6 @@ const CAPACITY: Member = Member(
 
 const METRICS: Member = Member(Name::ReturnItemCollectionMetrics, Optional, TEXT);
 
-/// Of a request of the catalog, which uses no capacity that could be told.
-const IDLE_CAPACITY: Member = Member(Name::ReturnConsumedCapacity, Optional, TEXT);
-
 const CONDITION: Member = Member(Name::ConditionExpression, Optional, TEXT);
 
 const NAMES: Member = Member(
@@ -157,14 +154,14 @@ pub const CREATE_TABLE: [Member; 9] = [
         Optional,
         Rule::Object(Form::Throughput),
     ),
-    IDLE_CAPACITY,
+    CAPACITY,
     METRICS,
     Member(Name::TableName, Required, TEXT),
 ];
 
 /// API Reference: DeleteTable, DescribeTable, DescribeTimeToLive.
 pub const NAMED_TABLE: [Member; 3] = [
-    IDLE_CAPACITY,
+    CAPACITY,
     METRICS,
     Member(Name::TableName, Required, TABLE_NAME),
 ];
@@ -185,7 +182,7 @@ pub const UPDATE_TABLE: [Member; 7] = [
         Optional,
         Rule::Object(Form::Throughput),
     ),
-    IDLE_CAPACITY,
+    CAPACITY,
     METRICS,
     Member(Name::TableName, Required, TABLE_NAME),
 ];
@@ -201,13 +198,13 @@ pub const LIST_TABLES: [Member; 4] = [
             most: 100,
         },
     ),
-    IDLE_CAPACITY,
+    CAPACITY,
     METRICS,
 ];
 
 /// API Reference: UpdateTimeToLive.
 pub const UPDATE_TIME_TO_LIVE: [Member; 4] = [
-    IDLE_CAPACITY,
+    CAPACITY,
     METRICS,
     Member(Name::TableName, Required, TABLE_NAME),
     Member(

@@ -10,7 +10,7 @@ use Rattle.json.specs.Tree.{json_tokens}
 use Rattle.serde_json.specs.Data.{Data}
 use Rattle.serde_json.specs.Written.{outline}
 use Rattle.capacity.specs.Units.{units}
-use Rattle.table_request.specs.declared.capacity.Consumed.{Consumed}
+use Rattle.table_request.specs.declared.consumed.Consumed.{Consumed}
 
 -- of one table
 abbrev pub capacity : Consumed → Json

@@ -1,7 +1,7 @@
 -- Worked examples: replies with what was consumed of capacity, and one without.
 use Rattle.std.specs.Prelude.{◌≡◌, ℕ, List, [], ◌∷◌, ◌++◌, codes, None, Some}
 use Rattle.attr_value.specs.Tree.{Attributes, no_attributes, attribute, text}
-use Rattle.table_request.specs.declared.capacity.Consumed.{Consumed}
+use Rattle.table_request.specs.declared.consumed.Consumed.{Consumed}
 use Rattle.table_model.specs.declared.reply.Page.{Page}
 use Rattle.table_model.specs.declared.reply.Reply.TheVariants as reply
 use Rattle.api_reply.specs.Bodies.{body_of}

@@ -6,8 +6,9 @@ use Rattle.serde_json.specs.Data.{Data, Items, item}
 use Rattle.api_form.specs.declared.name.Name.TheVariants as name
 use Rattle.table_request.specs.declared.tables.IndexChange.{IndexChange}
 use Rattle.api_request.specs.declared.change.StatedChange.{StatedChange}
-use Rattle.request_parts.specs.declared.refusal.RequestEnd.{RequestEnd}
-use Rattle.request_parts.specs.declared.refusal.RequestEnd.TheVariants.{Refused, NoMemory}
+use Rattle.request_parts.specs.declared.refusal.Refusal.{Refusal}
+use Rattle.base_types.specs.declared.end.End.{End}
+use Rattle.base_types.specs.declared.end.End.TheVariants.{Fault, NoMemory}
 use Rattle.request_parts.specs.Ends.{IsToldOf}
 use Rattle.request_parts.specs.Members.{list_at}
 use Rattle.api_request.specs.Tables.{some_or, change_in, first_change, change_at, StatesChange, IsUnfit, IsChange, IsUpdateTable}
@@ -29,7 +30,7 @@ pub change_stated : (d : Data) (ds : Items) (c : Option StatedChange) (r : Optio
     → ds ≡ list_at name.GlobalSecondaryIndexUpdates d → StatesChange c r → StatesChange (change_at d) r
 change_stated d ds c r is listed told = subst (λ x. StatesChange x r) (is ∙ ap first_change listed) told
 
-pub change_refused : (d : Data) (ds : Items) (c : Option StatedChange) (end : RequestEnd) → c ≡ first_change ds
+pub change_refused : (d : Data) (ds : Items) (c : Option StatedChange) (end : End Refusal) → c ≡ first_change ds
     → ds ≡ list_at name.GlobalSecondaryIndexUpdates d → IsToldOf (IsChange c) (Err end) → IsToldOf (IsUpdateTable d) (Err end)
-change_refused d ds c (Refused why) is listed told = (told.0, subst IsUnfit (is ∙ ap first_change listed) told.1)
+change_refused d ds c (Fault why) is listed told = (told.0, subst IsUnfit (is ∙ ap first_change listed) told.1)
 change_refused d ds c NoMemory is listed told = tt

@@ -2,8 +2,8 @@
 use Rattle.std.proofs.Common.{List, [], ◌∷◌, ◌++◌, append_assoc, append-nil, sym, subst, inl, inr, Err}
 use Rattle.serde_json.specs.Data.{Data, Items}
 use Rattle.request_parts.specs.declared.refusal.Refusal.{Refusal}
-use Rattle.request_parts.specs.declared.refusal.RequestEnd.{RequestEnd}
-use Rattle.request_parts.specs.declared.refusal.RequestEnd.TheVariants.{Refused, NoMemory}
+use Rattle.base_types.specs.declared.end.End.{End}
+use Rattle.base_types.specs.declared.end.End.TheVariants.{Fault, NoMemory}
 use Rattle.request_parts.specs.Ends.{IsToldOf}
 use Rattle.request_parts.specs.Members.{each}
 use Rattle.request_parts.specs.Asks.{Asks, IsRead, IsAccepted, IsRefused, AreAccepted, IsFirstRefused, EachStates, AreParts}
@@ -37,7 +37,7 @@ along_end Left All all done nothing along = (subst All (append-nil done) (along.
 
 -- the refusal of the next one is that of the whole
 pub parts_told : {R : Type 0} (asks : Data → Asks) (States : Data → R → Type 0) (ds : Items) (a : Asks) (others : List Asks) (Left : List R → Type 0)
-    (One : R → Type 0) (done : List R) (end : RequestEnd) → Along Left (EachStates States ds) (a ∷ others) (each asks ds) done
+    (One : R → Type 0) (done : List R) (end : End Refusal) → Along Left (EachStates States ds) (a ∷ others) (each asks ds) done
     → IsToldOf (IsRead a One) (Err end) → IsToldOf (AreParts asks States ds) (Err end)
-parts_told asks States ds a others Left One done (Refused why) along told = along.refused why (inl told)
+parts_told asks States ds a others Left One done (Fault why) along told = along.refused why (inl told)
 parts_told asks States ds a others Left One done NoMemory along told = tt

@@ -5,8 +5,8 @@ use Rattle.serde_json.specs.Find.{as_object}
 use Rattle.serde_json.specs.declared.value.Value.{Value}
 use Rattle.api_form.specs.declared.name.Name.TheVariants as name
 use Rattle.table_request.specs.declared.batches.TableKeys.{TableKeys}
-use Rattle.request_parts.specs.declared.refusal.RequestEnd.{RequestEnd}
-use Rattle.request_parts.specs.declared.refusal.RequestEnd.TheVariants.{Refused, NoMemory}
+use Rattle.base_types.specs.declared.end.End.{End}
+use Rattle.base_types.specs.declared.end.End.TheVariants.{Fault, NoMemory}
 use Rattle.request_parts.specs.Ends.{IsToldOf}
 use Rattle.request_parts.specs.Members.{member_at}
 use Rattle.request_parts.specs.Placeholders.{members_in}
@@ -34,9 +34,9 @@ goes_on k d left all done r is goes = record {
 }
 
 -- the next one is refused
-pub goes_refused : (k : List ℕ) (d : Data) (left all : Members) (done : List TableKeys) (end : RequestEnd) → Goes (member k d left) all done
+pub goes_refused : (k : List ℕ) (d : Data) (left all : Members) (done : List TableKeys) (end : End Refusal) → Goes (member k d left) all done
     → IsToldOf (IsTable k d) (Err end) → IsToldOf (AreTables all) (Err end)
-goes_refused k d left all done (Refused why) goes told = goes.refused why (inl told)
+goes_refused k d left all done (Fault why) goes told = goes.refused why (inl told)
 goes_refused k d left all done NoMemory goes told = tt
 
 -- nothing is left
@@ -45,9 +45,9 @@ goes_all all done goes = subst (λ x. AreTables all (Ok x)) (append-nil done) (g
 
 -- ---- the tables of a batch
 
-pub batch_refused : (d : Data) (ms : Members) (end : RequestEnd) → Some ms ≡ option_and_then as_object (member_at name.RequestItems d)
+pub batch_refused : (d : Data) (ms : Members) (end : End Refusal) → Some ms ≡ option_and_then as_object (member_at name.RequestItems d)
     → IsToldOf (AreTables ms) (Err end) → IsToldOf (IsBatchGet d) (Err end)
-batch_refused d ms (Refused why) is told = subst (λ x. AreTables x (Err why)) (ap (λ x. unwrap_or x no_members) is) told
+batch_refused d ms (Fault why) is told = subst (λ x. AreTables x (Err why)) (ap (λ x. unwrap_or x no_members) is) told
 batch_refused d ms NoMemory is told = tt
 
 pub batch_stated : (d : Data) (ms : Members) (ts : List TableKeys) → Some ms ≡ option_and_then as_object (member_at name.RequestItems d)

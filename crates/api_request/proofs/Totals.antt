@@ -1,5 +1,5 @@
 -- The size of the actions of a transaction, as a number that stops at its limit.
-use Rattle.std.proofs.Common.{◌≡◌, ℕ, ◌+◌, ◌-◌, ◌^◌, ◌<◌, ◌≤◌, List, [], ◌∷◌, min, map, sum_by, refl, sym, ap, subst, ◌∙◌, inl, inr, None, Result, Ok, Err, arith}
+use Rattle.std.proofs.Common.{◌≡◌, ℕ, ◌+◌, ◌-◌, ◌^◌, ◌<◌, ◌≤◌, List, [], ◌∷◌, min, map, sum_by, refl, sym, ap, subst, ◌∙◌, inl, inr, Result, Ok, Err, arith}
 use Rattle.std.proofs.lemmas.List.Sums.{sum_by-cons}
 use Rattle.serde_json.specs.Data.{Data, Items, no_items, item}
 use Rattle.attr_value.specs.declared.value.Value.{Value}
@@ -12,15 +12,16 @@ use Rattle.table_request.specs.declared.transactions.TransactRead.{TransactRead}
 use Rattle.table_request.specs.declared.transactions.Change.{Change}
 use Rattle.table_request.specs.declared.transactions.Change.TheVariants as change
 use Rattle.request_parts.specs.declared.refusal.Refusal.{Refusal}
-use Rattle.request_parts.specs.declared.refusal.RequestEnd.{RequestEnd}
-use Rattle.request_parts.specs.declared.refusal.RequestEnd.TheVariants.{Refused, NoMemory}
+use Rattle.base_types.specs.declared.end.End.{End}
+use Rattle.base_types.specs.declared.end.End.TheVariants.{Fault, NoMemory}
 use Rattle.request_parts.specs.Ends.{IsToldOf}
 use Rattle.request_parts.specs.Members.{list_at, stated_text, each}
 use Rattle.request_parts.specs.Placeholders.{known}
 use Rattle.request_parts.specs.Asks.{AreParts, EachStates, IsFirstRefused}
 use Rattle.api_request.specs.Transactions.{Action, APut, AnUpdate, ADelete, ACheck, action_in, body_of, IsChangeOf, StatesAction, size_of, total_size, value_size}
 use Rattle.api_request.specs.Transactions.{size_beside, read_size, most_bytes, too_large, action_asks, StatesActionIn, AreActions, AreFitting, IsWriteRefused}
-use Rattle.api_request.specs.Transactions.{IsTransactWrite, read_asks, StatesRead, IsTransactGet}
+use Rattle.api_request.specs.Items.{asks_capacity}
+use Rattle.api_request.specs.Transactions.{IsTransactWrite, used_if, read_asks, StatesRead, IsTransactGet}
 
 -- ---- numbers that stop at a limit
 
@@ -78,11 +79,11 @@ total_read (item d ds) (r ∷ rs) states =
 -- ---- all actions
 
 -- what was read and fits is what is stated
-pub fitting_told : (ds : Items) (all : List TransactAction) (result : Result (List TransactAction) RequestEnd) → AreParts action_asks StatesActionIn ds (Ok all)
+pub fitting_told : (ds : Items) (all : List TransactAction) (result : Result (List TransactAction) (End Refusal)) → AreParts action_asks StatesActionIn ds (Ok all)
     → IsToldOf (AreFitting all) result → IsToldOf (AreActions ds) result
 fitting_told ds all (Ok rs) parts told =
     (subst (λ n. n ≤ most_bytes) (sym (total_read ds all parts.0)) told.1, subst (λ xs. AreParts action_asks StatesActionIn ds (Ok xs)) (sym told.0) parts)
-fitting_told ds all (Err (Refused why)) parts told = inl (subst (λ n. most_bytes < n) (sym (total_read ds all parts.0)) told.1, told.0)
+fitting_told ds all (Err (Fault why)) parts told = inl (subst (λ n. most_bytes < n) (sym (total_read ds all parts.0)) told.1, told.0)
 fitting_told ds all (Err NoMemory) parts told = tt
 
 pub fits : (all : List TransactAction) (count : ℕ) → count ≡ min (sum_by read_size all) (2 ^ 64 - 1) → count ≤ most_bytes
@@ -90,36 +91,37 @@ pub fits : (all : List TransactAction) (count : ℕ) → count ≡ min (sum_by r
 fits all count is room = (refl, within (sum_by read_size all) count is room)
 
 pub fits_not : (all : List TransactAction) (count : ℕ) → count ≡ min (sum_by read_size all) (2 ^ 64 - 1) → most_bytes < count
-    → IsToldOf (AreFitting all) (Err (Refused too_large))
+    → IsToldOf (AreFitting all) (Err (Fault too_large))
 fits_not all count is much = (refl, above (sum_by read_size all) count is much)
 
 -- what is refused, by the size of what is stated
-pub refused_large : (ds : Items) (count : ℕ) → count ≡ min (total_size ds) (2 ^ 64 - 1) → most_bytes < count → IsToldOf (AreActions ds) (Err (Refused too_large))
+pub refused_large : (ds : Items) (count : ℕ) → count ≡ min (total_size ds) (2 ^ 64 - 1) → most_bytes < count → IsToldOf (AreActions ds) (Err (Fault too_large))
 refused_large ds count is much = inl (above (total_size ds) count is much, refl)
 
 pub refused_within : (ds : Items) (count : ℕ) (why : Refusal) → count ≡ min (total_size ds) (2 ^ 64 - 1) → count ≤ most_bytes
-    → IsFirstRefused (each action_asks ds) why → IsToldOf (AreActions ds) (Err (Refused why))
+    → IsFirstRefused (each action_asks ds) why → IsToldOf (AreActions ds) (Err (Fault why))
 refused_within ds count why is room told = inr (within (total_size ds) count is room, told)
 
-pub write_refused : (d : Data) (ds : Items) (end : RequestEnd) → ds ≡ list_at name.TransactItems d
+pub write_refused : (d : Data) (ds : Items) (end : End Refusal) → ds ≡ list_at name.TransactItems d
     → IsToldOf (AreActions ds) (Err end) → IsToldOf (IsTransactWrite d) (Err end)
-write_refused d ds (Refused why) listed told = subst (λ x. IsWriteRefused x why) listed told
+write_refused d ds (Fault why) listed told = subst (λ x. IsWriteRefused x why) listed told
 write_refused d ds NoMemory listed told = tt
 
 pub write_stated : (d : Data) (ds : Items) (r : TransactWrite) → ds ≡ list_at name.TransactItems d
-    → AreActions ds (Ok r.actions) → r.token ≡ stated_text name.ClientRequestToken d → r.consumed ≡ None → IsToldOf (IsTransactWrite d) (Ok r)
-write_stated d ds r listed told token none = record {
+    → AreActions ds (Ok r.actions) → r.token ≡ stated_text name.ClientRequestToken d → r.consumed ≡ used_if (asks_capacity d) r.actions
+    → IsToldOf (IsTransactWrite d) (Ok r)
+write_stated d ds r listed told token used = record {
   room = subst (λ x. total_size x ≤ most_bytes) listed told.0;
   actions = subst (λ x. AreParts action_asks StatesActionIn x (Ok r.actions)) listed told.1;
   token = token;
-  consumed = none;
+  consumed = used;
 }
 
 -- ---- all reads
 
-pub gets_refused : (d : Data) (ds : Items) (end : RequestEnd) → ds ≡ list_at name.TransactItems d
+pub gets_refused : (d : Data) (ds : Items) (end : End Refusal) → ds ≡ list_at name.TransactItems d
     → IsToldOf (AreParts read_asks StatesRead ds) (Err end) → IsToldOf (IsTransactGet d) (Err end)
-gets_refused d ds (Refused why) listed told = subst (λ x. IsFirstRefused (each read_asks x) why) listed told
+gets_refused d ds (Fault why) listed told = subst (λ x. IsFirstRefused (each read_asks x) why) listed told
 gets_refused d ds NoMemory listed told = tt
 
 pub gets_stated : (d : Data) (ds : Items) (rs : List TransactRead) → ds ≡ list_at name.TransactItems d

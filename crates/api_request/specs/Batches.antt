@@ -1,6 +1,6 @@
 -- What the bodies of BatchGetItem and BatchWriteItem state (API Reference: BatchGetItem, BatchWriteItem). Tables come in
 -- the order of their names' bytes, as the members of the body's object do.
-use Rattle.std.specs.Prelude.{◌≡◌, ◌⊎◌, ⊤, ℕ, List, [], ◌∷◌, false, Option, Some, None, option_map, option_and_then, Result, Ok, Err}
+use Rattle.std.specs.Prelude.{◌≡◌, ◌⊎◌, ⊤, ℕ, List, [], ◌∷◌, Option, Some, None, option_map, option_and_then, Result, Ok, Err}
 use Rattle.serde_json.specs.Data.{Data, Members, no_members, member}
 use Rattle.serde_json.specs.Find.{as_object}
 use Rattle.attr_value.specs.Tree.{Attributes}
@@ -19,6 +19,7 @@ use Rattle.request_parts.specs.Asks.{IsPart}
 use Rattle.request_parts.specs.Parts.{projection_asks}
 use Rattle.request_parts.specs.Trees.{StatesPaths}
 use Rattle.request_parts.specs.declared.legacy.LegacyKind.TheVariants as kind
+use Rattle.api_request.specs.Items.{asks_capacity}
 use Rattle.api_request.specs.Legacy.{WithLegacy, in_table}
 
 -- the placeholders of names, where they are stated
@@ -47,7 +48,7 @@ AreTables (member k d ms) (Err why) = IsTable k d (Err why) ⊎ ((r : TableKeys)
 AreTables _ _ = ⊥
 
 abbrev pub IsBatchGet : Data → Result BatchGet Refusal → Type 0
-IsBatchGet d (Ok r) = AreTables (members_in name.RequestItems d) (Ok r.tables) × (r.capacity ≡ false)
+IsBatchGet d (Ok r) = AreTables (members_in name.RequestItems d) (Ok r.tables) × (r.capacity ≡ asks_capacity d)
 IsBatchGet d (Err why) = AreTables (members_in name.RequestItems d) (Err why)
 
 -- an item that is put, or else one that is dropped by its key
@@ -64,4 +65,4 @@ table_writes (member k d ms) = record { table = k; writes = each write_in (eleme
 
 pub record IsBatchWrite (d : Data) (r : BatchWrite) : Type 0 where
   pub tables : r.tables ≡ table_writes (members_in name.RequestItems d)
-  pub capacity : r.capacity ≡ false
+  pub capacity : r.capacity ≡ asks_capacity d

@@ -1,6 +1,5 @@
--- What the bodies of requests of one item state (API Reference: PutItem, GetItem, UpdateItem, DeleteItem). No request asks
--- for capacity: ReturnConsumedCapacity is read for its word alone.
-use Rattle.std.specs.Prelude.{◌≡◌, List, ℕ, Bool, false, Result, map, codes, bytes_eq, if◌then◌else◌}
+-- What the bodies of requests of one item state (API Reference: PutItem, GetItem, UpdateItem, DeleteItem).
+use Rattle.std.specs.Prelude.{◌≡◌, List, ℕ, Bool, ◌||◌, Result, map, codes, bytes_eq, if◌then◌else◌}
 use Rattle.serde_json.specs.Data.{Data}
 use Rattle.attr_value.specs.View.{tree_of}
 use Rattle.api_form.specs.declared.name.Name.TheVariants as name
@@ -29,6 +28,13 @@ returns_named word =
 abbrev pub shows_old : Data → Bool
 shows_old d = bytes_eq (text_at name.ReturnValuesOnConditionCheckFailure d) (codes "ALL_OLD")
 
+-- whether the capacity that is used is told: INDEXES tells the same as TOTAL
+abbrev pub tells_capacity : List ℕ → Bool
+tells_capacity word = bytes_eq word (codes "TOTAL") || bytes_eq word (codes "INDEXES")
+
+abbrev pub asks_capacity : Data → Bool
+asks_capacity d = tells_capacity (text_at name.ReturnConsumedCapacity d)
+
 -- the expressions of an update
 abbrev pub update_asks : Data → Asks
 update_asks d = record {
@@ -43,7 +49,7 @@ pub record StatesPutItem (d : Data) (r : PutItem) : Type 0 where
   pub values : map tree_of r.values ≡ (known d).values
   pub return_values : r.return_values ≡ returns_named (text_at name.ReturnValues d)
   pub show_old : r.show_old ≡ shows_old d
-  pub capacity : r.capacity ≡ false
+  pub capacity : r.capacity ≡ asks_capacity d
 
 abbrev pub IsPutItem : Data → Result PutItem Refusal → Type 0
 IsPutItem = IsPart condition_asks StatesPutItem
@@ -53,7 +59,7 @@ pub record StatesGetItem (d : Data) (r : GetItem) : Type 0 where
   pub key : r.key ≡ item_at name.Key d
   pub projection : StatesPaths (known_names d) (stated_text name.ProjectionExpression d) r.projection
   pub consistent : r.consistent ≡ flag_at name.ConsistentRead d
-  pub capacity : r.capacity ≡ false
+  pub capacity : r.capacity ≡ asks_capacity d
 
 abbrev pub IsGetItem : Data → Result GetItem Refusal → Type 0
 IsGetItem = IsPart projection_asks StatesGetItem
@@ -66,7 +72,7 @@ pub record StatesUpdateItem (d : Data) (r : UpdateItem) : Type 0 where
   pub values : map tree_of r.values ≡ (known d).values
   pub return_values : r.return_values ≡ returns_named (text_at name.ReturnValues d)
   pub show_old : r.show_old ≡ shows_old d
-  pub capacity : r.capacity ≡ false
+  pub capacity : r.capacity ≡ asks_capacity d
 
 abbrev pub IsUpdateItem : Data → Result UpdateItem Refusal → Type 0
 IsUpdateItem = IsPart update_asks StatesUpdateItem
@@ -78,7 +84,7 @@ pub record StatesDeleteItem (d : Data) (r : DeleteItem) : Type 0 where
   pub values : map tree_of r.values ≡ (known d).values
   pub return_values : r.return_values ≡ returns_named (text_at name.ReturnValues d)
   pub show_old : r.show_old ≡ shows_old d
-  pub capacity : r.capacity ≡ false
+  pub capacity : r.capacity ≡ asks_capacity d
 
 abbrev pub IsDeleteItem : Data → Result DeleteItem Refusal → Type 0
 IsDeleteItem = IsPart condition_asks StatesDeleteItem

@@ -11,7 +11,7 @@ use Rattle.table_request.specs.declared.pages.Query.{Query}
 use Rattle.table_request.specs.declared.pages.Scan.{Scan}
 use Rattle.table_request.specs.declared.batches.TableKeys.{TableKeys}
 use Rattle.request_parts.specs.declared.refusal.Refusal.{Refusal}
-use Rattle.request_parts.specs.declared.refusal.RequestEnd.{RequestEnd}
+use Rattle.base_types.specs.declared.end.End.{End}
 use Rattle.request_parts.specs.declared.legacy.LegacyKind.{LegacyKind}
 use Rattle.request_parts.specs.declared.legacy.LegacyKind.TheVariants as kind
 use Rattle.request_parts.specs.declared.legacy.LegacyTrees.{LegacyTrees}
@@ -75,7 +75,7 @@ IsAnyQuery d = IsEither (has_legacy kind.Query d) (IsBeside kind.Query (IsInQuer
 -- ---- steps of the code
 
 -- a Query is made where there is a key condition
-abbrev pub IsQueryOf : LegacyTrees → PageRequest → Bool → Result Query RequestEnd → Type 0
+abbrev pub IsQueryOf : LegacyTrees → PageRequest → Bool → Result Query (End Refusal) → Type 0
 IsQueryOf t b forward (Ok r) = (r.page ≡ in_page t b) × (t.key_condition ≡ Some r.key_condition) × (r.forward ≡ forward)
 IsQueryOf t b forward (Err end) = t.key_condition ≡ None
 

@@ -1,5 +1,5 @@
 -- What the bodies of Query and Scan state (API Reference: Query, Scan).
-use Rattle.std.specs.Prelude.{◌≡◌, ℕ, List, true, false, Option, option_map, unwrap_or, Result, Ok, map, codes, bytes_eq, if◌then◌else◌}
+use Rattle.std.specs.Prelude.{◌≡◌, ℕ, List, true, Option, option_map, unwrap_or, Result, Ok, map, codes, bytes_eq, if◌then◌else◌}
 use Rattle.serde_json.specs.Data.{Data}
 use Rattle.attr_value.specs.View.{tree_of}
 use Rattle.expr_words.specs.Trees.{tree}
@@ -19,6 +19,7 @@ use Rattle.request_parts.specs.Placeholders.{known}
 use Rattle.request_parts.specs.Expressions.{ConditionOf}
 use Rattle.request_parts.specs.Asks.{Asks, IsPart, showing, querying}
 use Rattle.request_parts.specs.Trees.{StatesCondition, StatesPaths}
+use Rattle.api_request.specs.Items.{asks_capacity}
 
 -- which attributes a word selects; the form has no other words
 abbrev pub select_named : List ℕ → Select
@@ -42,7 +43,7 @@ pub record StatesPage (d : Data) (r : PageRequest) : Type 0 where
   pub limit : r.limit ≡ stated_whole name.Limit d
   pub start : r.start ≡ stated_item name.ExclusiveStartKey d
   pub consistent : r.consistent ≡ flag_at name.ConsistentRead d
-  pub capacity : r.capacity ≡ false
+  pub capacity : r.capacity ≡ asks_capacity d
 
 -- the expressions of a Scan
 abbrev pub scan_asks : Data → Asks
@@ -85,6 +86,7 @@ rows d = record {
   limit = stated_whole name.Limit d;
   start = stated_item name.ExclusiveStartKey d;
   consistent = flag_at name.ConsistentRead d;
+  capacity = asks_capacity d;
 }
 
 -- how a page is put together
@@ -98,4 +100,4 @@ pub record IsPageOf (at : Rows) (t : PageTrees) (vs : List Value) (r : PageReque
   pub limit : r.limit ≡ at.limit
   pub start : r.start ≡ at.start
   pub consistent : r.consistent ≡ at.consistent
-  pub capacity : r.capacity ≡ false
+  pub capacity : r.capacity ≡ at.capacity

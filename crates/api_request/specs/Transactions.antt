@@ -1,5 +1,5 @@
 -- What the bodies of TransactWriteItems and TransactGetItems state (API Reference: TransactWriteItems, TransactGetItems).
-use Rattle.std.specs.Prelude.{◌≡◌, ◌≤◌, ◌<◌, ◌+◌, ◌⊎◌, ℕ, List, false, map, sum_by, Option, Some, None, unwrap_or, Result, Ok, Err}
+use Rattle.std.specs.Prelude.{◌≡◌, ◌≤◌, ◌<◌, ◌+◌, ◌⊎◌, ℕ, List, Bool, map, sum_by, if◌then◌else◌, Option, Some, None, unwrap_or, Result, Ok, Err}
 use Rattle.serde_json.specs.Data.{Data, Items, no_items, item}
 use Rattle.attr_value.specs.declared.value.Value.{Value}
 use Rattle.attr_value.specs.Sizes.{size, item_size}
@@ -7,6 +7,10 @@ use Rattle.attr_value.specs.View.{tree_of}
 use Rattle.expr_parse.specs.Update.{update_tree}
 use Rattle.api_form.specs.declared.name.Name.TheVariants as name
 use Rattle.api_form.specs.declared.fault.Fault.TheVariants as fault
+use Rattle.capacity.specs.declared.halves.Mode.TheVariants.{Transact}
+use Rattle.capacity.specs.Units.{counted, write_halves}
+use Rattle.table_request.specs.Usage.{by_table}
+use Rattle.table_request.specs.declared.consumed.Consumed.{Consumed}
 use Rattle.table_request.specs.declared.transactions.TransactWrite.{TransactWrite}
 use Rattle.table_request.specs.declared.transactions.TransactAction.{TransactAction}
 use Rattle.table_request.specs.declared.transactions.Change.{Change}
@@ -24,7 +28,7 @@ use Rattle.request_parts.specs.Expressions.{UpdateOf}
 use Rattle.request_parts.specs.Asks.{Asks, AreParts, IsFirstRefused, writing}
 use Rattle.request_parts.specs.Parts.{condition_asks, projection_asks}
 use Rattle.request_parts.specs.Trees.{StatesCondition, StatesPaths}
-use Rattle.api_request.specs.Items.{shows_old}
+use Rattle.api_request.specs.Items.{shows_old, asks_capacity}
 
 -- ---- one action
 
@@ -107,11 +111,33 @@ total_size (item d ds) = size_of (action_in d) + total_size ds
 abbrev pub most_bytes : ℕ
 most_bytes = 4194304
 
+abbrev pub value_size : Value → ℕ
+value_size v = size (tree_of v)
+
+-- the size of a change, beside values of this size
+abbrev pub size_beside : ℕ → Change → ℕ
+size_beside n (change.Put new) = item_size new
+size_beside n (change.Update key update) = item_size key + n
+size_beside n (change.Delete key) = item_size key + n
+size_beside n (change.Check key) = item_size key + n
+
+-- the size of an action that was read
+abbrev pub read_size : TransactAction → ℕ
+read_size r = size_beside (sum_by value_size r.values) r.change
+
+-- what an action uses of its table's capacity
+abbrev pub used_by : TransactAction → Consumed
+used_by r = record { table = r.table; halves = write_halves Transact (counted (read_size r)) }
+
+-- what all actions use, of each table in the order of the names, where that is told
+abbrev pub used_if : Bool → List TransactAction → Option (List Consumed)
+used_if asked actions = if asked then Some (by_table (map used_by actions)) else None
+
 pub record StatesTransactWrite (d : Data) (r : TransactWrite) : Type 0 where
   pub room : total_size (list_at name.TransactItems d) ≤ most_bytes
   pub actions : AreParts action_asks StatesActionIn (list_at name.TransactItems d) (Ok r.actions)
   pub token : r.token ≡ stated_text name.ClientRequestToken d
-  pub consumed : r.consumed ≡ None
+  pub consumed : r.consumed ≡ used_if (asks_capacity d) r.actions
 
 -- the refusal of actions that are too large together
 abbrev pub too_large : Refusal
@@ -146,7 +172,7 @@ abbrev pub read_asks : Data → Asks
 read_asks d = projection_asks (get_in d)
 
 abbrev pub IsTransactGet : Data → Result TransactGet Refusal → Type 0
-IsTransactGet d (Ok r) = AreParts read_asks StatesRead (list_at name.TransactItems d) (Ok r.reads) × (r.capacity ≡ false)
+IsTransactGet d (Ok r) = AreParts read_asks StatesRead (list_at name.TransactItems d) (Ok r.reads) × (r.capacity ≡ asks_capacity d)
 IsTransactGet d (Err why) = IsFirstRefused (each read_asks (list_at name.TransactItems d)) why
 
 -- ---- what the code hands on
@@ -156,20 +182,6 @@ of_code (shown.Put json) = APut (view json.now)
 of_code (shown.Update json) = AnUpdate (view json.now)
 of_code (shown.Delete json) = ADelete (view json.now)
 of_code (shown.Check json) = ACheck (view json.now)
-
-abbrev pub value_size : Value → ℕ
-value_size v = size (tree_of v)
-
--- the size of a change, beside values of this size
-abbrev pub size_beside : ℕ → Change → ℕ
-size_beside n (change.Put new) = item_size new
-size_beside n (change.Update key update) = item_size key + n
-size_beside n (change.Delete key) = item_size key + n
-size_beside n (change.Check key) = item_size key + n
-
--- the size of an action that was read
-abbrev pub read_size : TransactAction → ℕ
-read_size r = size_beside (sum_by value_size r.values) r.change
 
 -- the actions of a transaction, or the first refusal of them
 abbrev pub AreActions : Items → Result (List TransactAction) Refusal → Type 0

@@ -177,7 +177,7 @@ pub(crate) fn read_total(actions: &[TransactAction]) -> u64
 }
 
 /// The size of an action that was read: of the item that is put, else of the key and the values.
-fn read_size(action: &TransactAction) -> u64
+pub(crate) fn read_size(action: &TransactAction) -> u64
     ensures { result ≡ min (read_size action.now) u64.MAX }
 {
     match &action.change {

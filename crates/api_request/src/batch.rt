@@ -9,6 +9,7 @@ ghost use Rattle.request_parts.specs.Asks.{IsPart};
 ghost use Rattle.request_parts.specs.Parts.{projection_asks};
 ghost use Rattle.api_request.specs.Batches.{StatesKeys, stated_names, AreTables, IsBatchGet, table_writes, IsBatchWrite};
 
+use crate::item::asks_capacity;
 use crate::legacy;
 use crate::stated::{Stated, read_all};
 use api_form::Name;
@@ -32,12 +33,12 @@ pub fn batch_get(alloc: Global, json: &Value) -> Result<BatchGet, RequestEnd>
             let tables = all_keys(alloc, members)?;
             Ok(BatchGet {
                 tables,
-                capacity: false,
+                capacity: asks_capacity(json),
             })
         }
         None => Ok(BatchGet {
             tables: Seq::new(alloc),
-            capacity: false,
+            capacity: asks_capacity(json),
         }),
     }
 }
@@ -94,12 +95,12 @@ pub fn batch_write(alloc: Global, json: &Value) -> Result<BatchWrite, NoMemory>
             let tables = all_writes(alloc, members)?;
             Ok(BatchWrite {
                 tables,
-                capacity: false,
+                capacity: asks_capacity(json),
             })
         }
         None => Ok(BatchWrite {
             tables: Seq::new(alloc),
-            capacity: false,
+            capacity: asks_capacity(json),
         }),
     }
 }

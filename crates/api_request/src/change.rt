@@ -63,7 +63,7 @@ fn index_change(stated: Option<StatedChange>) -> Result<Option<IndexChange>, Req
         Some(StatedChange::Remove(name)) => Ok(Some(IndexChange::Remove(name))),
         Some(StatedChange::Make(index)) => match index.into_global() {
             Some(index) => Ok(Some(IndexChange::Make(index))),
-            None => Err(RequestEnd::Refused(Refusal::Schema(SchemaFault::BadIndexKey))),
+            None => Err(RequestEnd::Fault(Refusal::Schema(SchemaFault::BadIndexKey))),
         },
     }
 }

@@ -3,7 +3,7 @@
 ghost use Rattle.std.specs.Prelude.{◌≡◌};
 ghost use Rattle.serde_json.specs.View.{view};
 ghost use Rattle.request_parts.specs.Ends.{IsToldOf};
-ghost use Rattle.api_request.specs.Items.{returns_named, shows_old, IsPutItem, IsGetItem, IsUpdateItem, IsDeleteItem};
+ghost use Rattle.api_request.specs.Items.{returns_named, shows_old, asks_capacity, IsPutItem, IsGetItem, IsUpdateItem, IsDeleteItem};
 
 use api_form::Name;
 use request_parts::{
@@ -26,7 +26,7 @@ pub fn put_item(alloc: Global, json: &Value) -> Result<PutItem, RequestEnd>
         values: parts.values,
         return_values: returns_named(text_at(json, Name::ReturnValues)),
         show_old: shows_old(json),
-        capacity: false,
+        capacity: asks_capacity(json),
     })
 }
 
@@ -40,7 +40,7 @@ pub fn get_item(alloc: Global, json: &Value) -> Result<GetItem, RequestEnd>
         key: parts.placed.item,
         projection: parts.projection,
         consistent: flag_at(json, Name::ConsistentRead),
-        capacity: false,
+        capacity: asks_capacity(json),
     })
 }
 
@@ -61,7 +61,7 @@ pub fn update_item(alloc: Global, json: &Value) -> Result<UpdateItem, RequestEnd
         values: placeholders.values,
         return_values: returns_named(text_at(json, Name::ReturnValues)),
         show_old: shows_old(json),
-        capacity: false,
+        capacity: asks_capacity(json),
     })
 }
 
@@ -77,7 +77,7 @@ pub fn delete_item(alloc: Global, json: &Value) -> Result<DeleteItem, RequestEnd
         values: parts.values,
         return_values: returns_named(text_at(json, Name::ReturnValues)),
         show_old: shows_old(json),
-        capacity: false,
+        capacity: asks_capacity(json),
     })
 }
 
@@ -99,4 +99,13 @@ pub(crate) fn shows_old(json: &Value) -> bool
     ensures { result ≡ shows_old (view json.now) }
 {
     text_at(json, Name::ReturnValuesOnConditionCheckFailure) == "ALL_OLD"
+}
+
+/// Whether the capacity that is used is told; INDEXES tells the same as TOTAL (API Reference: GetItem,
+/// ReturnConsumedCapacity).
+pub(crate) fn asks_capacity(json: &Value) -> bool
+    ensures { result ≡ asks_capacity (view json.now) }
+{
+    let word = text_at(json, Name::ReturnConsumedCapacity);
+    word == "TOTAL" || word == "INDEXES"
 }

@@ -154,7 +154,7 @@ fn in_query(trees: LegacyTrees, bare: PageRequest, forward: bool) -> Result<Quer
         }),
         None => {
             let missing = Fault::Missing(Name::KeyConditionExpression);
-            Err(RequestEnd::Refused(Refusal::Body(missing)))
+            Err(RequestEnd::Fault(Refusal::Body(missing)))
         }
     }
 }

@@ -33,7 +33,7 @@ pub fn read(alloc: Global, target: Option<&[u8]>, body: &[u8]) -> Result<Request
 {
     match operation_named(target) {
         Some(operation) => of_body(alloc, operation, body),
-        None => Err(RequestEnd::Refused(Refusal::UnknownOperation)),
+        None => Err(RequestEnd::Fault(Refusal::UnknownOperation)),
     }
 }
 
@@ -45,7 +45,7 @@ fn of_body(alloc: Global, operation: Operation, body: &[u8]) -> Result<Request, 
     match Value::from_slice(alloc, body) {
         Ok(json) => of_json(alloc, operation, &json),
         Err(error) if error.is_memory() => Err(RequestEnd::NoMemory),
-        Err(_) => Err(RequestEnd::Refused(Refusal::Serialization)),
+        Err(_) => Err(RequestEnd::Fault(Refusal::Serialization)),
     }
 }
 
@@ -54,7 +54,7 @@ fn of_json(alloc: Global, operation: Operation, json: &Value) -> Result<Request,
     ensures { IsToldOf (IsOfData operation (view json.now)) result }
 {
     match check_body(alloc, form_of(operation), json)? {
-        Some(fault) => Err(RequestEnd::Refused(refusal_of(fault))),
+        Some(fault) => Err(RequestEnd::Fault(refusal_of(fault))),
         None => stated(alloc, operation, json),
     }
 }

@@ -6,6 +6,7 @@ ghost use Rattle.request_parts.specs.Asks.{IsPart};
 ghost use Rattle.request_parts.specs.Ends.{IsToldOf};
 ghost use Rattle.api_request.specs.Pages.{select_named, rows, segment_of, StatesPage, scan_asks, IsScan, IsQuery, IsPageOf};
 
+use crate::item::asks_capacity;
 use api_form::Name;
 use attr_value::{Item, Value};
 use base_types::{Seq, Text};
@@ -26,6 +27,7 @@ pub(crate) struct Rows {
     pub limit: Option<u64>,
     pub start: Option<Item>,
     pub consistent: bool,
+    pub capacity: bool,
 }
 
 impl Rows {
@@ -40,6 +42,7 @@ impl Rows {
             limit: stated_whole(json, Name::Limit),
             start: stated_item(alloc, json, Name::ExclusiveStartKey)?,
             consistent: flag_at(json, Name::ConsistentRead),
+            capacity: asks_capacity(json),
         })
     }
 }
@@ -80,7 +83,7 @@ fn page_of(rows: Rows, trees: PageTrees, values: Seq<Value>) -> PageRequest
         limit: rows.limit,
         start: rows.start,
         consistent: rows.consistent,
-        capacity: false,
+        capacity: rows.capacity,
     }
 }
 

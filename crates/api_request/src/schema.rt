@@ -23,7 +23,7 @@ pub fn create_table(alloc: Global, json: &Value) -> Result<CreateTable, RequestE
 {
     match stated_schema(alloc, json)?.into_schema(alloc) {
         Ok(schema) => Ok(CreateTable { schema }),
-        Err(SchemaEnd::Fault(fault)) => Err(RequestEnd::Refused(Refusal::Schema(fault))),
+        Err(SchemaEnd::Fault(fault)) => Err(RequestEnd::Fault(Refusal::Schema(fault))),
         Err(SchemaEnd::NoMemory) => Err(RequestEnd::NoMemory),
     }
 }

@@ -1,22 +1,25 @@
 //! Requests on many items at one point.
 
-ghost use Rattle.std.specs.Prelude.{◌≡◌};
+ghost use Rattle.std.specs.Prelude.{◌≡◌, map, IfOk};
 ghost use Rattle.serde_json.specs.View.{view, items_view};
 ghost use Rattle.request_parts.specs.Ends.{IsToldOf};
-ghost use Rattle.request_parts.specs.declared.refusal.RequestEnd.TheVariants as end;
+ghost use Rattle.base_types.specs.declared.end.End.TheVariants as end;
 ghost use Rattle.request_parts.specs.Members.{each};
 ghost use Rattle.request_parts.specs.Asks.{IsPart, IsFirstRefused};
 ghost use Rattle.request_parts.specs.Parts.{projection_asks};
-ghost use Rattle.api_request.specs.Transactions.{StatesGet, IsTransactWrite, IsTransactGet, AreActions, AreFitting, action_asks, too_large};
+ghost use Rattle.table_request.specs.Usage.{by_table};
+ghost use Rattle.api_request.specs.Transactions.{StatesGet, IsTransactWrite, IsTransactGet, AreActions, AreFitting, action_asks, too_large, used_by, used_if};
 
-use crate::action::{read_total, total_size};
+use crate::action::{read_size, read_total, total_size};
+use crate::item::asks_capacity;
 use crate::part::{Part, read_parts};
 use api_form::{Fault, Name};
 use base_types::Seq;
+use capacity::{Mode, write_halves};
 use request_parts::{Projected, Refusal, RequestEnd, list_at, object_at, stated_copy};
 use serde_json::Value;
 use std::alloc::{AllocError as NoMemory, Global};
-use table_request::{TransactAction, TransactGet, TransactRead, TransactWrite};
+use table_request::{Consumed, TransactAction, TransactGet, TransactRead, TransactWrite, Usage};
 
 /// The most bytes of the items, keys and values of a TransactWriteItems.
 const MOST_BYTES: u64 = 4_194_304;
@@ -28,11 +31,38 @@ pub fn transact_write(alloc: Global, json: &Value) -> Result<TransactWrite, Requ
 {
     let token = stated_copy(alloc, json, Name::ClientRequestToken)?;
     let actions = read_actions(alloc, list_at(json, Name::TransactItems))?;
+    let consumed = used_if(asks_capacity(json), alloc, actions.as_slice())?;
     Ok(TransactWrite {
         actions,
         token,
-        consumed: None,
+        consumed,
     })
+}
+
+/// What all actions use, of each table, in the order of the tables' names.
+fn used(alloc: Global, actions: &[TransactAction]) -> Result<Seq<Consumed>, NoMemory>
+    ensures { IfOk result (λ used. used ≡ by_table (map used_by actions.now)) }
+{
+    let mut usage = Usage::new(alloc);
+    for action in actions {
+        let halves = write_halves(read_size(action), Mode::Transact);
+        usage.add(&action.table, halves)?;
+    }
+    usage.into_consumed(alloc)
+}
+
+/// The same where it is told. Else nothing is measured.
+fn used_if(
+    capacity: bool,
+    alloc: Global,
+    actions: &[TransactAction],
+) -> Result<Option<Seq<Consumed>>, NoMemory>
+    ensures { IfOk result (λ used. used ≡ used_if capacity actions.now) }
+{
+    if !capacity {
+        return Ok(None);
+    }
+    Ok(Some(used(alloc, actions)?))
 }
 
 /// The actions that elements state, or why they are refused: they are too large together, or else an expression is refused.
@@ -44,7 +74,7 @@ fn read_actions(alloc: Global, items: &[Value]) -> Result<Seq<TransactAction>, R
 {
     match read_parts::<TransactAction>(alloc, items) {
         Ok(actions) => fitting(actions),
-        Err(RequestEnd::Refused(refusal)) => refused(alloc, items, refusal),
+        Err(RequestEnd::Fault(refusal)) => refused(alloc, items, refusal),
         Err(RequestEnd::NoMemory) => Err(RequestEnd::NoMemory),
     }
 }
@@ -76,7 +106,7 @@ fn refused(
                 drop(refusal);
                 return Err(too_large());
             }
-            Err(RequestEnd::Refused(refusal))
+            Err(RequestEnd::Fault(refusal))
         }
         Err(NoMemory) => {
             drop(refusal);
@@ -87,9 +117,9 @@ fn refused(
 
 /// The refusal of actions that are too large together.
 fn too_large() -> RequestEnd
-    ensures { result ≡ end.Refused too_large }
+    ensures { result ≡ end.Fault too_large }
 {
-    RequestEnd::Refused(Refusal::Body(Fault::OutOfRange(Name::TransactItems)))
+    RequestEnd::Fault(Refusal::Body(Fault::OutOfRange(Name::TransactItems)))
 }
 
 /// What the body of a TransactGetItems states (API Reference: TransactGetItems), or why the expression of a read is
@@ -100,7 +130,7 @@ pub fn transact_get(alloc: Global, json: &Value) -> Result<TransactGet, RequestE
     let reads = read_parts::<TransactRead>(alloc, list_at(json, Name::TransactItems))?;
     Ok(TransactGet {
         reads,
-        capacity: false,
+        capacity: asks_capacity(json),
     })
 }
 

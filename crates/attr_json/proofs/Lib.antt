@@ -4,6 +4,5 @@ pub mod Reading
 pub mod Members
 pub mod Only
 pub mod Loops
-pub mod Writing
 pub mod ReadBack
 pub mod Faults

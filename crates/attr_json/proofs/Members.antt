@@ -11,8 +11,8 @@ use Rattle.serde_json.specs.declared.value.Value.{Value}
 use Rattle.attr_value.specs.Tree.{Tree, Attributes, no_attributes, attribute}
 use Rattle.attr_value.specs.Paths.{put}
 use Rattle.attr_json.specs.declared.fault.JsonFault.{JsonFault}
-use Rattle.attr_json.specs.declared.fault.JsonEnd.{JsonEnd}
-use Rattle.attr_json.specs.declared.fault.JsonEnd.TheVariants.{Fault, NoMemory}
+use Rattle.base_types.specs.declared.end.End.{End}
+use Rattle.base_types.specs.declared.end.End.TheVariants.{Fault, NoMemory}
 use Rattle.attr_json.specs.Answers.{IsAnswer}
 use Rattle.attr_json.specs.Steps.{and_then, mapped}
 use Rattle.attr_json.specs.Values.{value_of, attributes_of}
@@ -64,7 +64,7 @@ member_fault (f ∷ fs) e more levels found fault is value =
     rw (p.2, member_fault fs e more levels p.1 fault p.3 value) refl
 
 -- where the fault of a part is that of the whole, so is the answer
-pub fault_along : {A B C D : Type 0} (part_view : B → A) (whole_view : D → C) (part : Result A JsonFault) (whole : Result C JsonFault) (end : JsonEnd)
+pub fault_along : {A B C D : Type 0} (part_view : B → A) (whole_view : D → C) (part : Result A JsonFault) (whole : Result C JsonFault) (end : End JsonFault)
     → ((fault : JsonFault) → part ≡ Err fault → whole ≡ Err fault) → IsAnswer part_view part (Err end) → IsAnswer whole_view whole (Err end)
 fault_along part_view whole_view part whole (Fault fault) along is = along fault is
 fault_along part_view whole_view part whole NoMemory along is = tt

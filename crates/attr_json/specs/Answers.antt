@@ -2,11 +2,11 @@
 use Rattle.std.specs.Prelude.{◌≡◌, ℕ, zero, suc, ⊤, Result, Ok, Err}
 use Rattle.attr_json.specs.declared.fault.JsonFault.{JsonFault}
 use Rattle.attr_json.specs.declared.fault.JsonFault.TheVariants.{TooDeep}
-use Rattle.attr_json.specs.declared.fault.JsonEnd.{JsonEnd}
-use Rattle.attr_json.specs.declared.fault.JsonEnd.TheVariants.{Fault, NoMemory}
+use Rattle.base_types.specs.declared.end.End.{End}
+use Rattle.base_types.specs.declared.end.End.TheVariants.{Fault, NoMemory}
 
 -- what is answered is what is defined, unless memory was refused
-abbrev pub IsAnswer : {A B : Type 0} → (B → A) → Result A JsonFault → Result B JsonEnd → Type 0
+abbrev pub IsAnswer : {A B : Type 0} → (B → A) → Result A JsonFault → Result B (End JsonFault) → Type 0
 IsAnswer view defined (Ok b) = defined ≡ Ok (view b)
 IsAnswer view defined (Err (Fault fault)) = defined ≡ Err fault
 IsAnswer view defined (Err NoMemory) = ⊤

@@ -4,8 +4,8 @@ ghost use Rattle.std.specs.Prelude.{◌≡◌};
 ghost use Rattle.attr_json.specs.Names.{name_of};
 
 use attr_value::ValueFault;
+use base_types::End;
 use number38::NumberFault;
-use std::alloc::{AllocError as NoMemory, AllocFailed};
 use std::fmt;
 
 /// What is wrong with the JSON of an attribute value. It is shown as error texts have it: its name, and behind it that
@@ -60,40 +60,14 @@ impl fmt::Display for JsonFault {
 }
 
 /// Why there is no attribute value.
-#[derive(Drop)]
-pub enum JsonEnd {
-    /// The JSON has this fault.
-    Fault(JsonFault),
-    /// Memory was refused.
-    NoMemory,
-}
-
-impl From<NoMemory> for JsonEnd {
-    ghost use Rattle.attr_json.specs.declared.fault.JsonEnd.{JsonEnd};
-
-    ghost from_gives = { λ refused end. end ≡ JsonEnd.NoMemory };
-
-    fn from(_refused: NoMemory) -> JsonEnd {
-        JsonEnd::NoMemory
-    }
-}
+pub type JsonEnd = End<JsonFault>;
 
 impl From<JsonFault> for JsonEnd {
-    ghost use Rattle.attr_json.specs.declared.fault.JsonEnd.{JsonEnd};
+    ghost use Rattle.base_types.specs.declared.end.End.{End};
 
-    ghost from_gives = { λ fault end. end ≡ JsonEnd.Fault fault };
+    ghost from_gives = { λ fault end. end ≡ End.Fault fault };
 
     fn from(fault: JsonFault) -> JsonEnd {
         JsonEnd::Fault(fault)
-    }
-}
-
-impl<T: Drop> From<AllocFailed<T>> for JsonEnd {
-    ghost use Rattle.attr_json.specs.declared.fault.JsonEnd.{JsonEnd};
-
-    ghost from_gives = { λ refused end. end ≡ JsonEnd.NoMemory };
-
-    fn from(_refused: AllocFailed<T>) -> JsonEnd {
-        JsonEnd::NoMemory
     }
 }

@@ -9,10 +9,8 @@
 //! - Inside one value the order of the faults is: not one member; then an unknown type, or JSON of another kind than its
 //!   type's; then more than 32 levels of lists and maps; then what lies inside, elements in the order of their list and
 //!   attributes in the order of their names; then a set of none; then a repeat in a set.
-//! - [`value_to`] and [`item_to`] make the JSON that a value is written as (`data_of`): numbers as plain decimals, binaries
-//!   in base64, sets in their order. It is read back as the same value.
-//! - [`push_value`] and [`push_item`] add the compact text of that JSON to a text, and [`write_value`] and [`write_item`]
-//!   write it among other tokens. They make no tree.
+//! - [`write_item`] writes the JSON of an item (`members_of`) as compact text among other tokens, and makes no tree: numbers
+//!   as plain decimals, binaries in base64, sets in their order. It is read back as the same item.
 #![tactic(auto)]
 
 mod check;
@@ -22,10 +20,8 @@ mod read;
 mod scalar;
 mod set;
 mod text;
-mod write;
 
 pub use check::value_fault;
 pub use fault::{JsonEnd, JsonFault};
 pub use read::{item_from, value_from};
-pub use text::{push_item, push_value, write_item, write_value};
-pub use write::{item_to, value_to};
+pub use text::write_item;

@@ -1,11 +1,11 @@
 //! Values and items as compact JSON text, with no tree.
 
-ghost use Rattle.std.specs.Prelude.{◌≡◌, ◌++◌, [], OnOk, OnErr, string_bytes};
-ghost use Rattle.json.specs.Print.{print};
+ghost use Rattle.std.specs.Prelude.{◌≡◌, ◌++◌, OnOk};
 ghost use Rattle.number38.specs.Printed.{printed};
 ghost use Rattle.serde_json.specs.Data.{array, object};
-ghost use Rattle.serde_json.specs.Written.{compact_text};
+ghost use Rattle.attr_value.specs.Tree.{text_set, number_set, binary_set};
 ghost use Rattle.attr_value.specs.View.{tree_of};
+ghost use Rattle.attr_json.specs.ReadBack.{ReadsBack, ElementsReadBack, AttributesReadBack};
 ghost use Rattle.attr_json.specs.Text.{tokens_of, type_of, content_of};
 ghost use Rattle.attr_json.specs.Written.{strings, base64_of, data_of, items_of, members_of};
 
@@ -14,49 +14,15 @@ use attr_value::{Elements, Item, Value};
 use base_types::{Bytes, Text};
 use json::Writer;
 use number38::Number;
+use ordered_set::OrderedSet;
 use std::alloc::{AllocError as NoMemory, Global};
-use std::str;
-
-/// Adds the compact text of the value's JSON. Where memory is refused the text stays as it was.
-pub fn push_value(alloc: Global, out: &mut String, value: &Value) -> Result<(), NoMemory>
-    ensures text { OnOk result (string_bytes out.new
-        ≡ string_bytes out.old ++ compact_text (data_of (tree_of value.now))) }
-    ensures unchanged { OnErr result (string_bytes out.new ≡ string_bytes out.old) }
-{
-    let mut writer = Writer::new(Vec::new(alloc));
-    write_value(alloc, &mut writer, value)?;
-    push_printed(out, writer)
-}
-
-/// Adds the compact text of the item's JSON. Where memory is refused the text stays as it was.
-pub fn push_item(alloc: Global, out: &mut String, item: &Item) -> Result<(), NoMemory>
-    ensures text { OnOk result (string_bytes out.new
-        ≡ string_bytes out.old ++ compact_text (object (members_of item.now))) }
-    ensures unchanged { OnErr result (string_bytes out.new ≡ string_bytes out.old) }
-{
-    let mut writer = Writer::new(Vec::new(alloc));
-    write_item(alloc, &mut writer, item)?;
-    push_printed(out, writer)
-}
-
-/// Adds what a writer of its own has written.
-fn push_printed(out: &mut String, writer: Writer) -> Result<(), NoMemory>
-    requires { writer.before ≡ [] }
-    ensures text { OnOk result (string_bytes out.new ≡ string_bytes out.old ++ print writer.tokens) }
-    ensures unchanged { OnErr result (string_bytes out.new ≡ string_bytes out.old) }
-{
-    let bytes = writer.into_inner();
-    match str::from_utf8(&bytes) {
-        Ok(text) => out.push_str(text),
-        Err(_) => unreachable!(),
-    }
-}
 
 /// Writes the value's JSON as compact text, token by token.
 #[cycle(text)]
-pub fn write_value(alloc: Global, writer: &mut Writer, value: &Value) -> Result<(), NoMemory>
+fn write_value(alloc: Global, writer: &mut Writer, value: &Value) -> Result<(), NoMemory>
     ensures tokens { OnOk result (writer.new.tokens ≡ writer.old.tokens ++ tokens_of (data_of (tree_of value.now))) }
     ensures before { writer.new.before ≡ writer.old.before }
+    ensures read_back { OnOk result (ReadsBack (tree_of value.now)) }
 {
     writer.begin_object()?;
     writer.key(type_name(value))?;
@@ -64,11 +30,13 @@ pub fn write_value(alloc: Global, writer: &mut Writer, value: &Value) -> Result<
     writer.end_object()
 }
 
-/// Writes the item's JSON as compact text, token by token.
+/// Writes the item's JSON as compact text, token by token. [`item_from`](crate::item_from) reads it back as the same item
+/// where its attributes have at most 32 levels of lists and maps.
 #[cycle(text)]
 pub fn write_item(alloc: Global, writer: &mut Writer, item: &Item) -> Result<(), NoMemory>
     ensures tokens { OnOk result (writer.new.tokens ≡ writer.old.tokens ++ tokens_of (object (members_of item.now))) }
     ensures before { writer.new.before ≡ writer.old.before }
+    ensures read_back { OnOk result (AttributesReadBack item.now) }
 {
     writer.begin_object()?;
     for (name, value) in item.iter() {
@@ -84,6 +52,7 @@ fn write_content(alloc: Global, writer: &mut Writer, value: &Value) -> Result<()
     ensures tokens { OnOk result (writer.new.tokens
         ≡ writer.old.tokens ++ tokens_of (content_of (tree_of value.now))) }
     ensures before { writer.new.before ≡ writer.old.before }
+    ensures read_back { OnOk result (ReadsBack (tree_of value.now)) }
 {
     match value {
         Value::S(text) => writer.string(text.as_str()),
@@ -93,9 +62,9 @@ fn write_content(alloc: Global, writer: &mut Writer, value: &Value) -> Result<()
         Value::Null => writer.boolean(true),
         Value::L(list) => write_list(alloc, writer, list),
         Value::M(item) => write_item(alloc, writer, item),
-        Value::Ss(texts) => write_texts(writer, texts.as_slice()),
-        Value::Ns(numbers) => write_numbers(alloc, writer, numbers.as_slice()),
-        Value::Bs(binaries) => write_binaries(alloc, writer, binaries.as_slice()),
+        Value::Ss(texts) => write_texts(writer, texts),
+        Value::Ns(numbers) => write_numbers(alloc, writer, numbers),
+        Value::Bs(binaries) => write_binaries(alloc, writer, binaries),
     }
 }
 
@@ -104,6 +73,7 @@ fn write_content(alloc: Global, writer: &mut Writer, value: &Value) -> Result<()
 fn write_list(alloc: Global, writer: &mut Writer, list: &Elements) -> Result<(), NoMemory>
     ensures tokens { OnOk result (writer.new.tokens ≡ writer.old.tokens ++ tokens_of (array (items_of list.now))) }
     ensures before { writer.new.before ≡ writer.old.before }
+    ensures read_back { OnOk result (ElementsReadBack list.now) }
 {
     writer.begin_array()?;
     for value in list.as_slice() {
@@ -130,40 +100,51 @@ fn type_name(value: &Value) -> &'static str
     }
 }
 
-/// Writes texts as a list of strings.
-fn write_texts(writer: &mut Writer, texts: &[Text]) -> Result<(), NoMemory>
+/// Writes a set of texts as a list of strings.
+fn write_texts(writer: &mut Writer, set: &OrderedSet<Text>) -> Result<(), NoMemory>
     ensures tokens { OnOk result (writer.new.tokens
-        ≡ writer.old.tokens ++ tokens_of (array (strings (λ s. s) texts.now))) }
+        ≡ writer.old.tokens ++ tokens_of (array (strings (λ s. s) set.now))) }
     ensures before { writer.new.before ≡ writer.old.before }
+    ensures read_back { OnOk result (ReadsBack (text_set set.now)) }
 {
     writer.begin_array()?;
-    for text in texts {
+    for text in set.as_slice() {
         writer.string(text.as_str())?;
     }
     writer.end_array()
 }
 
-/// Writes numbers as a list of strings.
-fn write_numbers(alloc: Global, writer: &mut Writer, numbers: &[Number]) -> Result<(), NoMemory>
+/// Writes a set of numbers as a list of strings.
+fn write_numbers(
+    alloc: Global,
+    writer: &mut Writer,
+    set: &OrderedSet<Number>,
+) -> Result<(), NoMemory>
     ensures tokens { OnOk result (writer.new.tokens
-        ≡ writer.old.tokens ++ tokens_of (array (strings printed numbers.now))) }
+        ≡ writer.old.tokens ++ tokens_of (array (strings printed set.now))) }
     ensures before { writer.new.before ≡ writer.old.before }
+    ensures read_back { OnOk result (ReadsBack (number_set set.now)) }
 {
     writer.begin_array()?;
-    for number in numbers {
+    for number in set.as_slice() {
         writer.string(number_text(alloc, number)?.as_str())?;
     }
     writer.end_array()
 }
 
-/// Writes binaries as a list of strings in base64.
-fn write_binaries(alloc: Global, writer: &mut Writer, binaries: &[Bytes]) -> Result<(), NoMemory>
+/// Writes a set of binaries as a list of strings in base64.
+fn write_binaries(
+    alloc: Global,
+    writer: &mut Writer,
+    set: &OrderedSet<Bytes>,
+) -> Result<(), NoMemory>
     ensures tokens { OnOk result (writer.new.tokens
-        ≡ writer.old.tokens ++ tokens_of (array (strings base64_of binaries.now))) }
+        ≡ writer.old.tokens ++ tokens_of (array (strings base64_of set.now))) }
     ensures before { writer.new.before ≡ writer.old.before }
+    ensures read_back { OnOk result (ReadsBack (binary_set set.now)) }
 {
     writer.begin_array()?;
-    for bytes in binaries {
+    for bytes in set.as_slice() {
         writer.string(base64_text(alloc, bytes)?.as_str())?;
     }
     writer.end_array()

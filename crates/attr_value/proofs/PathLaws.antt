@@ -9,8 +9,9 @@ use Rattle.attr_value.specs.Tree.{Tree, map, list, Trees, Attributes, no_attribu
 use Rattle.attr_value.specs.Paths.{value_at, put, change, element_at, put_at, placed, with_in, with_value, IsBadPathWhere}
 use Rattle.attr_value.specs.View.{tree_of, trees_of, attributes_of}
 use Rattle.attr_value.specs.declared.fault.ValueFault.TheVariants.{EmptySet, DuplicateInSet, TooDeep, BadPath}
-use Rattle.attr_value.specs.declared.fault.ValueEnd.{ValueEnd}
-use Rattle.attr_value.specs.declared.fault.ValueEnd.TheVariants.{Fault, NoMemory}
+use Rattle.attr_value.specs.declared.fault.ValueFault.{ValueFault}
+use Rattle.base_types.specs.declared.end.End.{End}
+use Rattle.base_types.specs.declared.end.End.TheVariants.{Fault, NoMemory}
 use Rattle.attr_value.specs.declared.value.Value.{Value}
 use Rattle.attr_value.proofs.Views.{Entry, name_cmp, change-set_value}
 
@@ -48,7 +49,7 @@ with_no_element place rest inside there value here =
     )
 
 -- a bad path is one however it is said
-pub bad_path_along : {P Q : Type 0} → P ↔ Q → (end : ValueEnd) → IsBadPathWhere P end → IsBadPathWhere Q end
+pub bad_path_along : {P Q : Type 0} → P ↔ Q → (end : End ValueFault) → IsBadPathWhere P end → IsBadPathWhere Q end
 bad_path_along f NoMemory h = λ q. h (f.1 q)
 bad_path_along f (Fault EmptySet) h = h
 bad_path_along f (Fault DuplicateInSet) h = h

@@ -11,8 +11,9 @@ use Rattle.attr_value.specs.Tree.{Attributes, no_attributes, attribute}
 use Rattle.attr_value.specs.Sizes.{depth, item_depth}
 use Rattle.attr_value.specs.declared.fault.ValueFault.TheVariants.{EmptySet, DuplicateInSet}
 use Rattle.attr_value.specs.declared.fault.ValueFault.TheVariants.{TooDeep, BadPath}
-use Rattle.attr_value.specs.declared.fault.ValueEnd.{ValueEnd}
-use Rattle.attr_value.specs.declared.fault.ValueEnd.TheVariants.{Fault, NoMemory}
+use Rattle.attr_value.specs.declared.fault.ValueFault.{ValueFault}
+use Rattle.base_types.specs.declared.end.End.{End}
+use Rattle.base_types.specs.declared.end.End.TheVariants.{Fault, NoMemory}
 
 -- ---- attributes by name, and elements by place
 
@@ -155,7 +156,7 @@ abbrev pub HasBadPath : ℕ → List Step → Attributes → Tree → Type 0
 HasBadPath limit steps item value = (reach steps value ≤ limit) × (with_value steps item value ≡ None)
 
 -- the path is bad exactly where this holds, and else memory was refused
-abbrev pub IsBadPathWhere : Type 0 → ValueEnd → Type 0
+abbrev pub IsBadPathWhere : Type 0 → End ValueFault → Type 0
 IsBadPathWhere P NoMemory = ¬ P
 IsBadPathWhere P (Fault EmptySet) = ⊥
 IsBadPathWhere P (Fault DuplicateInSet) = ⊥
@@ -163,7 +164,7 @@ IsBadPathWhere P (Fault TooDeep) = ⊥
 IsBadPathWhere P (Fault BadPath) = P
 
 -- memory was refused, or the fault is one of `set`
-abbrev pub IsPathEnd : ValueEnd → Type 0
+abbrev pub IsPathEnd : End ValueFault → Type 0
 IsPathEnd NoMemory = ⊤
 IsPathEnd (Fault EmptySet) = ⊥
 IsPathEnd (Fault DuplicateInSet) = ⊥

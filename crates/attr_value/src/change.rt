@@ -2,6 +2,7 @@
 
 ghost use Rattle.std.specs.Prelude.{◌≡◌, ◌↔◌, [], ◌<◌, ◌≤◌, is_some, option_and_then};
 ghost use Rattle.std.specs.Prelude.{IsTrue, OnOk, OnErr, IfErr};
+ghost use Rattle.base_types.specs.declared.end.End.{End};
 ghost use Rattle.attr_value.specs.Paths.{found, found_in, child, value_at, element_at, put, put_at};
 ghost use Rattle.attr_value.specs.Paths.{without, without_in, change, change_at, changed};
 ghost use Rattle.attr_value.specs.Paths.{with_value, reach, IsWith, HasNoPlace, HoldsWhereDeeper};
@@ -28,11 +29,11 @@ impl Item {
     /// is dropped then.
     pub fn set(&mut self, path: &DocPath, value: Value) -> Result<(), ValueEnd>
         ensures ok { OnOk result (with_value path.now.steps self.old (tree_of value) ≡ Some self.new) }
-        ensures too_deep { (result ≡ Err (ValueEnd.Fault ValueFault.TooDeep))
+        ensures too_deep { (result ≡ Err (End.Fault ValueFault.TooDeep))
             ↔ (most_levels < reach path.now.steps (tree_of value)) }
         ensures deeper { HoldsWhereDeeper most_levels path.now.steps self.old (tree_of value)
-            (result ≡ Err (ValueEnd.Fault ValueFault.TooDeep)) }
-        ensures bad_path { (result ≡ Err (ValueEnd.Fault ValueFault.BadPath))
+            (result ≡ Err (End.Fault ValueFault.TooDeep)) }
+        ensures bad_path { (result ≡ Err (End.Fault ValueFault.BadPath))
             ↔ HasBadPath most_levels path.now.steps self.old (tree_of value) }
         ensures no_other { IfErr result IsPathEnd }
         ensures unchanged { OnErr result (self.new ≡ self.old) }

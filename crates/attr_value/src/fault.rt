@@ -1,9 +1,6 @@
 //! Why there is no value, or an item stays as it was.
 
-ghost use Rattle.std.specs.Prelude.{◌≡◌};
-
-use ordered_set::SetFault;
-use std::alloc::AllocError as NoMemory;
+use base_types::End;
 
 /// What is wrong with a set or a path. Where several stand together, the first in this order is
 /// answered.
@@ -20,43 +17,4 @@ pub enum ValueFault {
 }
 
 /// Why a call gave no value.
-#[derive(Debug, PartialEq, Eq, Drop)]
-pub enum ValueEnd {
-    /// The set or the path has this fault.
-    Fault(ValueFault),
-    /// Memory was refused.
-    NoMemory,
-}
-
-impl From<NoMemory> for ValueEnd {
-    ghost use Rattle.attr_value.specs.declared.fault.ValueEnd.{ValueEnd};
-
-    ghost from_gives = { λ refused end. end ≡ ValueEnd.NoMemory };
-
-    fn from(_refused: NoMemory) -> ValueEnd {
-        ValueEnd::NoMemory
-    }
-}
-
-impl From<ValueFault> for ValueEnd {
-    ghost use Rattle.attr_value.specs.declared.fault.ValueEnd.{ValueEnd};
-
-    ghost from_gives = { λ fault end. end ≡ ValueEnd.Fault fault };
-
-    fn from(fault: ValueFault) -> ValueEnd {
-        ValueEnd::Fault(fault)
-    }
-}
-
-impl From<SetFault> for ValueEnd {
-    ghost use Rattle.attr_value.specs.Sets.{fault_of};
-
-    ghost from_gives = { λ fault end. end ≡ fault_of fault };
-
-    fn from(fault: SetFault) -> ValueEnd {
-        ValueEnd::Fault(match fault {
-            SetFault::Empty => ValueFault::EmptySet,
-            SetFault::Duplicate => ValueFault::DuplicateInSet,
-        })
-    }
-}
+pub type ValueEnd = End<ValueFault>;

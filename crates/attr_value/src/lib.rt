@@ -5,8 +5,6 @@
 //! name (`attributes`), so neither how a map is kept nor the room of a list shows. What the layer
 //! above can rely on:
 //!
-//! - [`string_set`], [`number_set`] and [`binary_set`] keep the elements in order, and refuse
-//!   exactly a set of none and a repeat.
 //! - [`Item::get`], [`Item::set`] and [`Item::remove`] are `found`, `with_value` and `without` of a
 //!   document path: what stands at the path, and the item with and without it. A refused `set`
 //!   leaves the item as it was.
@@ -30,7 +28,6 @@ mod fault;
 mod item;
 mod parts;
 mod path;
-mod set;
 mod shared_item;
 mod size;
 mod value;
@@ -38,6 +35,5 @@ mod value;
 pub use change::MAX_DEPTH;
 pub use fault::{ValueEnd, ValueFault};
 pub use parts::push_some;
-pub use set::{binary_set, number_set, string_set};
 pub use shared_item::{SharedItem, kept, lent};
 pub use value::{Elements, Item, Value};

@@ -6,11 +6,13 @@
 #![tactic(auto)]
 
 mod binary;
+mod end;
 mod path;
 mod seq;
 mod text;
 
 pub use binary::Bytes;
+pub use end::End;
 pub use path::{DocPath, Step};
 pub use seq::Seq;
 pub use text::Text;

@@ -1,9 +1,13 @@
 -- What reads and writes count for, in halves of a unit, and how units are printed (Developer Guide: Capacity unit
 -- consumption).
-use Rattle.std.specs.Prelude.{ℕ, ◌*◌, ◌/◌, ◌%◌, ◌==◌, max, List, ◌++◌, codes, decimal, if◌then◌else◌}
+use Rattle.std.specs.Prelude.{ℕ, ◌-◌, ◌^◌, ◌*◌, ◌/◌, ◌%◌, ◌==◌, min, max, List, ◌++◌, codes, decimal, if◌then◌else◌}
 use Rattle.std.specs.Int.{div_ceil}
 use Rattle.capacity.specs.declared.halves.Mode.{Mode}
 use Rattle.capacity.specs.declared.halves.Mode.TheVariants as mode
+
+-- a sum, which counts as the last number of 64 bits where it is more
+abbrev pub counted : ℕ → ℕ
+counted sum = min sum (2 ^ 64 - 1)
 
 -- how many pieces of this size so many bytes begin, and one where there is none
 abbrev pub pieces : ℕ → ℕ → ℕ

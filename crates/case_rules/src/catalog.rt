@@ -1,6 +1,6 @@
 ghost use Rattle.std.specs.Prelude.{◌≡◌};
 ghost use Rattle.std.specs.Option.{option_to_list};
-ghost use Rattle.case_rules.specs.Catalogs.{no_table, table_of, top, drawn, number_after, is_numbered, has_table, indexes, index_of, created, with_index, name_of, subject, table_after, catalog_after, first_of};
+ghost use Rattle.case_rules.specs.Catalogs.{no_table, table_of, top, drawn, number_after, is_numbered, has_table, indexes, index_of, created, with_index, name_of, table_after, catalog_after, first_of};
 
 use crate::item::Item;
 use crate::key::{Key, Name};
@@ -186,17 +186,6 @@ impl Command {
             Command::Create { name, .. } => *name,
             Command::AddIndex { name } => *name,
             Command::Drop { name } => *name,
-        }
-    }
-
-    /// The table that it changes or takes away.
-    pub(crate) fn subject(&self, catalog: &Catalog) -> Option<Table>
-        ensures { result ≡ subject self.now catalog.now }
-    {
-        match self {
-            Command::Create { .. } => None,
-            Command::AddIndex { name } => catalog.table(*name),
-            Command::Drop { name } => catalog.table(*name),
         }
     }
 

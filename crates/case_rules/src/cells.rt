@@ -39,6 +39,10 @@ impl CellRules for Shop {
         Ok(entries)
     }
 
+    fn may_expire(_catalog: &Catalog, _table: u64) -> bool {
+        true
+    }
+
     ghost ordered = { λ partitions x y. refl };
 
     ghost entries_lawful = { entries_lawful };

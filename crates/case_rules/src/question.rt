@@ -1,12 +1,11 @@
-ghost use Rattle.std.specs.Prelude.{◌≡◌, IfOk};
-ghost use Rattle.case_rules.specs.Rows.{number_told, name_asked, page_place, page_index, page_table, is_index, serves, is_of, page};
+ghost use Rattle.std.specs.Prelude.{◌≡◌};
+ghost use Rattle.case_rules.specs.Rows.{number_told, name_asked, page_place, page_index, page_table, is_index, serves, is_of};
 ghost use Rattle.case_rules.specs.Shop.{drawing};
 
 use crate::catalog::{Catalog, Table, index_of, is_numbered};
 use crate::item::Item;
 use crate::key::{Key, Name};
 use base_types::Seq;
-use std::alloc::{AllocError as NoMemory, Global};
 use txn_core::Ruling;
 
 /// A question about the catalog, or a page of rows.
@@ -152,18 +151,5 @@ impl Question {
             Question::Number { .. } => false,
             Question::Page { name, table, .. } => key.name.is(*name) && *table == key.table,
         }
-    }
-
-    /// What a page shows of the rows of its cell.
-    pub(crate) fn shown(&self, alloc: Global, rows: &[(Key, Item)]) -> Result<Told, NoMemory>
-        ensures { IfOk result (λ told. told ≡ page rows.now self.now) }
-    {
-        let mut shown = Seq::new(alloc);
-        for row in rows {
-            if self.is_of(&row.0) {
-                shown.push(*row)?;
-            }
-        }
-        Ok(Told::Rows { rows: shown })
     }
 }

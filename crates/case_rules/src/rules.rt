@@ -3,7 +3,7 @@ ghost use Rattle.case_rules.specs.Shop.{service};
 ghost use Rattle.case_rules.specs.Laws.{service_lawful};
 
 use crate::action::{Action, Fault};
-use crate::catalog::{Catalog, Command, index_of, is_numbered};
+use crate::catalog::{Catalog, Command, index_of};
 use crate::equality::{
     are_equal_actions, are_equal_faults, are_equal_items, are_equal_keys, are_equal_told,
     are_same_actions,
@@ -13,7 +13,6 @@ use crate::key::Key;
 use crate::question::{Question, Told};
 use index_feed::Row;
 use std::alloc::{AllocError as NoMemory, Global};
-use std::cmp::Ordering;
 use txn_core::{Outcome, Rules, Ruling};
 
 /// What the protocol knows of the shop. Items and rows of one rest, divided by the number of
@@ -47,16 +46,8 @@ impl Rules for Shop {
         left.compare(right).is_eq()
     }
 
-    fn compare(left: &Key, right: &Key) -> Ordering {
-        left.compare(right)
-    }
-
     fn cell_of(partitions: u32, key: &Key) -> u32 {
         (key.place() % u64::from(partitions)) as u32
-    }
-
-    fn control(partitions: u32) -> u32 {
-        partitions
     }
 
     fn page_cell(partitions: u32, page: &Question) -> u32 {
@@ -159,15 +150,6 @@ impl Rules for Shop {
         page.index()
     }
 
-    fn page(
-        alloc: Global,
-        _catalog: &Catalog,
-        rows: &[(Key, Item)],
-        page: &Question,
-    ) -> Result<Told, NoMemory> {
-        page.shown(alloc, rows)
-    }
-
     fn refuses(
         _alloc: Global,
         command: &Command,
@@ -179,10 +161,6 @@ impl Rules for Shop {
             (Command::AddIndex { .. } | Command::Drop { .. }, None) => Some(Told::NoTable),
             (Command::AddIndex { .. } | Command::Drop { .. }, Some(_)) => None,
         })
-    }
-
-    fn concerns(command: &Command, catalog: &Catalog, key: &Key) -> bool {
-        is_numbered(command.subject(catalog), key.table)
     }
 
     fn rule(

@@ -37,6 +37,9 @@ pub(crate) enum Ask {
     Get(Key),
     Version(Key),
     Write(Action),
+    Expire(Action),
+    /// So many keys of expired items at most.
+    Due(u32),
     Query(Question),
     Scan(Question),
     Begin(Option<&'static str>, &'static [Action]),
@@ -153,6 +156,7 @@ fn of_transaction(cell: u32, ask: Ask) -> Asked<Shop> {
         Ask::Forget(number) => Message::Forget { number },
         Ask::Fate(number) => Message::FateOf { number },
         Ask::Recall(number) => Message::Recall { number },
+        Ask::Due(limit) => Message::ExpiredKeys { cell, limit },
         Ask::Pendings => Message::Pendings { cell },
         _ => of_tables(cell, ask),
     }
@@ -167,6 +171,7 @@ fn of_tables(cell: u32, ask: Ask) -> Asked<Shop> {
         Ask::Get(key) => Message::Get { key },
         Ask::Version(key) => Message::ReadVersion { key },
         Ask::Write(action) => Message::Write { action },
+        Ask::Expire(action) => Message::Expire { action },
         Ask::Query(page) => Message::QueryPage { page },
         Ask::Scan(page) => Message::ScanPage { page },
         Ask::Peek => Message::PeekOut { source: cell },

@@ -46,7 +46,15 @@ fn item(random: &mut Pcg32) -> Item {
     Item {
         customer,
         amount: number(random) + 2,
-        expires: None,
+        expires: expires(random),
+    }
+}
+
+/// Never, or at a second of the first thousand.
+fn expires(random: &mut Pcg32) -> Option<u64> {
+    match below(random, 4) {
+        0 => None,
+        _ => Some(u64::from(below(random, 1_000)) * 1_000_000),
     }
 }
 
@@ -76,6 +84,18 @@ pub(crate) fn action(random: &mut Pcg32) -> Action {
         key: key(random),
         condition: condition(random),
         deed: deed(random),
+    }
+}
+
+/// What removes an item, or with less chance another action.
+pub(crate) fn expiration(random: &mut Pcg32) -> Action {
+    match below(random, 8) {
+        0 => action(random),
+        _ => Action {
+            key: key(random),
+            condition: Condition::Always,
+            deed: Deed::Delete,
+        },
     }
 }
 

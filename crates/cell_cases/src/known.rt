@@ -3,7 +3,7 @@
 ghost use Rattle.std.specs.Prelude.{◌≤◌};
 
 use crate::asks::{Ask, Change, Verdict};
-use crate::choices::{action, beginning, below, command, key, name, page};
+use crate::choices::{action, beginning, below, command, expiration, key, name, page};
 use crate::kinds::{KINDS, Kind};
 use case_rules::{Action, Shop};
 use rand_pcg::Pcg32;
@@ -232,6 +232,8 @@ impl Walker {
         match kind {
             Kind::Version => Ask::Version(key(random)),
             Kind::Write => Ask::Write(action(random)),
+            Kind::Expire => Ask::Expire(expiration(random)),
+            Kind::Due => Ask::Due(below(random, 4)),
             Kind::Query => Ask::Query(page(random)),
             Kind::Scan => Ask::Scan(page(random)),
             Kind::Pendings => Ask::Pendings,

@@ -9,6 +9,7 @@ fn laws_of_histories<R: Rules>() {
     laws::rows_are_shown::<R>();
     laws::one_fate::<R>();
     laws::writes_are_serial::<R>();
+    laws::expirations_are_serial::<R>();
     laws::removals_leave_none::<R>();
     laws::timestamp_order::<R>();
     laws::token_once::<R>();

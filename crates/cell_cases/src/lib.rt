@@ -11,7 +11,7 @@ mod choices;
 #[cfg(test)]
 mod courses;
 #[cfg(test)]
-mod entries;
+mod expirations;
 #[cfg(test)]
 mod judged;
 #[cfg(test)]

@@ -13,6 +13,10 @@ pub(crate) enum Reply {
     Row(Option<Item>),
     Versioned(Option<Item>, u64, Option<u64>),
     Written(Option<Item>, Option<Item>),
+    Expired(Item),
+    Kept,
+    /// The keys of expired items.
+    Keys(&'static [Key]),
     Accepted,
     Unmet(Option<Item>),
     Held(u64),
@@ -64,6 +68,14 @@ fn part(alloc: Global, listed: &[(Key, Item)]) -> Result<Replied, NoMemory> {
     })
 }
 
+fn keys_of(alloc: Global, listed: &[Key]) -> Result<Replied, NoMemory> {
+    let mut keys = Seq::new(alloc);
+    for key in listed {
+        keys.push(*key)?;
+    }
+    Ok(Answer::ExpiredList { keys })
+}
+
 fn only_number(alloc: Global, number: u64) -> Result<Replied, NoMemory> {
     let mut numbers = Seq::new(alloc);
     numbers.push(number)?;
@@ -97,6 +109,7 @@ fn known(
 pub(crate) fn answer(alloc: Global, moment: u64, reply: Reply) -> Result<Replied, NoMemory> {
     match reply {
         Reply::Part(rows) => part(alloc, rows),
+        Reply::Keys(keys) => keys_of(alloc, keys),
         Reply::Number(number) => only_number(alloc, number),
         Reply::Holds(key, number) => only_held(alloc, key, number),
         Reply::Known(stamp, fate, acts, verdicts) => known(alloc, stamp, fate, acts, verdicts),
@@ -118,6 +131,8 @@ fn on_item(reply: Reply) -> Replied {
             held,
         },
         Reply::Written(old, new) => Answer::Written { old, new },
+        Reply::Expired(old) => Answer::Expired { old },
+        Reply::Kept => Answer::Kept,
         Reply::Accepted => Answer::Accepted,
         Reply::Unmet(old) => Answer::CondFalse { old },
         Reply::Held(number) => Answer::Held { number },

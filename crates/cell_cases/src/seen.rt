@@ -4,7 +4,7 @@ use case_rules::Shop;
 use txn_core::{Answer, Event, Fate, Reply};
 
 /// All that a walk is to meet.
-pub(crate) const ALL: u64 = (1 << 38) - 1;
+pub(crate) const ALL: u64 = (1 << 42) - 1;
 
 /// A bit for each kind of answer.
 fn mark(reply: &Reply<Shop>) -> u64 {
@@ -40,6 +40,10 @@ fn mark_of_feed(reply: &Reply<Shop>) -> u64 {
         Answer::Told { .. } => 1 << 22,
         Answer::Changed { .. } => 1 << 23,
         Answer::Refused { .. } => 1 << 24,
+        Answer::Expired { .. } => 1 << 38,
+        Answer::Kept => 1 << 39,
+        Answer::ExpiredList { keys } if keys.is_empty() => 1 << 40,
+        Answer::ExpiredList { .. } => 1 << 41,
         _ => mark_of_transaction(reply),
     }
 }

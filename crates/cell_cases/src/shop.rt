@@ -67,6 +67,13 @@ pub(crate) const FIVE: Item = Item {
     expires: None,
 };
 
+/// Of the customer 4, with the amount 8, expired from the moment 9 on.
+pub(crate) const OLD: Item = Item {
+    customer: Some(4),
+    amount: 8,
+    expires: Some(9),
+};
+
 /// Of the customer 9, with the amount 5.
 pub(crate) const MOVED: Item = Item {
     customer: Some(9),
@@ -129,6 +136,25 @@ pub(crate) const DELETE_A: Action = Action {
     deed: Deed::Delete,
 };
 
+pub(crate) const PUT_OLD_A: Action = Action {
+    key: A,
+    condition: Condition::Always,
+    deed: Deed::Put { item: OLD },
+};
+
+pub(crate) const PUT_OLD_C: Action = Action {
+    key: C,
+    condition: Condition::Always,
+    deed: Deed::Put { item: OLD },
+};
+
+/// As DELETE_A, where A has the amount 5.
+pub(crate) const DELETE_FIVE_OF_A: Action = Action {
+    key: A,
+    condition: Condition::Holds { amount: 5 },
+    deed: Deed::Delete,
+};
+
 /// As PUT_B, where there is no order B.
 pub(crate) const NEW_B: Action = Action {
     key: B,
@@ -155,6 +181,34 @@ pub(crate) const DROP_ORDERS: Command = Command::Drop { name: Name::Orders };
 pub(crate) const MAKE_PAYMENTS: Command = Command::Create {
     name: Name::Payments,
     first: Some(FIVE),
+};
+
+/// The payments with an item that expires.
+pub(crate) const MAKE_OLD_PAYMENTS: Command = Command::Create {
+    name: Name::Payments,
+    first: Some(OLD),
+};
+
+/// The orders with an item that expires.
+pub(crate) const MAKE_OLD_ORDERS: Command = Command::Create {
+    name: Name::Orders,
+    first: Some(OLD),
+};
+
+/// The item that comes with the payments, where they are the table 1.
+pub(crate) const FIRST_PAYMENT: Key = Key {
+    name: Name::Payments,
+    table: 1,
+    customer: None,
+    number: 0,
+};
+
+/// The item that comes with the orders, where they are the table 2.
+pub(crate) const FIRST_ORDER: Key = Key {
+    name: Name::Orders,
+    table: 2,
+    customer: None,
+    number: 0,
 };
 
 pub(crate) const DROP_PAYMENTS: Command = Command::Drop {
@@ -207,6 +261,12 @@ pub(crate) const WRITTEN: Stamp = Stamp {
     number: 0,
 };
 
+/// The stamp of an expiration at the moment 9.
+pub(crate) const EXPIRED: Stamp = Stamp {
+    moment: 9,
+    number: 0,
+};
+
 pub(crate) const FIRST: Stamp = Stamp {
     moment: 7,
     number: 1,
@@ -229,6 +289,15 @@ pub(crate) const ROW_COMES: Change = Change {
     index: 2,
     row_key: ROW_OF_A,
     after: Some(EIGHT),
+};
+
+/// The same with a row that expires.
+pub(crate) const OLD_ROW_COMES: Change = Change {
+    source: 1,
+    sequence: 1,
+    index: 2,
+    row_key: ROW_OF_A,
+    after: Some(OLD),
 };
 
 /// The same with another row.

@@ -12,7 +12,7 @@ use std::test::*;
 use txn_replay::replay_check;
 
 /// How many messages the walk is of, and how many of them each of the two cells is asked at least.
-const TURNS: u64 = 1300;
+const TURNS: u64 = 1500;
 
 const LEAST: usize = 500;
 
@@ -82,7 +82,7 @@ fn walked(alloc: Global, seed: u64) -> Result<Record, NoMemory> {
 #[test]
 fn walks_are_legal(rt: HostRuntime) -> Result<(), Fail> {
     let alloc = rt.alloc();
-    let record = walked(alloc, 3)?;
+    let record = walked(alloc, 1)?;
     assert!(rt; replay_check::<Shop>(alloc, 1, record.entries()) == Ok(()));
     let seen = seen_in(record.entries());
     assert!(rt; seen.to_partition >= LEAST && seen.to_control >= LEAST);

@@ -3,17 +3,16 @@
 ghost use Rattle.std.specs.Prelude.{◌≡◌, ℕ, ◌+◌, ◌^◌, ◌≤◌, IfOk, MatchOption, is_some, length, None, Some, if◌then◌else◌};
 ghost use Rattle.std.specs.List.{filter_map, insert, list_all, range_with_len};
 ghost use Rattle.table_model.specs.Catalog.{updated_schema};
-ghost use Rattle.cell_model.specs.Keys.{table_of};
 ghost use Rattle.cell_model.specs.Catalogs.{named, numbered_indexes, entered};
-ghost use Rattle.cell_model.specs.Commands.{number_named, subject, is_number, refusal, has_sort_kind, has_kinds, is_typed};
-ghost use Rattle.cell_model.specs.Commands.{numbers_after, updated_table, changed_table, new_table, with_new, draws, kept, catalog_after};
+ghost use Rattle.cell_model.specs.Commands.{number_named, subject, waits_for, is_number, refusal, has_sort_kind, has_kinds, is_typed};
+ghost use Rattle.cell_model.specs.Commands.{numbers_after, updated_table, expiring_table, changed_table, new_table, with_new, draws, kept, catalog_after};
 ghost use Rattle.cell_model.specs.declared.catalog.CatalogTable.{CatalogTable as AnyTable};
 
 use crate::copies::{copy_of_table, copy_of_update};
-use crate::tables::{has_name, index_numbers, last_drawn, numbers_beside, table_named, table_of};
+use crate::tables::{has_name, index_numbers, last_drawn, numbers_beside, table_named};
 use base_types::{Seq, Text};
-use cell_model::{Catalog, CatalogAnswer, CatalogCommand, CatalogTable, CellKey};
-use schema_update::updated;
+use cell_model::{Catalog, CatalogAnswer, CatalogCommand, CatalogTable};
+use schema_update::{expiring, updated};
 use std::alloc::{AllocError as NoMemory, Global};
 use table_request::{IndexChange, TableUpdate};
 use table_schema::{KeyNames, Schema};
@@ -34,6 +33,18 @@ pub fn subject(command: &CatalogCommand, catalog: &Catalog) -> Option<u64>
 {
     match command {
         CatalogCommand::Create { .. } => None,
+        CatalogCommand::Drop { name } => number_named(catalog, name),
+        CatalogCommand::Change { name, .. } => number_named(catalog, name),
+        CatalogCommand::TimeToLive { name, .. } => number_named(catalog, name),
+    }
+}
+
+/// The number of the table of which no item may be held when the command is carried out.
+pub fn waits_for(command: &CatalogCommand, catalog: &Catalog) -> Option<u64>
+    ensures { result ≡ waits_for command.now catalog.now }
+{
+    match command {
+        CatalogCommand::Create { .. } | CatalogCommand::TimeToLive { .. } => None,
         CatalogCommand::Drop { name } => number_named(catalog, name),
         CatalogCommand::Change { name, .. } => number_named(catalog, name),
     }
@@ -74,6 +85,7 @@ pub fn refusal(command: &CatalogCommand, catalog: &Catalog) -> Option<CatalogAns
         }
         CatalogCommand::Drop { name } => unless_named(catalog, name),
         CatalogCommand::Change { name, .. } => unless_named(catalog, name),
+        CatalogCommand::TimeToLive { name, .. } => unless_named(catalog, name),
     }
 }
 
@@ -178,6 +190,21 @@ fn updated_table(
     })
 }
 
+/// The table with a time to live, or without one.
+fn expiring_table(
+    attribute: &Text,
+    enabled: bool,
+    table: &CatalogTable,
+) -> Result<CatalogTable, NoMemory>
+    ensures { IfOk result (λ after. after ≡ expiring_table attribute.now enabled table.now) }
+{
+    Ok(CatalogTable {
+        number: table.number,
+        schema: expiring(&table.schema, attribute, enabled)?,
+        indexes: table.indexes.try_clone()?,
+    })
+}
+
 /// A table that the command is on, as it is afterwards.
 fn changed_table(
     alloc: Global,
@@ -193,6 +220,11 @@ fn changed_table(
         CatalogCommand::Change { change, .. } => {
             Ok(Some(updated_table(alloc, change, next, table)?))
         }
+        CatalogCommand::TimeToLive {
+            attribute,
+            enabled,
+            ..
+        } => Ok(Some(expiring_table(attribute, *enabled, table)?)),
     }
 }
 
@@ -324,7 +356,7 @@ fn drawn_after(command: &CatalogCommand, drawn: u64) -> Option<u64>
                 .checked_add(1)?
                 .checked_add(schema.globals.len() as u64)
         }
-        CatalogCommand::Drop { .. } => Some(drawn),
+        CatalogCommand::Drop { .. } | CatalogCommand::TimeToLive { .. } => Some(drawn),
         CatalogCommand::Change { change, .. } => match &change.index {
             Some(IndexChange::Make(_)) => drawn.checked_add(1),
             _ => Some(drawn),
@@ -350,11 +382,4 @@ pub fn catalog_after(
     let kept = kept_tables(alloc, command, on, next, catalog.tables.as_slice())?;
     let tables = with_new(alloc, command, moment, next, kept)?;
     Ok(Catalog { drawn, tables })
-}
-
-/// Whether the key is of the table that the command drops or changes.
-pub fn concerns(command: &CatalogCommand, catalog: &Catalog, key: &CellKey) -> bool
-    ensures { result ≡ is_number (subject command.now catalog.now) (table_of key.now) }
-{
-    is_number(subject(command, catalog), table_of(key))
 }

@@ -7,7 +7,7 @@ ghost use Rattle.table_model.specs.Pages.{global_named, local_named};
 ghost use Rattle.table_schema.specs.Index.{stated_of};
 ghost use Rattle.cell_model.specs.Catalogs.{last_drawn};
 ghost use Rattle.cell_model.specs.FirstFault.{first_fault};
-ghost use Rattle.cell_model.specs.Commands.{index_fault, typed_ruling, update_ruling, create_ruling, drop_ruling, change_ruling, ruling};
+ghost use Rattle.cell_model.specs.Commands.{index_fault, typed_ruling, update_ruling, create_ruling, drop_ruling, change_ruling, ttl_ruling, ruling};
 ghost use Rattle.cell_catalog.specs.Faults.{schema_fault};
 
 use crate::commands::is_typed;
@@ -15,7 +15,7 @@ use crate::copies::copy_of_update;
 use crate::tables::{last_drawn, table_named};
 use base_types::Text;
 use cell_model::{Catalog, CatalogAnswer, CatalogCommand, CatalogTable};
-use schema_update::updated;
+use schema_update::{expiring, ttl_fault, updated};
 use std::alloc::{AllocError as NoMemory, Global};
 use table_model::{Invalid, Refusal};
 use table_request::{IndexChange, TableUpdate};
@@ -193,6 +193,31 @@ fn change_ruling(
     }
 }
 
+/// What becomes of a TimeToLive.
+fn ttl_ruling(
+    attribute: &Text,
+    enabled: bool,
+    table: Option<&CatalogTable>,
+) -> Result<Ruling<CatalogAnswer>, NoMemory>
+    ensures { IfOk result (λ told. told ≡ ttl_ruling attribute.now enabled (option_copied table.entry)) }
+{
+    let Some(table) = table else {
+        return Ok(Ruling::Refuses {
+            told: CatalogAnswer::NoTable,
+        });
+    };
+    match ttl_fault(&table.schema.ttl, attribute, enabled) {
+        Some(fault) => Ok(Ruling::Refuses {
+            told: CatalogAnswer::TtlRefused { fault },
+        }),
+        None => Ok(Ruling::Carries {
+            told: CatalogAnswer::Changed {
+                schema: expiring(&table.schema, attribute, enabled)?,
+            },
+        }),
+    }
+}
+
 /// What becomes of a command that no name and no pending stands in the way of.
 pub fn ruling(
     alloc: Global,
@@ -207,5 +232,10 @@ pub fn ruling(
         CatalogCommand::Change { name, change } => {
             change_ruling(alloc, change, table_named(catalog, name))
         }
+        CatalogCommand::TimeToLive {
+            name,
+            attribute,
+            enabled,
+        } => ttl_ruling(attribute, *enabled, table_named(catalog, name)),
     }
 }

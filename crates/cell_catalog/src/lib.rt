@@ -4,7 +4,8 @@
 //! [`refusal`] and [`ruling`] have let pass. A table is found by its name ([`told_named`]) or by its number
 //! ([`table_numbered`]), and a global index by its number ([`index_numbered`]).
 //!
-//! What commands do is what CreateTable, DeleteTable and UpdateTable do (API Reference), in the words of `cell_model`.
+//! What commands do is what CreateTable, DeleteTable, UpdateTable and UpdateTimeToLive do (API Reference), in the words of
+//! `cell_model`.
 #![tactic(auto)]
 
 mod commands;
@@ -13,7 +14,7 @@ mod judgement;
 mod tables;
 mod told;
 
-pub use commands::{catalog_after, concerns, number_named, refusal, subject};
+pub use commands::{catalog_after, number_named, refusal, subject, waits_for};
 pub use judgement::ruling;
 pub use tables::{
     has_table, index_numbered, index_numbers, last_drawn, numbers_at, table_numbered, table_of,

@@ -29,11 +29,13 @@ use Rattle.cell_model.specs.declared.catalog.CatalogTable.{CatalogTable}
 use Rattle.cell_model.specs.declared.command.CatalogCommand.{CatalogCommand}
 use Rattle.cell_model.specs.declared.command.CatalogCommand.TheVariants.{Change}
 use Rattle.cell_model.specs.Catalogs.{has_table, last_drawn, numbered}
-use Rattle.cell_model.specs.Commands.{catalog_after, has_kinds, is_number, is_typed, kept, subject, updated_table}
+use Rattle.cell_model.specs.Commands.{catalog_after, expiring, expiring_table, has_kinds, is_number, is_typed, kept, subject, updated_table, waits_for}
 use Rattle.cell_model.specs.Keys.{same_key, table_of}
 use Rattle.cell_model.proofs.Exact.{same_itself}
 use Rattle.cell_model.proofs.KeptTypes.{is_left, kept_key, left_of_local}
-use Rattle.cell_model.proofs.Lookups.{kept_found, same_table}
+use Rattle.cell_model.proofs.Lookups.{kept_found}
+use Rattle.cell_model.proofs.Lawful.{spared as same_there}
+use Rattle.cell_model.proofs.TimeToLive.{same_key as same_attributes_key}
 use Rattle.cell_entries.specs.declared.entry.LocalEntry.{LocalEntry}
 use Rattle.cell_entries.specs.LocalEntries.{entries_from, entries_in, entries_of, entry_at, entry_order, item_of_entry}
 
@@ -114,9 +116,20 @@ named catalog (Item key) item q h =
     subst (λ k. same_key (Item key) k ≡ true) (named_in (numbered catalog.tables key.table) key item q h) (same_itself (Item key))
 named catalog (Row key) item q h = absurd (cc)
 
-pub spared : (d : CatalogCommand) (moment : ℕ) (catalog : Catalog) (key : CellKey) (item : Attributes) → is_number (subject d catalog) (table_of key) ≡ false
+-- a time to live leaves them
+module _ (schema : Schema) (attribute : List ℕ) (enabled : Bool) (key : ItemKey) (item : Attributes) where
+  expiring_from : (locals : List LocalIndex) (place : ℕ) → entries_from (expiring schema attribute enabled) locals place key item ≡ entries_from schema locals place key item
+  expiring_from [] place = refl
+  expiring_from (index ∷ rest) place =
+      λ i. entry_at key place (position_if key.key (same_attributes_key schema attribute enabled index.keys item i)) ++ expiring_from rest (place + 1) i
+
+expiring_entries : (key : ItemKey) (item : Attributes) (attribute : List ℕ) (enabled : Bool) (table : CatalogTable)
+    → entries_in (Some (expiring_table attribute enabled table)) key item ≡ entries_in (Some table) key item
+expiring_entries key item attribute enabled table = expiring_from table.schema attribute enabled key item table.schema.locals 0
+
+pub spared : (d : CatalogCommand) (moment : ℕ) (catalog : Catalog) (key : CellKey) (item : Attributes) → is_number (waits_for d catalog) (table_of key) ≡ false
     → has_table catalog (table_of key) ≡ true → entries_of (catalog_after d moment catalog) key item ≡ entries_of catalog key item
-spared d moment catalog (Item key) item away there = ap (λ t. entries_in t key item) (same_table d moment catalog key.table away there)
+spared d moment catalog (Item key) item away there = same_there (λ t. entries_in t key item) (expiring_entries key item) d moment catalog key.table away there
 spared d moment catalog (Row key) item away there = refl
 
 -- ---- an update of a table leaves its items' entries

@@ -19,7 +19,7 @@ use Rattle.cell_model.specs.declared.catalog.CatalogTable.{CatalogTable}
 use Rattle.cell_model.specs.declared.command.CatalogCommand.{CatalogCommand}
 use Rattle.cell_model.specs.declared.command.CatalogCommand.TheVariants.{Change}
 use Rattle.cell_model.specs.Catalogs.{has_table, numbered}
-use Rattle.cell_model.specs.Commands.{catalog_after, is_number, subject}
+use Rattle.cell_model.specs.Commands.{catalog_after, is_number, waits_for}
 use Rattle.cell_model.specs.Keys.{same_key, table_of}
 use Rattle.cell_entries.specs.declared.entry.LocalEntry.{LocalEntry}
 
@@ -58,11 +58,11 @@ EntriesNameItems cmp =
     (catalog : Catalog) (key : CellKey) (item : Attributes) (q : LocalEntry)
     → list_any (λ e. is_at (cmp e) q) (entries_of catalog key item) ≡ true → same_key key (item_of_entry q) ≡ true
 
--- a command leaves the entries of items of every table that it doesn't concern
+-- a command leaves the entries of items of every table that it waits for nothing of
 abbrev pub CommandsSpareEntries : Type 0
 CommandsSpareEntries =
     (d : CatalogCommand) (moment : ℕ) (catalog : Catalog) (key : CellKey) (item : Attributes)
-    → is_number (subject d catalog) (table_of key) ≡ false → has_table catalog (table_of key) ≡ true
+    → is_number (waits_for d catalog) (table_of key) ≡ false → has_table catalog (table_of key) ≡ true
     → entries_of (catalog_after d moment catalog) key item ≡ entries_of catalog key item
 
 -- an update of a table (UpdateTable) leaves the entries of every item

@@ -10,13 +10,18 @@ use Rattle.local_index.specs.Claims.{is_committed}
 use Rattle.local_index.specs.Entries.{is_among}
 use Rattle.cell_model.specs.declared.key.CellKey.{CellKey}
 use Rattle.cell_model.specs.declared.key.CellKey.TheVariants.{Item}
+use Rattle.cell_model.specs.declared.answer.CatalogAnswer.{CatalogAnswer}
 use Rattle.cell_model.specs.declared.catalog.Catalog.{Catalog}
+use Rattle.cell_model.specs.declared.catalog.CatalogTable.{CatalogTable}
 use Rattle.cell_model.specs.declared.question.PageQuestion.{PageQuestion}
+use Rattle.cell_model.specs.declared.question.PageSource.TheVariants.{Local}
+use Rattle.cell_model.specs.Catalogs.{numbered}
 use Rattle.cell_model.specs.Keys.{key_order}
+use Rattle.cell_model.specs.Pages.{source_rows}
 use Rattle.cell_entries.specs.declared.entry.LocalEntry.{LocalEntry}
 use Rattle.cell_entries.specs.LocalEntries.{entries_of, entry_order, item_of_entry}
-use Rattle.cell_pages.specs.Asked.{is_asked}
-use Rattle.cell_pages.specs.Walked.{asked_if, included}
+use Rattle.cell_pages.specs.Asked.{is_asked, part_of_rows}
+use Rattle.cell_pages.specs.Walked.{asked_if, included, shown_among}
 
 -- where a row of the local index at a place among the table's stands, if an entry is one of that index
 abbrev pub position_of : ℕ → ℕ → LocalEntry → Option Position
@@ -64,3 +69,9 @@ module _ {W : Type 0} (shown : W → Option Attributes) where
   AreEntriesOf catalog items entries =
       (q : LocalEntry) → is_committed (get entry_order entries q)
       ≡ is_among entry_order (entries_if catalog (item_of_entry q) (item_under items (item_of_entry q))) q
+
+  -- a page of the table's local index at this place, out of all items: in every catalog that has the table, where the entries are theirs
+  abbrev pub IsLocalPart : CatalogTable → ℕ → BTreeMap CellKey W → BTreeMap LocalEntry Claim → PageQuestion → CatalogAnswer → Type 0
+  IsLocalPart table place items entries page answer =
+      (catalog : Catalog) → numbered catalog.tables table.number ≡ Some table → AreEntriesOf catalog items entries
+      → answer ≡ part_of_rows page (source_rows table (Local place) (shown_among shown items.entries))

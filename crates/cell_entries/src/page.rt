@@ -1,13 +1,10 @@
 //! A page of the items of a cell.
 
 ghost use Rattle.std.specs.Prelude.{◌≡◌, Some, IfOk};
-ghost use Rattle.cell_model.specs.declared.catalog.Catalog.{Catalog as AnyCatalog};
 ghost use Rattle.cell_model.specs.declared.question.PageSource.TheVariants.{Local};
-ghost use Rattle.cell_model.specs.Catalogs.{numbered};
-ghost use Rattle.cell_model.specs.Pages.{page_part, source_rows};
-ghost use Rattle.cell_pages.specs.Asked.{part_of_rows};
+ghost use Rattle.cell_model.specs.Pages.{page_part};
 ghost use Rattle.cell_pages.specs.Walked.{page_along, shown_among};
-ghost use Rattle.cell_entries.specs.Met.{AreEntriesOf, item_in, row_met};
+ghost use Rattle.cell_entries.specs.Met.{AreEntriesOf, IsLocalPart, item_in, row_met};
 
 use crate::ends::entry_ends;
 use crate::entry::LocalEntry;
@@ -46,9 +43,7 @@ fn local_page<W: Keeps>(
     entries: &BTreeMap<LocalEntry, Claim>,
     page: &PageQuestion,
 ) -> Result<CatalogAnswer, NoMemory>
-    ensures { IfOk result (λ answer. (catalog : AnyCatalog) → numbered catalog.tables table.now.number ≡ Some table.now
-        → AreEntriesOf W.shown catalog items.now entries.now
-        → answer ≡ part_of_rows page.now (source_rows table.now (Local place) (shown_among W.shown items.now.entries))) }
+    ensures { IfOk result (λ answer. IsLocalPart W.shown table.now place items.now entries.now page.now answer) }
 {
     if table.schema.locals.get(place as usize).is_none() {
         return Ok(no_row(alloc, page));

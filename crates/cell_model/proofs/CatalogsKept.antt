@@ -21,16 +21,16 @@ use Rattle.cell_model.specs.declared.answer.CatalogAnswer.TheVariants as answer
 use Rattle.cell_model.specs.declared.catalog.Catalog.{Catalog}
 use Rattle.cell_model.specs.declared.catalog.CatalogTable.{CatalogTable}
 use Rattle.cell_model.specs.declared.command.CatalogCommand.{CatalogCommand}
-use Rattle.cell_model.specs.declared.command.CatalogCommand.TheVariants.{Create, Drop, Change}
+use Rattle.cell_model.specs.declared.command.CatalogCommand.TheVariants.{Create, Drop, Change, TimeToLive}
 use Rattle.cell_model.specs.Catalogs.{named, entered, ascend_from, numbered_indexes, greatest_of, greatest_in, last_drawn}
-use Rattle.cell_model.specs.Commands.{subject, is_number, is_typed, index_fault, judged, unless, create_ruling, update_ruling, change_ruling, ruling, refusal, numbers_after, draws_for, draws, updated_table, changed_table, new_table, kept, catalog_after}
+use Rattle.cell_model.specs.Commands.{subject, is_number, is_typed, index_fault, judged, unless, create_ruling, update_ruling, change_ruling, ruling, refusal, numbers_after, draws_for, draws, updated_table, expiring_table, changed_table, new_table, kept, catalog_after}
 use Rattle.cell_model.specs.FirstFault.{TellsFirst, first_fault}
 use Rattle.cell_model.specs.KeptCatalogs.{IsMade, AreApart, names_of, IsKept, IsCarried, CommandsKeep, KeptIsWhole}
 use Rattle.cell_model.proofs.FirstFaults.{answered}
 use Rattle.cell_model.proofs.Numbers.{some_parts}
 use Rattle.cell_model.proofs.Lookups.{kept_number}
 use Rattle.cell_model.proofs.Making.{range_ascends, range_drawn, changed_ascend, changed_paired, changed_drawn, each_weaker, each_left, apart_left, ordered_left, each_entered, apart_entered}
-use Rattle.cell_model.proofs.Keeping.{made_valid, valid_typed, ordered_entered}
+use Rattle.cell_model.proofs.Keeping.{expiring_valid, made_valid, valid_typed, ordered_entered}
 
 itself : (n : ℕ) → nat_eq n n ≡ true
 itself n = (Decides-eqb n n).1 refl
@@ -146,6 +146,7 @@ changed_name (Create schema) drawn t u e = sym (ap (λ z. z.schema.name) (some_p
 changed_name (Drop name) drawn t u e = absurd (cc)
 changed_name (Change name update) drawn t u e =
     sym (ap (λ z. z.schema.name) (some_parts (updated_table update drawn t) u e)) ∙ same_name update drawn t
+changed_name (TimeToLive name attribute enabled) drawn t u e = sym (ap (λ z. z.schema.name) (some_parts (expiring_table attribute enabled t) u e))
 
 kept_name : (d : CatalogCommand) (on : Option ℕ) (drawn : ℕ) (t u : CatalogTable) → kept d on drawn t ≡ Some u → u.schema.name ≡ t.schema.name
 kept_name d on drawn t u =
@@ -157,6 +158,7 @@ IsFit : CatalogCommand → CatalogTable → Type 0
 IsFit (Create schema) t = Unit {0}
 IsFit (Drop name) t = Unit {0}
 IsFit (Change name update) t = IsCarried (update_ruling update t)
+IsFit (TimeToLive name attribute enabled) t = Unit {0}
 
 Before : CatalogCommand → Option ℕ → ℕ → CatalogTable → Type 0
 Before d on drawn t = IsMade t × IsBelow drawn t × (is_number on t.number ≡ true → IsFit d t)
@@ -177,6 +179,11 @@ changed_after (Change name update) drawn t u made low fit e =
     let number : (updated_table update drawn t).number ≡ t.number = cond_both (is_typed t.schema) _ t (λ z. z.number ≡ t.number) (λ _. refl) (λ _. refl) in
     let a = low.0 in
     subst (λ z. IsMade z × IsBelow (drawn + draws_for update.index) z) (some_parts (updated_table update drawn t) u e) (now.0, (omega arith, now.1))
+changed_after (TimeToLive name attribute enabled) drawn t u made low fit e =
+    let a = low.0 in
+    let b = low.1 in
+    subst (λ z. IsMade z × IsBelow (drawn + draws (TimeToLive name attribute enabled)) z) (some_parts (expiring_table attribute enabled t) u e)
+    (record { valid = expiring_valid t.schema attribute enabled made.valid; rising = made.rising; paired = made.paired }, (omega arith, omega arith))
 
 kept_after : (d : CatalogCommand) (on : Option ℕ) (drawn : ℕ) (t u : CatalogTable) → Before d on drawn t → kept d on drawn t ≡ Some u → After d drawn u
 unfolding Before
@@ -311,6 +318,11 @@ command_keeps (Change name update) moment c was free carried =
     let on = subject (Change name update) c in
     let fit = fits update name c was.apart (named c.tables name) refl carried in
     left_kept (Change name update) on drawn c.tables (before (Change name update) on drawn c.tables was.tables (each_below drawn c.tables (omega arith)) fit) was.apart was.ordered
+command_keeps (TimeToLive name attribute enabled) moment c was free carried =
+    let d = TimeToLive name attribute enabled in
+    let drawn = last_drawn c in
+    let on = subject d c in
+    left_kept d on drawn c.tables (before d on drawn c.tables was.tables (each_below drawn c.tables (omega arith)) (any_fit d on (λ t. tt) c.tables)) was.apart was.ordered
 
 pub commands_keep : CommandsKeep
 unfolding IsStrictlySortedBy

@@ -27,7 +27,7 @@ use Rattle.table_schema.specs.Rule.{IsFreeOf, IsValid, DefinesItsKeys, Defines, 
 use Rattle.table_model.specs.Catalog.{made_at}
 use Rattle.cell_model.specs.declared.catalog.CatalogTable.{CatalogTable}
 use Rattle.cell_model.specs.Catalogs.{named, entered}
-use Rattle.cell_model.specs.Commands.{has_sort_kind, has_kinds, is_typed}
+use Rattle.cell_model.specs.Commands.{expiring, has_sort_kind, has_kinds, is_typed}
 use Rattle.cell_model.specs.FirstFault.{defines, defines_key, defines_keys, is_in_key, is_free_of}
 use Rattle.cell_model.specs.KeptCatalogs.{names_of}
 use Rattle.cell_model.proofs.FaultTests.{tells}
@@ -41,6 +41,21 @@ unfolding DefinesItsKeys Defines IsKeyAttribute
 made_valid schema moment valid fault = go fault (valid fault)
   where
     go : (fault : SchemaFault) → IsFreeOf fault (stated_of schema) → IsFreeOf fault (stated_of (made_at moment schema))
+    go BadName h = h
+    go BadKeySchema h = h
+    go BadDefinition h = record { named = h.named; distinct = h.distinct }
+    go DefinitionMismatch h = h
+    go BadIndexName h = record { named = h.named; distinct = h.distinct }
+    go BadIndexKey h = record { keys = h.keys; local = h.local }
+    go BadProjection h = h
+    go TooManyIndexes h = record { local = h.local; global = h.global }
+
+-- nor does a time to live
+pub expiring_valid : (schema : Schema) (attribute : List ℕ) (enabled : Bool) → IsValid schema → IsValid (expiring schema attribute enabled)
+unfolding DefinesItsKeys Defines IsKeyAttribute
+expiring_valid schema attribute enabled valid fault = go fault (valid fault)
+  where
+    go : (fault : SchemaFault) → IsFreeOf fault (stated_of schema) → IsFreeOf fault (stated_of (expiring schema attribute enabled))
     go BadName h = h
     go BadKeySchema h = h
     go BadDefinition h = record { named = h.named; distinct = h.distinct }

@@ -26,12 +26,13 @@ use Rattle.cell_model.specs.declared.key.CellKey.TheVariants.{Item, Row}
 use Rattle.cell_model.specs.declared.catalog.Catalog.{Catalog}
 use Rattle.cell_model.specs.declared.catalog.CatalogTable.{CatalogTable}
 use Rattle.cell_model.specs.declared.command.CatalogCommand.{CatalogCommand}
-use Rattle.cell_model.specs.declared.command.CatalogCommand.TheVariants.{Create, Drop, Change}
+use Rattle.cell_model.specs.declared.command.CatalogCommand.TheVariants.{Create, Drop, Change, TimeToLive}
 use Rattle.cell_model.specs.Keys.{same_key, table_of, place_of, cell_at, item_of}
 use Rattle.cell_model.specs.KeyLaws.{key_total}
 use Rattle.cell_model.specs.Catalogs.{numbered, has_table, ascend_from, numbered_indexes, index_numbers, index_at, last_drawn}
 use Rattle.cell_model.specs.Actions.{ItemAction, removal, outcome_in}
-use Rattle.cell_model.specs.Commands.{subject, is_number, changed_table, new_table, kept, catalog_after}
+use Rattle.cell_model.specs.Commands.{subject, waits_for, is_number, expiring_table, changed_table, new_table, kept, catalog_after}
+use Rattle.cell_model.specs.Expiry.{is_expired_at}
 use Rattle.cell_model.specs.IndexRows.{row_at, row_in, row_if, row_of, numbers_in, indexes_of}
 use Rattle.cell_model.specs.Pages.{page_cell}
 use Rattle.cell_model.specs.declared.question.CatalogQuestion.{CatalogQuestion}
@@ -39,8 +40,9 @@ use Rattle.cell_model.specs.declared.question.CatalogQuestion.TheVariants.{Look,
 use Rattle.cell_model.specs.Service.{protocol, indexing, service}
 use Rattle.cell_model.proofs.Exact.{same_is, same_itself, same_actions_decide, same_actions_equiv}
 use Rattle.cell_model.proofs.Numbers.{some_parts, numbers_of, is_among, fronts_ascend, increasing, among_front, greatest_bounds}
-use Rattle.cell_model.proofs.Lookups.{own_number, bounded, after_or_new, same_table, some_is}
+use Rattle.cell_model.proofs.Lookups.{own_number, bounded, after_or_new, same_table, time_to_live_spares, some_is}
 use Rattle.cell_model.proofs.Steady.{new_number, steady_row}
+use Rattle.cell_model.proofs.TimeToLive.{same_index_row, same_outcome}
 
 -- ---- cells
 
@@ -96,7 +98,7 @@ protocol_lawful partitions = record {
   one_cell = λ x y e. ap (λ k. cell_at partitions (place_of k)) (same_is x y e);
   one_place = λ c x y e. ap (λ k. has_table c (table_of k)) (same_is x y e);
   one_gift = λ d c x y e. refl;
-  one_expiry = λ c x y v moment e. refl;
+  one_expiry = λ c x y v moment e. ap (λ k. is_expired_at c k v moment) (same_is x y e);
   its_item = λ k. refl;
   removes = λ c k v. removes (numbered c.tables (table_of k)) k v;
   comes = λ d moment c x h. table_comes d moment c (table_of x) h;
@@ -193,6 +195,7 @@ changed_comes : (d : CatalogCommand) (drawn g : ℕ) (t : CatalogTable) → is_a
 changed_comes (Create schema) drawn g t h = inl h
 changed_comes (Drop name) drawn g t h = absurd (cc)
 changed_comes (Change name update) drawn g t h = new_number update drawn t g h
+changed_comes (TimeToLive name attribute enabled) drawn g t h = inl h
 
 pub kept_comes : (d : CatalogCommand) (on : Option ℕ) (drawn g : ℕ) (o : Option CatalogTable) → is_among g (numbers_in (option_and_then (kept d on drawn) o)) ≡ true
     → (is_among g (numbers_in o) ≡ true) ⊎ (drawn < g)
@@ -214,6 +217,7 @@ changed_steady : (d : CatalogCommand) (drawn g : ℕ) (t : CatalogTable) (key : 
 changed_steady (Create schema) drawn g t key v low old h = refl
 changed_steady (Drop name) drawn g t key v low old h = absurd (cc)
 changed_steady (Change name update) drawn g t key v low old h = steady_row update drawn t key g v low old h
+changed_steady (TimeToLive name attribute enabled) drawn g t key v low old h = same_index_row attribute enabled t key g v
 
 kept_steady : (d : CatalogCommand) (on : Option ℕ) (drawn g : ℕ) (o : Option CatalogTable) (key : ItemKey) (v : Attributes) → g ≤ drawn → is_among g (numbers_in o) ≡ true
     → is_among g (numbers_in (option_and_then (kept d on drawn) o)) ≡ true → row_if (option_and_then (kept d on drawn) o) key g v ≡ row_if o key g v
@@ -256,10 +260,14 @@ indexing_lawful partitions = record {
 on_same : (partitions : ℕ) (xs ys : List ItemAction) → xs ≡ ys → (q : CellKey) → is_some (on_item (protocol partitions) xs q) ≡ is_some (on_item (protocol partitions) ys q)
 on_same partitions xs ys e q = ap (λ actions. is_some (on_item (protocol partitions) actions q)) e
 
--- an index of a table that the command isn't on was there before
-spares_index : (d : CatalogCommand) (moment : ℕ) (c : Catalog) (q : CellKey) (g : ℕ) → is_number (subject d c) (table_of q) ≡ false → has_table c (table_of q) ≡ true
-    → is_among g (indexes_of (catalog_after d moment c) q) ≡ true → is_among g (indexes_of c q) ≡ true
-spares_index d moment c q g away there h = sym (ap (λ o. is_among g (numbers_in o)) (same_table d moment c (table_of q) away there)) ∙ h
+-- what does not read a table's time to live is as before, where the command waits for nothing that is held of the table
+pub spared : {X : Type 0} (f : Option CatalogTable → X) → ((attribute : List ℕ) (enabled : Bool) (t : CatalogTable) → f (Some (expiring_table attribute enabled t)) ≡ f (Some t))
+    → (d : CatalogCommand) (moment : ℕ) (c : Catalog) (n : ℕ) → is_number (waits_for d c) n ≡ false → has_table c n ≡ true
+    → f (numbered (catalog_after d moment c).tables n) ≡ f (numbered c.tables n)
+spared f same (Create schema) moment c n away there = ap f (same_table (Create schema) moment c n away there)
+spared f same (Drop name) moment c n away there = ap f (same_table (Drop name) moment c n away there)
+spared f same (Change name update) moment c n away there = ap f (same_table (Change name update) moment c n away there)
+spared f same (TimeToLive name attribute enabled) moment c n away there = time_to_live_spares f name attribute enabled (same attribute enabled) moment c n
 
 pub service_lawful : (partitions : ℕ) → IsServiceLawful (service partitions)
 service_lawful partitions = record {
@@ -269,11 +277,12 @@ service_lawful partitions = record {
   index = indexing_lawful partitions;
   cell_below = λ many k. cell_below partitions (place_of k) many;
   page_below = λ many q. pages_below partitions q many;
-  one_concern = λ d c x y e. ap (λ k. is_number (subject d c) (table_of k)) (same_is x y e);
-  spares = λ d moment c q named away there. ap is_some (same_table d moment c (table_of q) away there) ∙ there;
+  one_concern = λ d c x y e. ap (λ k. is_number (waits_for d c) (table_of k)) (same_is x y e);
+  spares = λ d moment c q named away there. spared (λ o. is_some o) (λ attribute enabled t. refl) d moment c (table_of q) away there ∙ there;
   acts_alike = λ d moment c q a v named away there same.
       let is = same_is a.key q same in
-      let found = subst (λ k. numbered (catalog_after d moment c).tables (table_of k) ≡ numbered c.tables (table_of k)) (sym is) (same_table d moment c (table_of q) away there) in
-      ap (λ t. outcome_in t a v) found;
-  spares_indexes = λ d moment c q g named away there h. spares_index d moment c q g away there h;
+      subst (λ k. outcome_in (numbered (catalog_after d moment c).tables (table_of k)) a v ≡ outcome_in (numbered c.tables (table_of k)) a v) (sym is)
+      (spared (λ o. outcome_in o a v) (λ attribute enabled t. same_outcome attribute enabled t a v) d moment c (table_of q) away there);
+  spares_indexes = λ d moment c q g named away there h.
+      sym (spared (λ o. is_among g (numbers_in o)) (λ attribute enabled t. refl) d moment c (table_of q) away there) ∙ h;
 }

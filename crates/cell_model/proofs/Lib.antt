@@ -6,6 +6,7 @@ pub mod Numbers
 pub mod Lookups
 pub mod KeptTypes
 pub mod Steady
+pub mod TimeToLive
 pub mod Lawful
 pub mod Ties
 pub mod FullPages

@@ -10,9 +10,9 @@ use Rattle.table_request.specs.declared.tables.TableUpdate.{TableUpdate}
 use Rattle.cell_model.specs.declared.catalog.Catalog.{Catalog}
 use Rattle.cell_model.specs.declared.catalog.CatalogTable.{CatalogTable}
 use Rattle.cell_model.specs.declared.command.CatalogCommand.{CatalogCommand}
-use Rattle.cell_model.specs.declared.command.CatalogCommand.TheVariants.{Create, Drop, Change}
+use Rattle.cell_model.specs.declared.command.CatalogCommand.TheVariants.{Create, Drop, Change, TimeToLive}
 use Rattle.cell_model.specs.Catalogs.{numbered, entered, greatest_of, greatest_in, last_drawn}
-use Rattle.cell_model.specs.Commands.{subject, is_number, is_typed, updated_table, changed_table, new_table, with_new, kept, catalog_after}
+use Rattle.cell_model.specs.Commands.{subject, is_number, is_typed, updated_table, expiring_table, changed_table, new_table, with_new, kept, catalog_after}
 use Rattle.cell_model.proofs.Numbers.{some_parts}
 
 -- ---- look-ups
@@ -73,6 +73,7 @@ keeps_number (Create schema) drawn t u e = sym (ap (λ z. z.number) (some_parts 
 keeps_number (Drop name) drawn t u e = absurd (cc)
 keeps_number (Change name update) drawn t u e =
     sym (ap (λ z. z.number) (some_parts (updated_table update drawn t) u e)) ∙ same_number update drawn t
+keeps_number (TimeToLive name attribute enabled) drawn t u e = sym (ap (λ z. z.number) (some_parts (expiring_table attribute enabled t) u e))
 
 pub kept_number : (d : CatalogCommand) (on : Option ℕ) (drawn : ℕ) (t u : CatalogTable) → kept d on drawn t ≡ Some u → u.number ≡ t.number
 kept_number d on drawn t u =
@@ -84,6 +85,7 @@ drops : (d : CatalogCommand) (drawn : ℕ) (t u : CatalogTable) → changed_tabl
 drops (Create schema) drawn t u e = absurd (cc)
 drops (Drop name) drawn t u e = refl
 drops (Change name update) drawn t u e = absurd (cc)
+drops (TimeToLive name attribute enabled) drawn t u e = absurd (cc)
 
 drops_alike : (d : CatalogCommand) (on : Option ℕ) (drawn : ℕ) (t u : CatalogTable) → u.number ≡ t.number → kept d on drawn t ≡ None → kept d on drawn u ≡ None
 drops_alike d on drawn t u same = go (is_number on t.number) refl
@@ -122,6 +124,7 @@ with_new_found (Create schema) moment drawn ts n =
     elim (found_entered (new_table schema moment drawn) ts n) [ inl old ↦ inl old | inr new ↦ inr (record { schema = schema; is = new }) ]
 with_new_found (Drop name) moment drawn ts n = inl refl
 with_new_found (Change name update) moment drawn ts n = inl refl
+with_new_found (TimeToLive name attribute enabled) moment drawn ts n = inl refl
 
 -- after a command a number has what the command leaves of its table, or a new table
 pub after_or_new : (d : CatalogCommand) (moment : ℕ) (c : Catalog) (n : ℕ)
@@ -148,3 +151,19 @@ same_table d moment c n away there =
           ∙ cond-false (is_number (subject d c) t.0.number) _ (Some t.0) (ap (is_number (subject d c)) own ∙ away) ∙ sym t.1
       | inr new ↦ let high : last_drawn c + 1 ≡ n = own_number (catalog_after d moment c).tables n _ new.is in absurd (omega arith)
     ]
+
+-- what does not read the time to live of a table is after a change of it as before
+pub time_to_live_spares : {X : Type 0} (f : Option CatalogTable → X) (name attribute : List ℕ) (enabled : Bool) → ((t : CatalogTable) → f (Some (expiring_table attribute enabled t)) ≡ f (Some t))
+    → (moment : ℕ) (c : Catalog) (n : ℕ) → f (numbered (catalog_after (TimeToLive name attribute enabled) moment c).tables n) ≡ f (numbered c.tables n)
+time_to_live_spares f name attribute enabled same moment c n =
+    ap f (kept_found d on (last_drawn c) n c.tables) ∙ by_table (numbered c.tables n)
+  where
+    d : CatalogCommand
+    d = TimeToLive name attribute enabled
+
+    on : Option ℕ
+    on = subject d c
+
+    by_table : (o : Option CatalogTable) → f (option_and_then (kept d on (last_drawn c)) o) ≡ f o
+    by_table None = refl
+    by_table (Some t) = cond_both (is_number on t.number) (Some (expiring_table attribute enabled t)) (Some t) (λ z. f z ≡ f (Some t)) (λ _. same t) (λ _. refl)

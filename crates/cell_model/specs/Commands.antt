@@ -11,14 +11,15 @@ use Rattle.table_schema.specs.Kind.{kind_of}
 use Rattle.table_request.specs.declared.tables.TableUpdate.{TableUpdate}
 use Rattle.table_request.specs.declared.tables.IndexChange.{IndexChange}
 use Rattle.table_request.specs.declared.tables.IndexChange.TheVariants.{Make, Remove}
-use Rattle.table_model.specs.Catalog.{most_tables, made_at, has_bad_definition, has_index, updated_schema}
+use Rattle.table_model.specs.Catalog.{most_tables, made_at, has_bad_definition, has_index, ttl_fault, updated_schema}
+use Rattle.table_model.specs.declared.refusal.TtlFault.{TtlFault}
 use Rattle.table_model.specs.Pages.{global_named}
 use Rattle.txn_core.specs.declared.ruling.Ruling.{Ruling}
 use Rattle.txn_core.specs.declared.ruling.Ruling.TheVariants.{Carries, Refuses}
 use Rattle.cell_model.specs.declared.catalog.Catalog.{Catalog}
 use Rattle.cell_model.specs.declared.catalog.CatalogTable.{CatalogTable}
 use Rattle.cell_model.specs.declared.command.CatalogCommand.{CatalogCommand}
-use Rattle.cell_model.specs.declared.command.CatalogCommand.TheVariants.{Create, Drop, Change}
+use Rattle.cell_model.specs.declared.command.CatalogCommand.TheVariants.{Create, Drop, Change, TimeToLive}
 use Rattle.cell_model.specs.declared.answer.CatalogAnswer.{CatalogAnswer}
 use Rattle.cell_model.specs.declared.answer.CatalogAnswer.TheVariants as answer
 use Rattle.cell_model.specs.Catalogs.{named, entered, numbered_indexes, last_drawn}
@@ -34,6 +35,14 @@ abbrev pub subject : CatalogCommand → Catalog → Option ℕ
 subject (Create schema) catalog = None
 subject (Drop name) catalog = number_named catalog.tables name
 subject (Change name change) catalog = number_named catalog.tables name
+subject (TimeToLive name attribute enabled) catalog = number_named catalog.tables name
+
+-- and of the one of which no item may be held: a time to live is no matter of what transactions hold
+abbrev pub waits_for : CatalogCommand → Catalog → Option ℕ
+waits_for (Create schema) catalog = None
+waits_for (Drop name) catalog = number_named catalog.tables name
+waits_for (Change name change) catalog = number_named catalog.tables name
+waits_for (TimeToLive name attribute enabled) catalog = None
 
 abbrev pub is_number : Option ℕ → ℕ → Bool
 is_number None other = false
@@ -44,6 +53,7 @@ abbrev pub refusal : CatalogCommand → Catalog → Option CatalogAnswer
 refusal (Create schema) catalog = if is_some (named catalog.tables schema.name) then Some answer.Exists else None
 refusal (Drop name) catalog = if is_some (named catalog.tables name) then None else Some answer.NoTable
 refusal (Change name change) catalog = if is_some (named catalog.tables name) then None else Some answer.NoTable
+refusal (TimeToLive name attribute enabled) catalog = if is_some (named catalog.tables name) then None else Some answer.NoTable
 
 -- ---- a table that is changed
 
@@ -77,11 +87,19 @@ updated_table update drawn table =
       indexes = numbers_after update.index drawn (numbered_indexes table);
     }) else table
 
+-- the schema with a time to live, or without one; the table with it
+abbrev pub expiring : Schema → List ℕ → Bool → Schema
+expiring schema attribute enabled = record schema { ttl = if enabled then Some attribute else None }
+
+abbrev pub expiring_table : List ℕ → Bool → CatalogTable → CatalogTable
+expiring_table attribute enabled table = record table { schema = expiring table.schema attribute enabled }
+
 -- what becomes of the table that a command is on
 abbrev pub changed_table : CatalogCommand → ℕ → CatalogTable → Option CatalogTable
 changed_table (Create schema) drawn table = Some table
 changed_table (Drop name) drawn table = None
 changed_table (Change name update) drawn table = Some (updated_table update drawn table)
+changed_table (TimeToLive name attribute enabled) drawn table = Some (expiring_table attribute enabled table)
 
 -- ---- the catalog after a command
 
@@ -106,6 +124,7 @@ abbrev pub draws : CatalogCommand → ℕ
 draws (Create schema) = 1 + length schema.globals
 draws (Drop name) = 0
 draws (Change name update) = draws_for update.index
+draws (TimeToLive name attribute enabled) = 0
 
 -- a table as the command leaves it
 abbrev pub kept : CatalogCommand → Option ℕ → ℕ → CatalogTable → Option CatalogTable
@@ -158,6 +177,15 @@ abbrev pub change_ruling : TableUpdate → Option CatalogTable → Ruling Catalo
 change_ruling update None = Refuses answer.NoTable
 change_ruling update (Some table) = update_ruling update table
 
+abbrev pub ttl_judged : Schema → Option TtlFault → Ruling CatalogAnswer
+ttl_judged schema None = Carries (answer.Changed schema)
+ttl_judged schema (Some fault) = Refuses (answer.TtlRefused fault)
+
+abbrev pub ttl_ruling : List ℕ → Bool → Option CatalogTable → Ruling CatalogAnswer
+ttl_ruling attribute enabled None = Refuses answer.NoTable
+ttl_ruling attribute enabled (Some table) =
+    ttl_judged (expiring table.schema attribute enabled) (ttl_fault table.schema.ttl attribute enabled)
+
 -- a new table has the next number, where there is room for one and its schema breaks no rule
 abbrev pub create_ruling : Schema → Catalog → Ruling CatalogAnswer
 create_ruling schema catalog =
@@ -169,3 +197,4 @@ abbrev pub ruling : CatalogCommand → Catalog → Ruling CatalogAnswer
 ruling (Create schema) catalog = create_ruling schema catalog
 ruling (Drop name) catalog = drop_ruling (named catalog.tables name)
 ruling (Change name update) catalog = change_ruling update (named catalog.tables name)
+ruling (TimeToLive name attribute enabled) catalog = ttl_ruling attribute enabled (named catalog.tables name)

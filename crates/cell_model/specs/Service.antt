@@ -1,5 +1,5 @@
 -- What the protocol needs to know of these tables, for a number of partitions.
-use Rattle.std.specs.Prelude.{ℕ, false, [], None}
+use Rattle.std.specs.Prelude.{ℕ, [], None}
 use Rattle.std.specs.Cmp.Lexicographic.{pointwise}
 use Rattle.attr_value.specs.Tree.{Attributes}
 use Rattle.attr_value.specs.Equality.{same_attributes}
@@ -16,11 +16,12 @@ use Rattle.cell_model.specs.Keys.{key_order, same_key, table_of, place_of, cell_
 use Rattle.cell_model.specs.Catalogs.{no_table, has_table, last_drawn}
 use Rattle.cell_model.specs.Actions.{ItemAction, act, removal}
 use Rattle.cell_model.specs.SameActions.{same_action}
-use Rattle.cell_model.specs.Commands.{subject, is_number, refusal, catalog_after, ruling}
+use Rattle.cell_model.specs.Commands.{waits_for, is_number, refusal, catalog_after, ruling}
+use Rattle.cell_model.specs.Expiry.{is_expired_at}
 use Rattle.cell_model.specs.IndexRows.{row_of, indexes_of}
 use Rattle.cell_model.specs.Pages.{page_cell, page_index, serves, told_of}
 
--- items, actions and the catalog; no item comes with a table, and none expires, since no table has a time to live
+-- items, actions and the catalog; no item comes with a table
 abbrev pub protocol : ℕ → Protocol CellKey Attributes ItemAction EvalFault Catalog CatalogCommand
 protocol partitions = record {
   same = same_key;
@@ -28,7 +29,7 @@ protocol partitions = record {
   key_of = λ action. action.key;
   act = act;
   removal = removal;
-  expired = λ catalog key item moment. false;
+  expired = is_expired_at;
   empty = no_table;
   there = λ catalog key. has_table catalog (table_of key);
   table = table_of;
@@ -61,6 +62,6 @@ service partitions = record {
   page_index = page_index;
   page = told_of;
   refuses = refusal;
-  concerns = λ command catalog key. is_number (subject command catalog) (table_of key);
+  concerns = λ command catalog key. is_number (waits_for command catalog) (table_of key);
   rules = λ command moment catalog. ruling command catalog;
 }

@@ -4,6 +4,7 @@ use crate::question::PageRoom;
 use attr_value::SharedItem;
 use base_types::{Seq, Text};
 use row_keys::Position;
+use table_model::TtlFault;
 use table_schema::{Schema, SchemaFault};
 
 /// A row of a page.
@@ -35,7 +36,7 @@ pub enum CatalogAnswer {
     },
     /// No table has the name.
     NoTable,
-    /// A Change was carried out: the schema as it is now.
+    /// A Change or a TimeToLive was carried out: the schema as it is now.
     Changed {
         schema: Schema,
     },
@@ -46,6 +47,10 @@ pub enum CatalogAnswer {
     /// A Create or a Change: the schema would have this fault, and none before it.
     BadSchema {
         fault: SchemaFault,
+    },
+    /// A TimeToLive: why the table's can't become so.
+    TtlRefused {
+        fault: TtlFault,
     },
     /// A Look: the table of the name, with the numbers of its global indexes in the order of the schema.
     Table {
@@ -79,6 +84,7 @@ impl Drop for CatalogAnswer {
             | CatalogAnswer::NoIndex
             | CatalogAnswer::IndexExists
             | CatalogAnswer::BadSchema { fault: _ }
+            | CatalogAnswer::TtlRefused { fault: _ }
             | CatalogAnswer::Table {
                 table: _,
                 schema: _,

@@ -6,7 +6,7 @@ use Rattle.index_changes.specs.Entries.{AreEntriesLawful, LocalEntries}
 use Rattle.cell_model.specs.declared.key.CellKey.{CellKey}
 use Rattle.cell_model.specs.declared.catalog.Catalog.{Catalog}
 use Rattle.cell_model.specs.declared.command.CatalogCommand.{CatalogCommand}
-use Rattle.cell_model.specs.declared.command.CatalogCommand.TheVariants.{Create, Drop, Change}
+use Rattle.cell_model.specs.declared.command.CatalogCommand.TheVariants.{Create, Drop, Change, TimeToLive}
 use Rattle.cell_model.specs.Commands.{catalog_after, number_named}
 use Rattle.cell_model.specs.Keys.{table_of}
 use Rattle.cell_model.specs.Service.{service}
@@ -34,3 +34,4 @@ entries_stay partitions = λ d moment c k v sound named altered there. stays d m
     stays (Create schema) moment c k v altered = absurd (cc)
     stays (Drop name) moment c k v altered = absurd (none_altered (number_named c.tables name) (table_of k) altered)
     stays (Change name update) moment c k v altered = updates_keep name update moment c k v
+    stays (TimeToLive name attribute enabled) moment c k v altered = absurd (cc)

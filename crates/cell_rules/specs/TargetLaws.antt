@@ -7,15 +7,15 @@ use Rattle.index_changes.specs.Commands.{AreCommandsLawful, alters, drops, makes
 use Rattle.cell_model.specs.declared.catalog.Catalog.{Catalog}
 use Rattle.cell_model.specs.declared.catalog.CatalogTable.{CatalogTable}
 use Rattle.cell_model.specs.declared.command.CatalogCommand.{CatalogCommand}
-use Rattle.cell_model.specs.declared.command.CatalogCommand.TheVariants.{Create, Drop, Change}
+use Rattle.cell_model.specs.declared.command.CatalogCommand.TheVariants.{Create, Drop, Change, TimeToLive}
 use Rattle.cell_model.specs.Catalogs.{numbered, has_table, last_drawn}
-use Rattle.cell_model.specs.Commands.{number_named, subject, is_number, changed_table, kept, catalog_after}
+use Rattle.cell_model.specs.Commands.{number_named, subject, waits_for, is_number, changed_table, kept, catalog_after}
 use Rattle.cell_model.specs.IndexRows.{numbers_in, numbers_at}
 use Rattle.cell_model.specs.Keys.{table_of}
 use Rattle.cell_model.specs.Service.{service}
 use Rattle.cell_model.proofs.Numbers.{is_among}
-use Rattle.cell_model.proofs.Lookups.{own_number, kept_found, after_or_new, same_table, some_is}
-use Rattle.cell_model.proofs.Lawful.{found_drawn, left_some, index_drawn, new_above, kept_comes}
+use Rattle.cell_model.proofs.Lookups.{own_number, kept_found, after_or_new, some_is}
+use Rattle.cell_model.proofs.Lawful.{found_drawn, left_some, spared, index_drawn, new_above, kept_comes}
 use Rattle.cell_rules.specs.Targets.{IsSound, altered, dropped, target}
 
 no_both : (b : Bool) → b ≡ true → b ≡ false → ⊥
@@ -32,17 +32,18 @@ of_altered : (o : Option ℕ) → number_of (altered o) ≡ o
 of_altered None = refl
 of_altered (Some n) = refl
 
-pub same_subject : (d : CatalogCommand) (c : Catalog) → number_of (target d c) ≡ subject d c
+pub same_subject : (d : CatalogCommand) (c : Catalog) → number_of (target d c) ≡ waits_for d c
 same_subject (Create schema) c = refl
 same_subject (Drop name) c = of_dropped (number_named c.tables name)
 same_subject (Change name update) c = of_altered (number_named c.tables name)
+same_subject (TimeToLive name attribute enabled) c = refl
 
 same_test : (o : Option ℕ) (n : ℕ) → is_number o n ≡ is_its_number o n
 same_test None n = refl
 same_test (Some m) n = refl
 
-concerned : (d : CatalogCommand) (c : Catalog) (n : ℕ) → is_number (subject d c) n ≡ is_its_number (number_of (target d c)) n
-concerned d c n = same_test (subject d c) n ∙ ap (λ o. is_its_number o n) (sym (same_subject d c))
+concerned : (d : CatalogCommand) (c : Catalog) (n : ℕ) → is_number (waits_for d c) n ≡ is_its_number (number_of (target d c)) n
+concerned d c n = same_test (waits_for d c) n ∙ ap (λ o. is_its_number o n) (sym (same_subject d c))
 
 dropped_is : (o : Option ℕ) (n : ℕ) → drops (dropped o) n ≡ true → is_number o n ≡ true
 dropped_is None n e = absurd (cc)
@@ -86,6 +87,8 @@ comes (Create schema) moment c n there absent =
     ]
 comes (Drop name) moment c n there absent = absurd (no_both (has_table c n) (was_there (Drop name) c n there) absent)
 comes (Change name update) moment c n there absent = absurd (no_both (has_table c n) (was_there (Change name update) c n there) absent)
+comes (TimeToLive name attribute enabled) moment c n there absent =
+    absurd (no_both (has_table c n) (was_there (TimeToLive name attribute enabled) c n there) absent)
 
 fresh : (d : CatalogCommand) (c : Catalog) (n : ℕ) → makes (target d c) n ≡ true → has_table c n ≡ false
 fresh (Create schema) c n e =
@@ -93,6 +96,7 @@ fresh (Create schema) c n e =
     (λ there. let is : last_drawn c + 1 ≡ n = eqb-true (last_drawn c + 1) n e in let low : n ≤ last_drawn c = found_drawn c n there in omega arith)
 fresh (Drop name) c n e = absurd (none_made (number_named c.tables name) n e)
 fresh (Change name update) c n e = absurd (none_new (number_named c.tables name) n e)
+fresh (TimeToLive name attribute enabled) c n e = absurd (cc)
 
 -- what becomes of the table that the command is on
 becomes : (d : CatalogCommand) (c : Catalog) (n : ℕ) (t : CatalogTable) → is_number (subject d c) n ≡ true → numbered c.tables n ≡ Some t
@@ -105,6 +109,7 @@ becomes d c n t hit found =
 goes : (d : CatalogCommand) (moment : ℕ) (c : Catalog) (n : ℕ) → drops (target d c) n ≡ true → numbered (catalog_after d moment c).tables n ≡ None
 goes (Create schema) moment c n e = absurd (cc)
 goes (Change name update) moment c n e = absurd (none_dropped (number_named c.tables name) n e)
+goes (TimeToLive name attribute enabled) moment c n e = absurd (cc)
 goes (Drop name) moment c n e = by_table (numbered c.tables n) refl
   where
     left : List CatalogTable
@@ -120,6 +125,7 @@ stays : (d : CatalogCommand) (moment : ℕ) (c : Catalog) (n : ℕ) → alters (
     → has_table (catalog_after d moment c) n ≡ true
 stays (Create schema) moment c n e there = absurd (cc)
 stays (Drop name) moment c n e there = absurd (none_altered (number_named c.tables name) n e)
+stays (TimeToLive name attribute enabled) moment c n e there = absurd (cc)
 stays (Change name update) moment c n e there =
     let t = some_is (numbered c.tables n) there in
     ap is_some (becomes (Change name update) c n t.0 (altered_is (number_named c.tables name) n e) t.1)
@@ -131,6 +137,7 @@ abbrev gains : CatalogCommand → Catalog → Option ℕ
 gains (Create schema) c = Some (last_drawn c + 1)
 gains (Drop name) c = subject (Drop name) c
 gains (Change name update) c = subject (Change name update) c
+gains (TimeToLive name attribute enabled) c = subject (TimeToLive name attribute enabled) c
 
 -- an index of a table that the command keeps was there, or it is new and the command is on the table
 kept_index : (d : CatalogCommand) (on : Option ℕ) (drawn n g : ℕ) (ts : List CatalogTable)
@@ -167,6 +174,8 @@ index_comes (Create schema) moment c n g h =
     ]
 index_comes (Drop name) moment c n g h = kept_index (Drop name) (subject (Drop name) c) (last_drawn c) n g c.tables h
 index_comes (Change name update) moment c n g h = kept_index (Change name update) (subject (Change name update) c) (last_drawn c) n g c.tables h
+index_comes (TimeToLive name attribute enabled) moment c n g h =
+    kept_index (TimeToLive name attribute enabled) (subject (TimeToLive name attribute enabled) c) (last_drawn c) n g c.tables h
 
 one_number : (o : Option ℕ) (u v : ℕ) → is_number o u ≡ true → is_number o v ≡ true → u ≡ v
 one_number None u v a b = absurd (cc)
@@ -195,7 +204,7 @@ commands_lawful partitions =
       fresh = λ d c k sound e. fresh d c (table_of k) e;
       goes = λ d moment c k sound named e. ap is_some (goes d moment c (table_of k) e);
       stays = λ d moment c k sound named e there. stays d moment c (table_of k) e there;
-      spares = λ d moment c k sound named away there. ap numbers_in (same_table d moment c (table_of k) away there);
+      spares = λ d moment c k sound named away there. spared numbers_in (λ attribute enabled t. refl) d moment c (table_of k) away there;
       by_number = λ c k sound there. refl;
       of_one = λ c u g k sound e i. sound (table_of k) u g i e;
       none = λ d moment c u sound named e. ap numbers_in (goes d moment c u e);

@@ -7,6 +7,7 @@ use crate::equal::{are_equal_items, are_equal_schemas};
 use base_types::{Seq, Text};
 use cell_model::{CatalogAnswer, PageRoom, PageRow};
 use row_keys::Position;
+use table_model::TtlFault;
 use table_schema::{Schema, SchemaFault};
 
 /// Whether both lists have the same numbers in the same order.
@@ -57,6 +58,13 @@ fn are_equal_lists(left: &[PageRow], right: &[PageRow]) -> bool
 
 /// Whether both are one fault.
 fn are_one_fault(left: SchemaFault, right: SchemaFault) -> bool
+    ensures { IsTrue result ↔ (left ≡ right) }
+{
+    left == right
+}
+
+/// Whether both are one fault of a time to live.
+fn are_one_ttl_fault(left: TtlFault, right: TtlFault) -> bool
     ensures { IsTrue result ↔ (left ≡ right) }
 {
     left == right
@@ -139,6 +147,9 @@ pub(crate) fn are_equal_told(left: &CatalogAnswer, right: &CatalogAnswer) -> boo
         (CatalogAnswer::IndexExists, CatalogAnswer::IndexExists) => true,
         (CatalogAnswer::BadSchema { fault }, CatalogAnswer::BadSchema { fault: other }) => {
             are_one_fault(*fault, *other)
+        }
+        (CatalogAnswer::TtlRefused { fault }, CatalogAnswer::TtlRefused { fault: other }) => {
+            are_one_ttl_fault(*fault, *other)
         }
         (
             CatalogAnswer::Table {

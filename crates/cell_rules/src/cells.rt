@@ -7,6 +7,7 @@ ghost use Rattle.cell_rules.specs.TargetLaws.{commands_lawful};
 ghost use Rattle.cell_rules.specs.Entries.{entries_lawful, entries_stay, table_entries};
 ghost use Rattle.cell_rules.specs.PageLaws.{own_rows, read_table};
 
+use crate::expiry::may_expire;
 use crate::questions::page_table;
 use crate::rules::TableRules;
 use crate::targets::{on_table, subject_of};
@@ -41,6 +42,10 @@ impl CellRules for TableRules {
         item: &SharedItem,
     ) -> Result<Vec<LocalEntry>, NoMemory> {
         entries_of(alloc, catalog, key, item)
+    }
+
+    fn may_expire(catalog: &Catalog, table: u64) -> bool {
+        may_expire(catalog, table)
     }
 
     ghost ordered = { λ partitions x y. refl };

@@ -14,6 +14,7 @@ mod answers;
 mod cells;
 mod copies;
 mod equal;
+mod expiry;
 mod keys;
 mod questions;
 mod removal;

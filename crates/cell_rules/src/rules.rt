@@ -9,6 +9,7 @@ use crate::copies::copy_of_action;
 use crate::equal::{
     are_equal_actions, are_equal_faults, are_equal_items, are_equal_keys, are_same_actions,
 };
+use crate::expiry::is_expired;
 use crate::keys::{cell_of, item_of};
 use crate::questions::{page_cell, page_index, serves};
 use crate::removal::removal;
@@ -16,11 +17,10 @@ use crate::rows::row_of;
 use crate::told::told_of;
 use attr_value::SharedItem;
 use base_types::Seq;
-use cell_catalog::{catalog_after, concerns, has_table, numbers_at, refusal, ruling, table_of};
+use cell_catalog::{catalog_after, has_table, numbers_at, refusal, ruling, table_of};
 use cell_model::{Catalog, CatalogAnswer, CatalogCommand, CatalogQuestion, CellKey, KeyedAction};
 use index_feed::Row;
 use std::alloc::{AllocError as NoMemory, Global};
-use std::cmp::Ordering;
 use txn_core::{Outcome, Rules, Ruling};
 use update_eval::EvalFault;
 
@@ -54,16 +54,8 @@ impl Rules for TableRules {
         left == right
     }
 
-    fn compare(left: &CellKey, right: &CellKey) -> Ordering {
-        left.cmp(right)
-    }
-
     fn cell_of(partitions: u32, key: &CellKey) -> u32 {
         cell_of(partitions, key)
-    }
-
-    fn control(partitions: u32) -> u32 {
-        partitions
     }
 
     fn page_cell(partitions: u32, page: &CatalogQuestion) -> u32 {
@@ -87,8 +79,8 @@ impl Rules for TableRules {
         removal(alloc, key)
     }
 
-    fn is_expired(_catalog: &Catalog, _key: &CellKey, _item: &SharedItem, _moment: u64) -> bool {
-        false
+    fn is_expired(catalog: &Catalog, key: &CellKey, item: &SharedItem, moment: u64) -> bool {
+        is_expired(catalog, key, item.item(), moment)
     }
 
     fn no_table(alloc: Global) -> Result<Catalog, NoMemory> {
@@ -166,25 +158,12 @@ impl Rules for TableRules {
         page_index(page)
     }
 
-    fn page(
-        alloc: Global,
-        catalog: &Catalog,
-        rows: &[(CellKey, SharedItem)],
-        page: &CatalogQuestion,
-    ) -> Result<CatalogAnswer, NoMemory> {
-        told_of(alloc, catalog, rows, page)
-    }
-
     fn refuses(
         _alloc: Global,
         command: &CatalogCommand,
         catalog: &Catalog,
     ) -> Result<Option<CatalogAnswer>, NoMemory> {
         Ok(refusal(command, catalog))
-    }
-
-    fn concerns(command: &CatalogCommand, catalog: &Catalog, key: &CellKey) -> bool {
-        concerns(command, catalog, key)
     }
 
     fn rule(

@@ -4,7 +4,7 @@ ghost use Rattle.std.specs.Prelude.{◌≡◌, ◌+◌, IfOk};
 ghost use Rattle.index_changes.specs.Commands.{subject as number_of};
 ghost use Rattle.cell_rules.specs.Targets.{altered, dropped, target};
 
-use cell_catalog::{last_drawn, number_named, subject};
+use cell_catalog::{last_drawn, number_named, waits_for};
 use cell_model::{Catalog, CatalogCommand};
 use partition::TableChange;
 use std::alloc::AllocError as NoMemory;
@@ -47,6 +47,7 @@ pub(crate) fn on_table(command: &CatalogCommand, catalog: &Catalog) -> Result<Ta
         CatalogCommand::Create { .. } => made(last_drawn(catalog)),
         CatalogCommand::Drop { name } => Ok(dropped(number_named(catalog, name))),
         CatalogCommand::Change { name, .. } => Ok(altered(number_named(catalog, name))),
+        CatalogCommand::TimeToLive { .. } => Ok(TableChange::Nothing),
     }
 }
 
@@ -54,5 +55,5 @@ pub(crate) fn on_table(command: &CatalogCommand, catalog: &Catalog) -> Result<Ta
 pub(crate) fn subject_of(command: &CatalogCommand, catalog: &Catalog) -> Option<u64>
     ensures { result ≡ number_of (target command.now catalog.now) }
 {
-    subject(command, catalog)
+    waits_for(command, catalog)
 }

@@ -11,3 +11,4 @@ pub mod Places
 pub mod Ways
 pub mod Answered
 pub mod OwnEntries
+pub mod Rest

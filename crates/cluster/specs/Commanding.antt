@@ -1,8 +1,9 @@
 -- A command, which is one event over all cells: what each cell tells of it and does in it.
-use Rattle.std.specs.Prelude.{◌≡◌, ℕ, ◌<◌, ◌≤◌, List, ◌∷◌, Option, None, Some, MatchOption, Box, slice_get}
+use Rattle.std.specs.Prelude.{◌≡◌, ℕ, ◌<◌, ◌≤◌, List, ◌∷◌, Option, None, Some, MatchOption, Box, reverse, slice_get}
 use Rattle.std.specs.declared.cmp.Ord as ord
 use Rattle.std.specs.declared.cmp.PartialEq as eq
 use Rattle.std.specs.declared.cmp.PartialOrd as partial
+use Rattle.turnstile.specs.Passes.{PassView, TurnstileView}
 use Rattle.txn_core.specs.declared.message.Message.{Message}
 use Rattle.txn_core.specs.Service.{Service, Reply, Event, History}
 use Rattle.txn_core.specs.State.{State}
@@ -19,6 +20,7 @@ use Rattle.control_cell.specs.Holding.{IsEntry}
 use Rattle.control_cell.specs.Plans.{IsPlan}
 use Rattle.cluster.specs.declared.cell.ClusterCell.{ClusterCell}
 use Rattle.cluster.specs.Standing.{StandsFor}
+use Rattle.cluster.specs.Steps.{partitions_of}
 
 -- this holds of each of them at its place
 abbrev pub EachSo : {X : Type 0} → List X → (ℕ → X → Type 0) → Type 0
@@ -33,6 +35,14 @@ module _ {K V A F C D Q B : Type 0} (S : Service K V A F C D Q B) where
   -- what the cell's own entries make of the state
   abbrev pub own : History S → ℕ → State K V A C
   own es i = state S (of_cell i es)
+
+  -- the catalog that the control cell has after what the pass has seen
+  abbrev pub catalog_seen_by : TurnstileView → PassView (Event S) → C
+  catalog_seen_by t p = (own (reverse p.front) (partitions_of t)).catalog
+
+  -- and the one that the command makes of it at the moment of the pass
+  abbrev pub catalog_made_by : TurnstileView → PassView (Event S) → D → C
+  catalog_made_by t p d = S.core.change d p.moment (catalog_seen_by t p)
 
   -- the least number, in the first cell that has one, of those that hold an item of the command's table; none, where no cell has
   abbrev pub TellsFirst : (ℕ → State K V A C) → D → Option ℕ → Type 0

@@ -11,6 +11,11 @@ use Rattle.cluster.specs.World.{IsLegalLog, IsRight, MaySend}
 abbrev pub partitions_of : TurnstileView → ℕ
 partitions_of t = t.id.slots - 1
 
+-- the pass is one of the turnstile's, and holds no turn
+pub record IsAtRest {E : Type 0} (t : TurnstileView) (p : PassView E) : Type 0 where
+  pub of : p.turnstile ≡ t.id
+  pub free : p.turns ≡ []
+
 module _ {K V A F C D Q B : Type 0} (S : Service K V A F C D Q B) where
   -- the pass may send the message after what it has seen
   abbrev pub MayAsk : PassView (Event S) → Asked S → Type 0

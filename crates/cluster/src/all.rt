@@ -1,7 +1,7 @@
 //! A command over all cells, whose turns are held: each plans, and when all have, each carries it out.
 
-ghost use Rattle.std.specs.Prelude.{◌≡◌, ◌≤◌, ℕ, length, reverse, OnErr, OnOk};
-ghost use Rattle.cluster.specs.Commanding.{AllStand, AllStandAfter, CarriedBefore, PlannedBefore, TellsFirst, own};
+ghost use Rattle.std.specs.Prelude.{◌≡◌, ◌≤◌, length, reverse, OnErr, OnOk};
+ghost use Rattle.cluster.specs.Commanding.{AllStand, AllStandAfter, CarriedBefore, PlannedBefore, TellsFirst, catalog_made_by, own};
 ghost use Rattle.cluster.specs.Steps.{partitions_of};
 
 use crate::commanding::{abandon_in, carry_out_in, holder_in, plan_in, take_catalog};
@@ -123,8 +123,7 @@ pub(crate) fn carry_out<R: CommandRules + PageRules>(
     requires cells { (2 ≤ turnstile.now.id.slots) × (turnstile.now.id.slots ≤ 65) }
     requires count { length turns.old.values.items ≡ turnstile.now.id.slots }
     requires stand { AllStand (R.protocol (partitions_of turnstile.now)) R.locals turns.old.values.items (reverse pass.now.front) }
-    requires catalog { catalog ≡ (R.protocol (partitions_of turnstile.now)).core.change command.now pass.now.moment
-        (own (R.protocol (partitions_of turnstile.now)) (reverse pass.now.front) (partitions_of turnstile.now)).catalog }
+    requires catalog { catalog ≡ catalog_made_by (R.protocol (partitions_of turnstile.now)) turnstile.now pass.now command.now }
     ensures turns { turns.new ≡ record turns.old { values = turns.new.values } }
     ensures count { length turns.new.values.items ≡ length turns.old.values.items }
     ensures carried { OnOk result (AllStandAfter (R.protocol (partitions_of turnstile.now)) R.locals turns.new.values.items (reverse pass.now.front)

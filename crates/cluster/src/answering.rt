@@ -4,7 +4,7 @@ ghost use Rattle.std.specs.Prelude.{◌≡◌, ◌≤◌, length, reverse, IfOk,
 ghost use Rattle.txn_core.specs.declared.message.Message.{Message};
 ghost use Rattle.txn_core.specs.Legal.{IsAnswer};
 ghost use Rattle.control_cell.specs.Plans.{IsPlan};
-ghost use Rattle.cluster.specs.Commanding.{AllStand, AllStandWith, own};
+ghost use Rattle.cluster.specs.Commanding.{AllStand, AllStandWith, catalog_seen_by};
 ghost use Rattle.cluster.specs.Steps.{partitions_of};
 ghost use Rattle.cluster.specs.World.{IsLegalLog};
 
@@ -32,8 +32,7 @@ fn plan_there<R: CommandRules + PageRules>(
     ensures count { length turns.new.values.items ≡ length turns.old.values.items }
     ensures stand { AllStand (R.protocol (partitions_of turnstile.now)) R.locals turns.new.values.items (reverse pass.now.front) }
     ensures plan { IfOk result (λ plan. IsPlan (R.protocol (partitions_of turnstile.now))
-        (own (R.protocol (partitions_of turnstile.now)) (reverse pass.now.front) (partitions_of turnstile.now)).catalog
-        command.now pass.now.moment plan) }
+        (catalog_seen_by (R.protocol (partitions_of turnstile.now)) turnstile.now pass.now) command.now pass.now.moment plan) }
 {
     let moment = pass.moment();
     let last = partitions(turnstile);

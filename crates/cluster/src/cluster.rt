@@ -10,7 +10,7 @@ ghost use Rattle.partition.specs.Steps.{is_served};
 ghost use Rattle.control_cell.specs.Holding.{goes_to_control};
 ghost use Rattle.cluster.specs.Events.{moment_of, pass_of};
 ghost use Rattle.cluster.specs.World.{IsLegalLog};
-ghost use Rattle.cluster.specs.Steps.{Adds, AddsNone, MayAsk, partitions_of};
+ghost use Rattle.cluster.specs.Steps.{Adds, AddsNone, IsAtRest, MayAsk, partitions_of};
 ghost use Rattle.cluster.specs.Closing.{AreAfterAll};
 
 use crate::cell::CellOf;
@@ -81,8 +81,7 @@ impl<R: PageRules> Cluster<R> {
 
     /// Lets each of the two passes see all that the other had seen.
     pub fn meet(&self, pass: &mut Pass<TableWorld<R>>, other: &mut Pass<TableWorld<R>>)
-        requires of { (pass.old.turnstile ≡ self.now.id) × (other.old.turnstile ≡ self.now.id) }
-        requires free { (pass.old.turns ≡ []) × (other.old.turns ≡ []) }
+        requires rest { IsAtRest self.now pass.old × IsAtRest self.now other.old }
         ensures pass { pass.new ≡ record pass.old { front = longer pass.old.front other.old.front } }
         ensures other { other.new ≡ record other.old { front = pass.new.front } }
         ensures trail { Trail pass_of pass.old.number pass.old.front [] pass.new.front }
@@ -117,8 +116,7 @@ impl<R: PageRules> Cluster<R> {
     ) -> Result<Reply<R>, StepError>
     where
         R::Fault: Copy,
-        requires of { pass.old.turnstile ≡ self.now.id }
-        requires free { pass.old.turns ≡ [] }
+        requires rests { IsAtRest self.now pass.old }
         requires served { is_served (partitions_of self.now) message ≡ true }
         requires sent { sent_to (R.protocol (partitions_of self.now)) message ≡ Some cell }
         requires may { MayAsk (R.protocol (partitions_of self.now)) pass.old message }
@@ -142,8 +140,7 @@ impl<R: PageRules> Cluster<R> {
     ) -> Result<Reply<R>, StepError>
     where
         R::Fault: Copy,
-        requires of { pass.old.turnstile ≡ self.now.id }
-        requires free { pass.old.turns ≡ [] }
+        requires rests { IsAtRest self.now pass.old }
         requires goes { goes_to_control (R.protocol (partitions_of self.now)) message ≡ true }
         requires may { MayAsk (R.protocol (partitions_of self.now)) pass.old message }
         ensures ok { IfOk result (λ a. Adds (R.protocol (partitions_of self.now)) pass.old (Some (partitions_of self.now)) message a pass.new) }
@@ -167,8 +164,7 @@ impl<R: PageRules> Cluster<R> {
     ) -> Result<Reply<R>, StepError>
     where
         R: CommandRules,
-        requires of { pass.old.turnstile ≡ self.now.id }
-        requires free { pass.old.turns ≡ [] }
+        requires rests { IsAtRest self.now pass.old }
         ensures ok { IfOk result (λ a. Adds (R.protocol (partitions_of self.now)) pass.old None (Message.Command command) a pass.new) }
         ensures no_memory { result ≡ Err StepError.NoMemory → AddsNone (R.protocol (partitions_of self.now)) pass.old pass.new }
         ensures spent { result ≡ Err StepError.Spent ↔ (pass.old.used ≡ most_units) }
@@ -179,7 +175,7 @@ impl<R: PageRules> Cluster<R> {
 
     /// The cells after all steps. It takes no memory.
     pub fn close(self, passes: Seq<Pass<TableWorld<R>>>) -> Cells<R>
-        requires of { (i : ℕ) (p : _) → slice_get passes i ≡ Some p → (p.turnstile ≡ self.id) × (p.turns ≡ []) }
+        requires rest { (i : ℕ) (p : _) → slice_get passes i ≡ Some p → IsAtRest self p }
         requires all { (q : ℕ) → q < self.passes → (i : ℕ) × (p : _) × (slice_get passes i ≡ Some p) × (p.number ≡ q) }
         ensures count { length result.partitions ≡ partitions_of self }
         ensures after { AreAfterAll (R.protocol (partitions_of self)) passes result.partitions result.ledger }

@@ -6,7 +6,7 @@ ghost use Rattle.turnstile.specs.Passes.{HoldsAll, most_units};
 ghost use Rattle.txn_core.specs.declared.message.Message.{Message};
 ghost use Rattle.cluster.specs.Commanding.{AllStand};
 ghost use Rattle.cluster.specs.Events.{event_of, pass_of};
-ghost use Rattle.cluster.specs.Steps.{Adds, AddsNone, Fits, partitions_of};
+ghost use Rattle.cluster.specs.Steps.{Adds, AddsNone, Fits, IsAtRest, partitions_of};
 
 use crate::answering::answer_all;
 use crate::step::{StepError, facts};
@@ -50,8 +50,7 @@ fn take_turns<R: CommandRules + PageRules, T: Wait>(
     alloc: Global,
     pass: &mut Pass<TableWorld<R>>,
 ) -> Result<AllTurns<TableWorld<R>>, StepError>
-    requires of { pass.old.turnstile ≡ turnstile.now.id }
-    requires free { pass.old.turns ≡ [] }
+    requires rests { IsAtRest turnstile.now pass.old }
     ensures turns { IfOk result (λ t. (length t.values.items ≡ turnstile.now.id.slots) × (t.counted ≡ false)) }
     ensures pass { IfOk result (λ t. pass.new ≡ record pass.old { used = pass.old.used + 1; front = pass.new.front; turns = pass.new.turns }) }
     ensures holds { IfOk result (λ t. HoldsAll pass.new t.numbers.items) }
@@ -81,8 +80,7 @@ pub(crate) fn ask_all<R: CommandRules + PageRules, T: Wait>(
     command: &R::Command,
 ) -> Result<Reply<R>, StepError>
     requires cells { (2 ≤ turnstile.now.id.slots) × (turnstile.now.id.slots ≤ 65) }
-    requires of { pass.old.turnstile ≡ turnstile.now.id }
-    requires free { pass.old.turns ≡ [] }
+    requires rests { IsAtRest turnstile.now pass.old }
     ensures ok { IfOk result (λ a. Adds (R.protocol (partitions_of turnstile.now)) pass.old None (Message.Command command.now) a pass.new) }
     ensures no_memory { result ≡ Err StepError.NoMemory → AddsNone (R.protocol (partitions_of turnstile.now)) pass.old pass.new }
     ensures spent { result ≡ Err StepError.Spent ↔ (pass.old.used ≡ most_units) }

@@ -7,9 +7,10 @@
 //!   message and its answer at the pass's moment, at the end of a history that is legal by the protocol of transactions
 //!   (`txn_core`), and in which others' entries alone came in since the pass looked last. So the laws of `txn_core` hold of what
 //!   the pass has then seen. Where they answer an error they add nothing.
-//! - [`ask`] and [`ask_ledger`] say the same for calls of several messages: which entries the pass counted, in order, all of them at its
-//!   moment, and how many units they took (`specs/Counts.antt`). A message is not answered for want of a unit exactly where none is
-//!   left, and then nothing changes; one that takes no memory never for want of memory.
+//! - A [`Caller`] is what calls of several messages are made with. [`Caller::ask`], [`Caller::ask_ledger`] and [`Caller::ask_all`] say
+//!   which entries the pass counted, in order, all of them at its moment, and how many units they took (`specs/Counts.antt`). A message
+//!   is not answered for want of a unit exactly where none is left, and then nothing changes; one that takes no memory never for want
+//!   of memory.
 //! - [`Cluster::meet`] lets two passes see what the other had seen, and [`Cluster::close`] gives the cells after the one history
 //!   that begins with what each pass has seen.
 //!
@@ -18,7 +19,7 @@
 
 mod all;
 mod answering;
-mod asking;
+mod caller;
 mod cell;
 mod closing;
 mod cluster;
@@ -29,7 +30,7 @@ mod start;
 mod step;
 mod world;
 
-pub use asking::{ask, ask_ledger};
+pub use caller::Caller;
 pub use cell::{CellOf, ClusterCell};
 pub use closing::Cells;
 pub use cluster::Cluster;

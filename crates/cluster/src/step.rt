@@ -1,6 +1,6 @@
 //! One step: the turn of a cell is taken, the cell answers a message, and the entry is counted.
 
-ghost use Rattle.std.specs.Prelude.{◌≡◌, ◌≢◌, ◌↔◌, ◌+◌, ◌≤◌, true, false, Some, [], ◌∷◌, reverse, IfOk, Err};
+ghost use Rattle.std.specs.Prelude.{◌≡◌, ◌≢◌, ◌↔◌, ◌≤◌, true, false, Some, [], ◌∷◌, reverse, IfOk, Err};
 ghost use Rattle.turnstile.specs.Histories.{Ends, IsTimely, at_cell};
 ghost use Rattle.turnstile.specs.Kept.{ticket};
 ghost use Rattle.turnstile.specs.Passes.{most_units};
@@ -11,7 +11,7 @@ ghost use Rattle.cluster.specs.Events.{cell_of, event_of, moment_of, pass_of};
 ghost use Rattle.cluster.specs.World.{IsLegalLog};
 ghost use Rattle.cluster.specs.Standing.{StandsFor};
 ghost use Rattle.cluster.specs.Serving.{IsServedAt};
-ghost use Rattle.cluster.specs.Steps.{Adds, AddsNone, Fits, MayAsk, partitions_of};
+ghost use Rattle.cluster.specs.Steps.{Adds, AddsNone, Fits, IsAtRest, MayAsk, partitions_of};
 
 use crate::serve::serve;
 use crate::world::TableWorld;
@@ -89,8 +89,7 @@ pub(crate) fn ask<R: PageRules, T: Wait>(
 where
     R::Fault: Copy,
     requires cells { 2 ≤ turnstile.now.id.slots }
-    requires of { pass.old.turnstile ≡ turnstile.now.id }
-    requires free { pass.old.turns ≡ [] }
+    requires rests { IsAtRest turnstile.now pass.old }
     requires served { IsServedAt (R.protocol (partitions_of turnstile.now)) cell message }
     requires sent { sent_to (R.protocol (partitions_of turnstile.now)) message ≡ Some cell }
     requires may { MayAsk (R.protocol (partitions_of turnstile.now)) pass.old message }

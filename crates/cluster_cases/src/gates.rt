@@ -1,15 +1,15 @@
 //! A transaction that is held between two of its Prepares until another thread was answered.
 
-ghost use Rattle.std.specs.Prelude.{◌≡◌, []};
-ghost use Rattle.ddb_outside.specs.declared.gate.Pace.{Pace};
+ghost use Rattle.std.specs.Prelude.{◌≡◌};
+ghost use Rattle.cluster.specs.Steps.{IsAtRest};
+ghost use Rattle.coordinator.specs.declared.gate.Pace.{Pace};
 
-use crate::commands::is_made;
-use crate::orders::{amount, put};
+use crate::orders::put;
+use crate::steps::{amount, has_orders};
 use case_rules::Shop;
-use cluster::{Cluster, TableWorld};
-use coordinator::{TransactEnd, transact_write};
-use ddb_outside::{Gate, GoGate, Pace, Point};
-use std::alloc::{AllocError as NoMemory, Global};
+use cluster::{Caller, Cluster, TableWorld};
+use coordinator::{Gate, GoGate, Pace, Point, TransactEnd, transact_write};
+use std::alloc::Global;
 use std::sync::Wait;
 use std::sync::atomic::{AtomicBool, Ordering};
 use std::test::*;
@@ -58,13 +58,6 @@ impl<'a> Gate for HoldingGate<'a> {
         }
         Pace::Go
     }
-
-    fn twin(&self) -> Result<HoldingGate<'a>, NoMemory> {
-        Ok(HoldingGate {
-            signals: self.signals,
-            is_answered: false,
-        })
-    }
 }
 
 /// Gives two orders of two partitions their amounts in a transaction that is held. Whether it was committed, and the reader was
@@ -76,16 +69,16 @@ fn write_held<R: Wait>(
     pass: Pass<TableWorld<Shop>>,
     signals: &Signals,
 ) -> bool
-    requires of { pass.turnstile ≡ shop.now.id }
-    requires free { pass.turns ≡ [] }
+    requires rests { IsAtRest shop.now pass }
 {
     let mut pass = pass;
+    let caller = Caller::new(shop, rt, alloc);
     let mut gate = HoldingGate {
         signals,
         is_answered: false,
     };
     let actions = [put(1, 10), put(2, 20)];
-    let end = transact_write(shop, rt, alloc, &mut pass, None, &actions, &mut gate);
+    let end = transact_write(&caller, &mut pass, None, &actions, &mut gate);
     matches!(end, TransactEnd::Committed) && gate.is_answered
 }
 
@@ -97,14 +90,14 @@ fn read_meanwhile<R: Wait>(
     pass: Pass<TableWorld<Shop>>,
     signals: &Signals,
 ) -> Option<u64>
-    requires of { pass.turnstile ≡ shop.now.id }
-    requires free { pass.turns ≡ [] }
+    requires rests { IsAtRest shop.now pass }
 {
     let mut pass = pass;
+    let caller = Caller::new(shop, rt, alloc);
     if !is_set(&signals.is_held) {
         return None;
     }
-    let found = amount(rt, alloc, shop, &mut pass, 3);
+    let found = amount(&caller, &mut pass, 3);
     signals.is_answered.store(true, Ordering::SeqCst);
     found
 }
@@ -117,8 +110,7 @@ fn write_and_read<R: Wait + Threads + Sync>(
     writer: Pass<TableWorld<Shop>>,
     reader: Pass<TableWorld<Shop>>,
 ) -> (bool, Option<u64>)
-    requires of { (writer.turnstile ≡ shop.now.id) × (reader.turnstile ≡ shop.now.id) }
-    requires free { (writer.turns ≡ []) × (reader.turns ≡ []) }
+    requires rest { IsAtRest shop.now writer × IsAtRest shop.now reader }
 {
     let signals = Signals {
         is_held: AtomicBool::new(false),
@@ -128,30 +120,24 @@ fn write_and_read<R: Wait + Threads + Sync>(
     join(
         rt,
         move || -> bool
-            requires { (writer.turnstile ≡ shop.now.id) × (writer.turns ≡ []) }
+            requires { IsAtRest shop.now writer }
         { write_held(rt, alloc, shop, writer, lent) },
         move || -> Option<u64>
-            requires { (reader.turnstile ≡ shop.now.id) × (reader.turns ≡ []) }
+            requires { IsAtRest shop.now reader }
         { read_meanwhile(rt, alloc, shop, reader, lent) },
     )
 }
 
 /// Makes the table of orders, and the third order with its amount.
-fn fill<R: Wait>(
-    rt: &R,
-    alloc: Global,
-    shop: &Cluster<Shop>,
-    pass: &mut Pass<TableWorld<Shop>>,
-) -> bool
-    requires of { pass.old.turnstile ≡ shop.now.id }
-    requires free { pass.old.turns ≡ [] }
-    ensures same { (pass.new.turnstile ≡ pass.old.turnstile) × (pass.new.turns ≡ []) }
+fn fill<R: Wait>(caller: &Caller<'_, Shop, R>, pass: &mut Pass<TableWorld<Shop>>) -> bool
+    requires rests { IsAtRest caller.now pass.old }
+    ensures rests { IsAtRest caller.now pass.new }
 {
-    if !is_made(rt, alloc, shop, pass) {
+    if !has_orders(caller, pass) {
         return false;
     }
     let actions = [put(3, 30)];
-    let end = transact_write(shop, rt, alloc, pass, None, &actions, &mut GoGate);
+    let end = transact_write(caller, pass, None, &actions, &mut GoGate);
     matches!(end, TransactEnd::Committed)
 }
 
@@ -162,9 +148,10 @@ fn gate_between_prepares(rt: HostRuntime) -> Result<(), Fail> {
     let mut last = passes.pop().ok_or("a pass")?;
     let reader = passes.pop().ok_or("a pass")?;
     let writer = passes.pop().ok_or("a pass")?;
-    assert!(rt; fill(&rt, alloc, &shop, &mut last));
+    let caller = Caller::new(&shop, &rt, alloc);
+    assert!(rt; fill(&caller, &mut last));
     assert!(rt; write_and_read(&rt, alloc, &shop, writer, reader) == (true, Some(30)));
-    assert!(rt; amount(&rt, alloc, &shop, &mut last, 1) == Some(10));
-    assert!(rt; amount(&rt, alloc, &shop, &mut last, 2) == Some(20));
+    assert!(rt; amount(&caller, &mut last, 1) == Some(10));
+    assert!(rt; amount(&caller, &mut last, 2) == Some(20));
     Ok(())
 }

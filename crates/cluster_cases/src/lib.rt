@@ -1,10 +1,8 @@
-//! Tests of a cluster of the shop: threads, commands, transactions, and what was left of them.
+//! Tests of a cluster of the shop: by one thread, step by step, and by threads side by side.
 #![tactic(auto)]
 
 #[cfg(test)]
-mod commands;
-#[cfg(test)]
-mod ends;
+mod acts;
 #[cfg(test)]
 mod gates;
 #[cfg(test)]
@@ -12,8 +10,10 @@ mod orders;
 #[cfg(test)]
 mod reads;
 #[cfg(test)]
+mod steps;
+#[cfg(test)]
 mod stops;
 #[cfg(test)]
-mod transactions;
-#[cfg(test)]
 mod transfers;
+#[cfg(test)]
+mod writes;

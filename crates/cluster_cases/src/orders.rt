@@ -1,28 +1,31 @@
-//! Orders of the shop, in short.
+//! Items of the shop, in short.
 
-ghost use Rattle.std.specs.Prelude.{◌≡◌, []};
+use case_rules::{Action, Condition, Deed, Item, Key, Name};
 
-use case_rules::{Action, Condition, Deed, Item, Key, Name, Shop};
-use cluster::{Cluster, TableWorld};
-use std::alloc::Global;
-use std::sync::Wait;
-use turnstile::Pass;
-use txn_core::{Answer, Message};
-
-/// The key of an order, where the table of orders was made first.
-pub(crate) fn order(number: u64) -> Key {
+/// The key of an order or a payment, where the table of orders was made first and that of payments second.
+pub(crate) fn key_of(item: (Name, u64)) -> Key {
+    let (name, number) = item;
+    let table = match name {
+        Name::Orders => 1,
+        Name::Payments => 2,
+    };
     Key {
-        name: Name::Orders,
-        table: 1,
+        name,
+        table,
         customer: None,
         number,
     }
 }
 
-/// Gives an order of nobody this amount where a condition holds.
-pub(crate) fn put_where(number: u64, condition: Condition, amount: u64) -> Action {
+/// The key of an order.
+pub(crate) fn order(number: u64) -> Key {
+    key_of((Name::Orders, number))
+}
+
+/// Gives an item of nobody this amount where a condition holds.
+pub(crate) fn put_at(key: Key, condition: Condition, amount: u64) -> Action {
     Action {
-        key: order(number),
+        key,
         condition,
         deed: Deed::Put {
             item: Item {
@@ -34,27 +37,12 @@ pub(crate) fn put_where(number: u64, condition: Condition, amount: u64) -> Actio
     }
 }
 
-/// Gives an order of nobody this amount.
-pub(crate) fn put(number: u64, amount: u64) -> Action {
-    put_where(number, Condition::Always, amount)
+/// Gives an order this amount where a condition holds.
+pub(crate) fn put_where(number: u64, condition: Condition, amount: u64) -> Action {
+    put_at(order(number), condition, amount)
 }
 
-/// The amount of an order, if it is there.
-pub(crate) fn amount<R: Wait>(
-    rt: &R,
-    alloc: Global,
-    shop: &Cluster<Shop>,
-    pass: &mut Pass<TableWorld<Shop>>,
-    number: u64,
-) -> Option<u64>
-    requires of { pass.old.turnstile ≡ shop.now.id }
-    requires free { pass.old.turns ≡ [] }
-    ensures same { (pass.new.turnstile ≡ pass.old.turnstile) × (pass.new.turns ≡ []) }
-{
-    let key = order(number);
-    let cell = shop.cell_of(&key);
-    match shop.step(rt, alloc, pass, cell, Message::Get { key }) {
-        Ok(Answer::Row { item: Some(item) }) => Some(item.amount),
-        _ => None,
-    }
+/// Gives an order this amount.
+pub(crate) fn put(number: u64, amount: u64) -> Action {
+    put_where(number, Condition::Always, amount)
 }

@@ -1,13 +1,12 @@
 //! Amounts move from order to order in transactions, in two threads, beside one that reads, sweeps and feeds; none is lost.
 
-ghost use Rattle.std.specs.Prelude.{◌≡◌, []};
+ghost use Rattle.cluster.specs.Steps.{IsAtRest};
 
-use crate::commands::is_made;
 use crate::orders::{order, put, put_where};
+use crate::steps::has_orders;
 use case_rules::{Condition, Key, Shop};
-use cluster::{Cluster, TableWorld};
-use coordinator::{TransactEnd, transact_write};
-use ddb_outside::GoGate;
+use cluster::{Caller, Cluster, TableWorld};
+use coordinator::{GoGate, TransactEnd, transact_write};
 use index_feeder::drain;
 use recovery_manager::sweep;
 use std::alloc::{AllocError as NoMemory, Global};
@@ -24,19 +23,16 @@ const FIRST: u64 = 100;
 
 /// Moves one from an order to another where both are read at one point and neither has changed when it is written. Whether it was.
 fn move_one<R: Wait>(
-    rt: &R,
-    alloc: Global,
-    shop: &Cluster<Shop>,
+    caller: &Caller<'_, Shop, R>,
     pass: &mut Pass<TableWorld<Shop>>,
     from: u64,
     to: u64,
 ) -> bool
-    requires of { pass.old.turnstile ≡ shop.now.id }
-    requires free { pass.old.turns ≡ [] }
-    ensures same { (pass.new.turnstile ≡ pass.old.turnstile) × (pass.new.number ≡ pass.old.number) × (pass.new.turns ≡ []) }
+    requires rests { IsAtRest caller.now pass.old }
+    ensures rests { IsAtRest caller.now pass.new }
 {
     let keys = [order(from), order(to)];
-    let ReadEnd::Rows(rows) = transact_get(shop, rt, alloc, pass, &keys) else {
+    let ReadEnd::Rows(rows) = transact_get(caller, pass, &keys) else {
         return false;
     };
     let [Some(giver), Some(taker)] = rows.as_slice() else {
@@ -62,7 +58,7 @@ fn move_one<R: Wait>(
         ),
     ];
     matches!(
-        transact_write(shop, rt, alloc, pass, None, &actions, &mut GoGate),
+        transact_write(caller, pass, None, &actions, &mut GoGate),
         TransactEnd::Committed
     )
 }
@@ -75,15 +71,15 @@ fn move_often<R: Wait>(
     pass: Pass<TableWorld<Shop>>,
     mover: u64,
 ) -> u64
-    requires of { pass.turnstile ≡ shop.now.id }
-    requires free { pass.turns ≡ [] }
+    requires rests { IsAtRest shop.now pass }
 {
     let mut pass = pass;
+    let caller = Caller::new(shop, rt, alloc);
     let mut done = 0;
     for turn in 0..500 {
         let from = (turn * 5 + mover % ORDERS) % ORDERS;
         let to = (from + 1 + turn % 7) % ORDERS;
-        if move_one(rt, alloc, shop, &mut pass, from, to) {
+        if move_one(&caller, &mut pass, from, to) {
             done += 1;
         }
     }
@@ -101,17 +97,14 @@ fn all_orders(alloc: Global) -> Result<Vec<Key>, NoMemory> {
 
 /// What all orders have together; none, where they were not to be read at one point.
 fn sum<R: Wait>(
-    rt: &R,
-    alloc: Global,
-    shop: &Cluster<Shop>,
+    caller: &Caller<'_, Shop, R>,
     pass: &mut Pass<TableWorld<Shop>>,
     keys: &[Key],
 ) -> Option<u64>
-    requires of { pass.old.turnstile ≡ shop.now.id }
-    requires free { pass.old.turns ≡ [] }
-    ensures same { (pass.new.turnstile ≡ pass.old.turnstile) × (pass.new.turns ≡ []) }
+    requires rests { IsAtRest caller.now pass.old }
+    ensures rests { IsAtRest caller.now pass.new }
 {
-    let ReadEnd::Rows(rows) = transact_get(shop, rt, alloc, pass, keys) else {
+    let ReadEnd::Rows(rows) = transact_get(caller, pass, keys) else {
         return None;
     };
     let mut sum: u64 = 0;
@@ -133,18 +126,18 @@ fn keep_watch<R: Wait>(
     pass: Pass<TableWorld<Shop>>,
     keys: &[Key],
 ) -> bool
-    requires of { pass.turnstile ≡ shop.now.id }
-    requires free { pass.turns ≡ [] }
+    requires rests { IsAtRest shop.now pass }
 {
     let mut pass = pass;
+    let caller = Caller::new(shop, rt, alloc);
     for _turn in 0..100 {
-        if sum(rt, alloc, shop, &mut pass, keys).is_some_and(|sum| sum != ORDERS * FIRST) {
+        if sum(&caller, &mut pass, keys).is_some_and(|sum| sum != ORDERS * FIRST) {
             return false;
         }
-        if sweep(shop, rt, alloc, &mut pass, &mut GoGate).is_err() {
+        if sweep(&caller, &mut pass, &mut GoGate).is_err() {
             return false;
         }
-        if drain(shop, rt, alloc, &mut pass).is_err() {
+        if drain(&caller, &mut pass).is_err() {
             return false;
         }
     }
@@ -161,32 +154,25 @@ fn two_movers<R: Wait + Threads + Sync>(
     mover: u64,
     other: u64,
 ) -> (u64, u64)
-    requires of { (one.turnstile ≡ shop.now.id) × (two.turnstile ≡ shop.now.id) }
-    requires free { (one.turns ≡ []) × (two.turns ≡ []) }
+    requires rest { IsAtRest shop.now one × IsAtRest shop.now two }
 {
     join(
         rt,
         move || -> u64
-            requires { (one.turnstile ≡ shop.now.id) × (one.turns ≡ []) }
+            requires { IsAtRest shop.now one }
         { move_often(rt, alloc, shop, one, mover) },
         move || -> u64
-            requires { (two.turnstile ≡ shop.now.id) × (two.turns ≡ []) }
+            requires { IsAtRest shop.now two }
         { move_often(rt, alloc, shop, two, other) },
     )
 }
 
 /// Gives each order its first amount, in one transaction.
-fn fill<R: Wait>(
-    rt: &R,
-    alloc: Global,
-    shop: &Cluster<Shop>,
-    pass: &mut Pass<TableWorld<Shop>>,
-) -> bool
-    requires of { pass.old.turnstile ≡ shop.now.id }
-    requires free { pass.old.turns ≡ [] }
-    ensures same { (pass.new.turnstile ≡ pass.old.turnstile) × (pass.new.turns ≡ []) }
+fn fill<R: Wait>(caller: &Caller<'_, Shop, R>, pass: &mut Pass<TableWorld<Shop>>) -> bool
+    requires rests { IsAtRest caller.now pass.old }
+    ensures rests { IsAtRest caller.now pass.new }
 {
-    if !is_made(rt, alloc, shop, pass) {
+    if !has_orders(caller, pass) {
         return false;
     }
     let actions = [
@@ -199,7 +185,7 @@ fn fill<R: Wait>(
         put(6, FIRST),
         put(7, FIRST),
     ];
-    let end = transact_write(shop, rt, alloc, pass, None, &actions, &mut GoGate);
+    let end = transact_write(caller, pass, None, &actions, &mut GoGate);
     matches!(end, TransactEnd::Committed)
 }
 
@@ -213,16 +199,15 @@ fn watched<R: Wait + Threads + Sync>(
     watch: Pass<TableWorld<Shop>>,
     keys: &[Key],
 ) -> ((u64, u64), bool)
-    requires of { (one.turnstile ≡ shop.now.id) × (two.turnstile ≡ shop.now.id) × (watch.turnstile ≡ shop.now.id) }
-    requires free { (one.turns ≡ []) × (two.turns ≡ []) × (watch.turns ≡ []) }
+    requires rest { IsAtRest shop.now one × IsAtRest shop.now two × IsAtRest shop.now watch }
 {
     join(
         rt,
         move || -> (u64, u64)
-            requires { (one.turnstile ≡ shop.now.id) × (two.turnstile ≡ shop.now.id) × (one.turns ≡ []) × (two.turns ≡ []) }
+            requires { IsAtRest shop.now one × IsAtRest shop.now two }
         { two_movers(rt, alloc, shop, one, two, 0, 1) },
         move || -> bool
-            requires { (watch.turnstile ≡ shop.now.id) × (watch.turns ≡ []) }
+            requires { IsAtRest shop.now watch }
         { keep_watch(rt, alloc, shop, watch, keys) },
     )
 }
@@ -243,8 +228,9 @@ fn nothing_is_lost(rt: HostRuntime) -> Result<(), Fail> {
     let two = passes.pop().ok_or("a pass")?;
     let one = passes.pop().ok_or("a pass")?;
     let keys = keys.as_slice();
-    assert!(rt; fill(&rt, alloc, &shop, &mut last));
+    let caller = Caller::new(&shop, &rt, alloc);
+    assert!(rt; fill(&caller, &mut last));
     assert!(rt; are_right(watched(&rt, alloc, &shop, one, two, watch, keys)));
-    assert!(rt; sum(&rt, alloc, &shop, &mut last, keys) == Some(ORDERS * FIRST));
+    assert!(rt; sum(&caller, &mut last, keys) == Some(ORDERS * FIRST));
     Ok(())
 }

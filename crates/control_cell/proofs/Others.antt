@@ -7,7 +7,7 @@ use Rattle.txn_core.specs.Service.{Service, IsServiceLawful, Asked, Reply, Histo
 use Rattle.txn_core.specs.Effects.{Effect, Wrote, Prepared, Applied, Released, Changed}
 use Rattle.txn_core.specs.Answers.{KeptToken}
 use Rattle.txn_core.specs.State.{Ledger, State, step}
-use Rattle.txn_core.specs.History.{where_so, effect_of, is_written, is_accepted, is_applied, is_released, reasons_in, reasons_of, kept_after, kept}
+use Rattle.txn_core.specs.History.{where_so, effect_of, is_written, is_expired, is_accepted, is_applied, is_released, reasons_in, reasons_of, kept_after, kept}
 use Rattle.txn_core.specs.Legal.{state}
 use Rattle.txn_core.specs.Cells.{of_cell, IsAlike}
 use Rattle.txn_core.proofs.Exports.{own_entries_tell, alike_turned}
@@ -28,6 +28,7 @@ module _ {K V A F C D Q B : Type 0} (S : Service K V A F C D Q B) where
 
   spares : (w : State K V A C) (moment : ℕ) (m : Asked S) (a : Reply S) → is_of_control S m a ≡ false → Spares w (effect_of moment m a)
   spares w moment (Message.Write action) a other = where_spares w (is_written a) (Wrote action moment) (refl, refl)
+  spares w moment (Message.Expire action) a other = where_spares w (is_expired a) (Wrote action moment) (refl, refl)
   spares w moment (Message.Prepare n stamp action) a other = where_spares w (is_accepted a) (Prepared n stamp action) (refl, refl)
   spares w moment (Message.Apply n key) a other = where_spares w (is_applied a) (Applied n key) (refl, refl)
   spares w moment (Message.Release n key) a other = where_spares w (is_released a) (Released n key) (refl, refl)

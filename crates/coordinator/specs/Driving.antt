@@ -1,7 +1,7 @@
 -- What the driver of one transaction adds to the history, and what it knows of it.
 use Rattle.std.specs.Prelude.{◌≡◌, ℕ, ◌+◌, ◌≤◌, Bool, true, false, ◌&&◌, nat_eq, List, [], ◌∷◌, ◌++◌, length, map, drop, reverse, slice_get, Option, None, Some, is_some, IfSome, if◌then◌else◌}
 use Rattle.std.specs.List.{list_any, AllByRecursion}
-use Rattle.ddb_outside.specs.declared.gate.Point.{Point}
+use Rattle.coordinator.specs.declared.gate.Point.{Point}
 use Rattle.turnstile.specs.Histories.{Trail}
 use Rattle.turnstile.specs.Passes.{PassView}
 use Rattle.txn_core.specs.declared.message.Message.{Message}

@@ -1,3 +1,4 @@
+pub mod Gates
 pub mod Stops
 pub mod Driving
 pub mod Drives

@@ -1,17 +1,16 @@
 //! The steps after the decision. They take no memory.
 
-ghost use Rattle.std.specs.Prelude.{◌≡◌, ◌≢◌, ◌↔◌, ◌<◌, ℕ, [], reverse, IfErr, OnOk, Err};
+ghost use Rattle.std.specs.Prelude.{◌≡◌, ◌≢◌, ◌↔◌, ◌<◌, ℕ, reverse, IfErr, OnOk, Err};
 ghost use Rattle.turnstile.specs.Passes.{most_units};
 ghost use Rattle.txn_core.specs.declared.course.Move.{Move};
 ghost use Rattle.txn_core.specs.Driver.{course_left};
-ghost use Rattle.cluster.specs.Steps.{partitions_of};
+ghost use Rattle.cluster.specs.Steps.{IsAtRest, partitions_of};
 ghost use Rattle.cluster.specs.declared.step.StepError.{StepError};
 ghost use Rattle.coordinator.specs.Driving.{Advances, Fails, IsDriver, IsNext, last_message, last_move};
 
 use crate::driver::DriverOf;
-use cluster::{Cluster, StepError, TableWorld, ask, ask_ledger};
+use cluster::{Caller, StepError, TableWorld};
 use partition::PageRules;
-use std::alloc::Global;
 use std::sync::Wait;
 use turnstile::Pass;
 use txn_core::{Asked, Fate, Message, Rules};
@@ -29,21 +28,18 @@ fn last_message<R: Rules>(fate: Fate, number: u64, key: R::Key) -> Asked<R>
 /// Carries out the next action of a committed transaction, or lets the item of the next action of a cancelled one go, where that
 /// comes next.
 pub fn settle<R: PageRules, T: Wait>(
-    cluster: &Cluster<R>,
-    rt: &T,
-    alloc: Global,
+    caller: &Caller<'_, R, T>,
     pass: &mut Pass<TableWorld<R>>,
     driver: &mut DriverOf<R>,
 ) -> Result<(), StepError>
 where
     R::Fault: Copy,
-    requires of { pass.old.turnstile ≡ cluster.now.id }
-    requires free { pass.old.turns ≡ [] }
-    requires driver { IsDriver (R.protocol (partitions_of cluster.now)) (reverse pass.old.front) driver.old }
+    requires rests { IsAtRest caller.now pass.old }
+    requires driver { IsDriver (R.protocol (partitions_of caller.now)) (reverse pass.old.front) driver.old }
     requires next { (place : ℕ) × IsNext driver.old.course (last_move driver.old.fate place) }
-    ensures ok { OnOk result (Advances (R.protocol (partitions_of cluster.now)) pass.old driver.old pass.new driver.new) }
+    ensures ok { OnOk result (Advances (R.protocol (partitions_of caller.now)) pass.old driver.old pass.new driver.new) }
     ensures less { OnOk result (course_left driver.new.course < course_left driver.old.course) }
-    ensures err { IfErr result (λ error. Fails (R.protocol (partitions_of cluster.now)) pass.old driver.old error pass.new) }
+    ensures err { IfErr result (λ error. Fails (R.protocol (partitions_of caller.now)) pass.old driver.old error pass.new) }
     ensures spent { result ≡ Err StepError.Spent ↔ (pass.old.used ≡ most_units) }
     ensures sure { result ≢ Err StepError.NoMemory }
 {
@@ -51,9 +47,9 @@ where
         unreachable!()
     };
     let key = R::into_key(action);
-    let cell = cluster.cell_of(&key);
+    let cell = caller.cell_of(&key);
     let message = last_message::<R>(driver.fate, driver.number, key);
-    let answer = ask(cluster, rt, alloc, pass, cell, message)?;
+    let answer = caller.ask(pass, cell, message)?;
     drop(answer);
     driver.course.took_done();
     Ok(())
@@ -61,26 +57,23 @@ where
 
 /// Tells the control cell that each action was applied or released, where that comes next.
 pub fn finish<R: PageRules, T: Wait>(
-    cluster: &Cluster<R>,
-    rt: &T,
-    alloc: Global,
+    caller: &Caller<'_, R, T>,
     pass: &mut Pass<TableWorld<R>>,
     driver: &mut DriverOf<R>,
 ) -> Result<(), StepError>
 where
     R::Fault: Copy,
-    requires of { pass.old.turnstile ≡ cluster.now.id }
-    requires free { pass.old.turns ≡ [] }
-    requires driver { IsDriver (R.protocol (partitions_of cluster.now)) (reverse pass.old.front) driver.old }
+    requires rests { IsAtRest caller.now pass.old }
+    requires driver { IsDriver (R.protocol (partitions_of caller.now)) (reverse pass.old.front) driver.old }
     requires next { IsNext driver.old.course Move.Done }
-    ensures ok { OnOk result (Advances (R.protocol (partitions_of cluster.now)) pass.old driver.old pass.new driver.new) }
+    ensures ok { OnOk result (Advances (R.protocol (partitions_of caller.now)) pass.old driver.old pass.new driver.new) }
     ensures less { OnOk result (course_left driver.new.course < course_left driver.old.course) }
-    ensures err { IfErr result (λ error. Fails (R.protocol (partitions_of cluster.now)) pass.old driver.old error pass.new) }
+    ensures err { IfErr result (λ error. Fails (R.protocol (partitions_of caller.now)) pass.old driver.old error pass.new) }
     ensures spent { result ≡ Err StepError.Spent ↔ (pass.old.used ≡ most_units) }
     ensures sure { result ≢ Err StepError.NoMemory }
 {
     let number = driver.number;
-    let answer = ask_ledger(cluster, rt, alloc, pass, Message::Done { number })?;
+    let answer = caller.ask_ledger(pass, Message::Done { number })?;
     drop(answer);
     driver.course.took_done();
     Ok(())

@@ -15,6 +15,8 @@
 //! with its token and its actions, of which one at most draws a number, messages that drive the number that a Begin named, and at last the
 //! Forget of the number that it drew (`specs/Writes.antt`). That number is never found gone, whatever other drivers do. A number that is
 //! followed, whether it was drawn, found running or found completed, was begun with the same parameters as the request has.
+//!
+//! A [`Gate`] is asked between two steps, and may leave the transaction there: tests of what is left in the middle stop it so.
 #![tactic(auto)]
 
 mod apart;
@@ -23,6 +25,7 @@ mod decision;
 mod drive_end;
 mod driver;
 mod ending;
+mod gate;
 mod parameters;
 mod preparation;
 mod reasons;
@@ -37,6 +40,7 @@ pub use decision::{cancel, commit};
 pub use drive_end::{DriveEnd, DriveEndOf};
 pub use driver::{Driver, DriverOf};
 pub use ending::{finish, settle};
+pub use gate::{Gate, GoGate, Pace, Point, ScriptGate};
 pub use preparation::prepare;
 pub use record::recall;
 pub use run::drive;

@@ -1,17 +1,17 @@
 //! The step that asks for the acceptance of an action.
 
-ghost use Rattle.std.specs.Prelude.{◌≡◌, ◌≢◌, ◌↔◌, ◌<◌, Some, [], length, reverse, slice_get, IfErr, IfOk, OnOk, Err};
+ghost use Rattle.std.specs.Prelude.{◌≡◌, ◌≢◌, ◌↔◌, ◌<◌, Some, length, reverse, slice_get, IfErr, IfOk, OnOk, Err};
 ghost use Rattle.turnstile.specs.Passes.{most_units};
 ghost use Rattle.txn_core.specs.declared.course.Move.{Move};
 ghost use Rattle.txn_core.specs.Driver.{course_left};
-ghost use Rattle.cluster.specs.Steps.{partitions_of};
+ghost use Rattle.cluster.specs.Steps.{IsAtRest, partitions_of};
 ghost use Rattle.cluster.specs.declared.step.StepError.{StepError};
 ghost use Rattle.coordinator.specs.Driving.{Advances, Fails, IsDriver, IsNext};
 
 use crate::driver::DriverOf;
 use crate::reasons::make_ready;
 use crate::verdict::note;
-use cluster::{Cluster, StepError, TableWorld, ask};
+use cluster::{Caller, StepError, TableWorld};
 use partition::PageRules;
 use std::alloc::{AllocError as NoMemory, Global};
 use std::sync::Wait;
@@ -35,28 +35,25 @@ fn copy_of_action<R: Rules>(
 
 // Asks for the acceptance, where a unit is left for it.
 fn ask_acceptance<R: PageRules, T: Wait>(
-    cluster: &Cluster<R>,
-    rt: &T,
-    alloc: Global,
+    caller: &Caller<'_, R, T>,
     pass: &mut Pass<TableWorld<R>>,
     driver: &mut DriverOf<R>,
     place: u32,
 ) -> Result<(), StepError>
 where
     R::Fault: Copy,
-    requires of { pass.old.turnstile ≡ cluster.now.id }
-    requires free { pass.old.turns ≡ [] }
+    requires rests { IsAtRest caller.now pass.old }
     requires unit { pass.old.used < most_units }
-    requires driver { IsDriver (R.protocol (partitions_of cluster.now)) (reverse pass.old.front) driver.old }
+    requires driver { IsDriver (R.protocol (partitions_of caller.now)) (reverse pass.old.front) driver.old }
     requires next { IsNext driver.old.course (Move.Prepare place) }
-    ensures ok { OnOk result (Advances (R.protocol (partitions_of cluster.now)) pass.old driver.old pass.new driver.new) }
+    ensures ok { OnOk result (Advances (R.protocol (partitions_of caller.now)) pass.old driver.old pass.new driver.new) }
     ensures less { OnOk result (course_left driver.new.course < course_left driver.old.course) }
-    ensures err { IfErr result (λ error. Fails (R.protocol (partitions_of cluster.now)) pass.old driver.old error pass.new) }
+    ensures err { IfErr result (λ error. Fails (R.protocol (partitions_of caller.now)) pass.old driver.old error pass.new) }
     ensures not_spent { result ≢ Err StepError.Spent }
 {
-    cluster.facts(pass);
-    let action = copy_of_action::<R>(alloc, driver, place)?;
-    let cell = cluster.cell_of(R::key_of(&action));
+    caller.facts(pass);
+    let action = copy_of_action::<R>(caller.alloc(), driver, place)?;
+    let cell = caller.cell_of(R::key_of(&action));
     let number = driver.number;
     let stamp = driver.stamp;
     let message = Message::Prepare {
@@ -64,35 +61,32 @@ where
         stamp,
         action,
     };
-    let answer = ask(cluster, rt, alloc, pass, cell, message)?;
+    let answer = caller.ask(pass, cell, message)?;
     note::<R>(driver, place, answer)?;
-    make_ready::<R>(alloc, driver)?;
+    make_ready::<R>(caller.alloc(), driver)?;
     Ok(())
 }
 
 /// Asks the cell of the item of the action at a place to accept the action, where that comes next. After the last one that was
 /// not all accepted, what a cancel is to carry is made ready.
 pub fn prepare<R: PageRules, T: Wait>(
-    cluster: &Cluster<R>,
-    rt: &T,
-    alloc: Global,
+    caller: &Caller<'_, R, T>,
     pass: &mut Pass<TableWorld<R>>,
     driver: &mut DriverOf<R>,
     place: u32,
 ) -> Result<(), StepError>
 where
     R::Fault: Copy,
-    requires of { pass.old.turnstile ≡ cluster.now.id }
-    requires free { pass.old.turns ≡ [] }
-    requires driver { IsDriver (R.protocol (partitions_of cluster.now)) (reverse pass.old.front) driver.old }
+    requires rests { IsAtRest caller.now pass.old }
+    requires driver { IsDriver (R.protocol (partitions_of caller.now)) (reverse pass.old.front) driver.old }
     requires next { IsNext driver.old.course (Move.Prepare place) }
-    ensures ok { OnOk result (Advances (R.protocol (partitions_of cluster.now)) pass.old driver.old pass.new driver.new) }
+    ensures ok { OnOk result (Advances (R.protocol (partitions_of caller.now)) pass.old driver.old pass.new driver.new) }
     ensures less { OnOk result (course_left driver.new.course < course_left driver.old.course) }
-    ensures err { IfErr result (λ error. Fails (R.protocol (partitions_of cluster.now)) pass.old driver.old error pass.new) }
+    ensures err { IfErr result (λ error. Fails (R.protocol (partitions_of caller.now)) pass.old driver.old error pass.new) }
     ensures spent { result ≡ Err StepError.Spent ↔ (pass.old.used ≡ most_units) }
 {
     if pass.left() == 0 {
         return Err(StepError::Spent);
     }
-    ask_acceptance(cluster, rt, alloc, pass, driver, place)
+    ask_acceptance(caller, pass, driver, place)
 }

@@ -1,17 +1,16 @@
 //! A driver begins with the record of its transaction.
 
-ghost use Rattle.std.specs.Prelude.{◌≡◌, ◌↔◌, [], IfErr, IfOk, IfSome, IfNone, Err};
+ghost use Rattle.std.specs.Prelude.{◌≡◌, ◌↔◌, IfErr, IfOk, IfSome, IfNone, Err};
 ghost use Rattle.turnstile.specs.Passes.{most_units};
 ghost use Rattle.txn_core.specs.declared.fate.Fate.{Fate};
-ghost use Rattle.cluster.specs.Steps.{partitions_of};
+ghost use Rattle.cluster.specs.Steps.{IsAtRest, partitions_of};
 ghost use Rattle.cluster.specs.declared.step.StepError.{StepError};
 ghost use Rattle.coordinator.specs.Driving.{Begins, FindsNone, Misses, Recalls};
 
 use crate::driver::{Driver, DriverOf};
 use base_types::Seq;
-use cluster::{Cluster, StepError, TableWorld, ask_ledger};
+use cluster::{Caller, StepError, TableWorld};
 use partition::PageRules;
-use std::alloc::Global;
 use std::collections::VecDeque;
 use std::sync::Wait;
 use turnstile::Pass;
@@ -36,22 +35,19 @@ pub(crate) type RecordOf<R> = Record<
 
 /// Asks for the record of the transaction of this number. There is none where the number was not begun, or was forgotten.
 pub(crate) fn ask_record<R: PageRules, T: Wait>(
-    cluster: &Cluster<R>,
-    rt: &T,
-    alloc: Global,
+    caller: &Caller<'_, R, T>,
     pass: &mut Pass<TableWorld<R>>,
     number: u64,
 ) -> Result<Option<RecordOf<R>>, StepError>
 where
     R::Fault: Copy,
-    requires of { pass.old.turnstile ≡ cluster.now.id }
-    requires free { pass.old.turns ≡ [] }
-    ensures known { IfOk result (λ found. IfSome found (λ r. Recalls (R.protocol (partitions_of cluster.now)) number pass.old r pass.new)) }
-    ensures unknown { IfOk result (λ found. IfNone found (FindsNone (R.protocol (partitions_of cluster.now)) number pass.old pass.new)) }
-    ensures err { IfErr result (λ error. Misses (R.protocol (partitions_of cluster.now)) number pass.old error pass.new) }
+    requires rests { IsAtRest caller.now pass.old }
+    ensures known { IfOk result (λ found. IfSome found (λ r. Recalls (R.protocol (partitions_of caller.now)) number pass.old r pass.new)) }
+    ensures unknown { IfOk result (λ found. IfNone found (FindsNone (R.protocol (partitions_of caller.now)) number pass.old pass.new)) }
+    ensures err { IfErr result (λ error. Misses (R.protocol (partitions_of caller.now)) number pass.old error pass.new) }
     ensures spent { result ≡ Err StepError.Spent ↔ (pass.old.used ≡ most_units) }
 {
-    let answer = ask_ledger(cluster, rt, alloc, pass, Message::Recall { number })?;
+    let answer = caller.ask_ledger(pass, Message::Recall { number })?;
     match answer {
         Answer::Known {
             fate,
@@ -86,22 +82,19 @@ fn reasons_of_cancel<V: Drop, F: Drop>(
 /// begun, or was forgotten. The error is `NoMemory` also where a transaction had more actions than a course can count, which
 /// none has.
 pub fn recall<R: PageRules, T: Wait>(
-    cluster: &Cluster<R>,
-    rt: &T,
-    alloc: Global,
+    caller: &Caller<'_, R, T>,
     pass: &mut Pass<TableWorld<R>>,
     number: u64,
 ) -> Result<Option<DriverOf<R>>, StepError>
 where
     R::Fault: Copy,
-    requires of { pass.old.turnstile ≡ cluster.now.id }
-    requires free { pass.old.turns ≡ [] }
-    ensures driver { IfOk result (λ found. IfSome found (λ d. Begins (R.protocol (partitions_of cluster.now)) number pass.old pass.new d)) }
-    ensures unknown { IfOk result (λ found. IfNone found (FindsNone (R.protocol (partitions_of cluster.now)) number pass.old pass.new)) }
-    ensures err { IfErr result (λ error. Misses (R.protocol (partitions_of cluster.now)) number pass.old error pass.new) }
+    requires rests { IsAtRest caller.now pass.old }
+    ensures driver { IfOk result (λ found. IfSome found (λ d. Begins (R.protocol (partitions_of caller.now)) number pass.old pass.new d)) }
+    ensures unknown { IfOk result (λ found. IfNone found (FindsNone (R.protocol (partitions_of caller.now)) number pass.old pass.new)) }
+    ensures err { IfErr result (λ error. Misses (R.protocol (partitions_of caller.now)) number pass.old error pass.new) }
     ensures spent { result ≡ Err StepError.Spent ↔ (pass.old.used ≡ most_units) }
 {
-    let Some(record) = ask_record(cluster, rt, alloc, pass, number)? else {
+    let Some(record) = ask_record(caller, pass, number)? else {
         return Ok(None);
     };
     let Record {
@@ -119,10 +112,10 @@ where
         number,
         stamp,
         actions: VecDeque::from(Vec::from(actions)),
-        found: Seq::new(alloc),
+        found: Seq::new(caller.alloc()),
         no_table: None,
-        carried: Seq::new(alloc),
-        copy: Seq::new(alloc),
+        carried: Seq::new(caller.alloc()),
+        copy: Seq::new(caller.alloc()),
         reasons: reasons_of_cancel(fate, reasons),
         fate,
         course,

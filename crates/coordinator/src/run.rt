@@ -1,12 +1,12 @@
 //! A transaction is driven to its end.
 
-ghost use Rattle.std.specs.Prelude.{◌≡◌, ◌≢◌, ◌+◌, ◌≤◌, true, false, [], reverse, IfErr, IfOk, OnOk, Ok};
+ghost use Rattle.std.specs.Prelude.{◌≡◌, ◌≢◌, ◌+◌, ◌≤◌, true, false, reverse, IfErr, IfOk, OnOk, Ok};
 ghost use Rattle.ddb_outside.specs.Causes.{Rose};
-ghost use Rattle.ddb_outside.specs.declared.gate.Pace.{Pace};
+ghost use Rattle.coordinator.specs.declared.gate.Pace.{Pace};
 ghost use Rattle.txn_core.specs.declared.course.Move.{Move};
 ghost use Rattle.txn_core.specs.declared.fate.Fate.{Fate};
 ghost use Rattle.txn_core.specs.Driver.{course_left};
-ghost use Rattle.cluster.specs.Steps.{partitions_of};
+ghost use Rattle.cluster.specs.Steps.{IsAtRest, partitions_of};
 ghost use Rattle.coordinator.specs.Driving.{Advances, Fails, IsDriver, IsNext, is_gone};
 ghost use Rattle.coordinator.specs.Drives.{Drives, Ends};
 ghost use Rattle.coordinator.specs.Stops.{Stops};
@@ -15,11 +15,10 @@ ghost use Rattle.coordinator.specs.declared.drive_end.DriveEnd.{DriveEnd};
 use crate::course::advance;
 use crate::drive_end::{DriveEnd, DriveEndOf, cancelled, given_up};
 use crate::driver::{Driver, DriverOf};
+use crate::gate::{Gate, Pace, Point};
 use crate::record::{Record, ask_record, recall};
-use cluster::{Cluster, StepError, TableWorld};
-use ddb_outside::{Gate, Pace, Point};
+use cluster::{Caller, StepError, TableWorld};
 use partition::PageRules;
-use std::alloc::Global;
 use std::sync::Wait;
 use turnstile::Pass;
 use txn_core::Fate;
@@ -38,25 +37,22 @@ fn pace_at<A, V, F, G: Gate>(driver: &Driver<A, V, F>, gate: &mut G, point: Poin
 
 /// Takes the steps of a course to its end, unless the gate stops the driver between two of them.
 fn take_steps<R: PageRules, G: Gate, T: Wait>(
-    cluster: &Cluster<R>,
-    rt: &T,
-    alloc: Global,
+    caller: &Caller<'_, R, T>,
     pass: &mut Pass<TableWorld<R>>,
     driver: &mut DriverOf<R>,
     gate: &mut G,
 ) -> Result<Pace, StepError>
 where
     R::Fault: Copy,
-    requires of { pass.old.turnstile ≡ cluster.now.id }
-    requires free { pass.old.turns ≡ [] }
-    requires driver { IsDriver (R.protocol (partitions_of cluster.now)) (reverse pass.old.front) driver.old }
-    ensures ok { OnOk result (Advances (R.protocol (partitions_of cluster.now)) pass.old driver.old pass.new driver.new) }
+    requires rests { IsAtRest caller.now pass.old }
+    requires driver { IsDriver (R.protocol (partitions_of caller.now)) (reverse pass.old.front) driver.old }
+    ensures ok { OnOk result (Advances (R.protocol (partitions_of caller.now)) pass.old driver.old pass.new driver.new) }
     ensures ended { IfOk result (λ pace. pace ≡ Pace.Go → IsNext driver.new.course Move.End) }
     ensures there { IfOk result (λ pace. pace ≡ Pace.Stop → is_gone driver.new.fate ≡ false) }
     ensures gate { Stops (result ≡ Ok Pace.Stop) (G.stops gate.old) (G.stops gate.new) }
-    ensures err { IfErr result (λ error. Fails (R.protocol (partitions_of cluster.now)) pass.old driver.old error pass.new) }
+    ensures err { IfErr result (λ error. Fails (R.protocol (partitions_of caller.now)) pass.old driver.old error pass.new) }
 {
-    while let Some(point) = advance(cluster, rt, alloc, pass, driver)? {
+    while let Some(point) = advance(caller, pass, driver)? {
         match pace_at(driver, gate, point) {
             Pace::Go => {}
             Pace::Stop => return Ok(Pace::Stop),
@@ -67,20 +63,17 @@ where
 
 /// The end of a transaction that is cancelled and done. Where another driver cancelled it, the reasons are those of its record.
 fn close_cancelled<R: PageRules, T: Wait>(
-    cluster: &Cluster<R>,
-    rt: &T,
-    alloc: Global,
+    caller: &Caller<'_, R, T>,
     pass: &mut Pass<TableWorld<R>>,
     driver: DriverOf<R>,
 ) -> DriveEndOf<R>
 where
     R::Fault: Copy,
-    requires of { pass.old.turnstile ≡ cluster.now.id }
-    requires free { pass.old.turns ≡ [] }
-    requires driver { IsDriver (R.protocol (partitions_of cluster.now)) (reverse pass.old.front) driver }
+    requires rests { IsAtRest caller.now pass.old }
+    requires driver { IsDriver (R.protocol (partitions_of caller.now)) (reverse pass.old.front) driver }
     requires end { IsNext driver.course Move.End }
     requires cancelled { driver.fate ≡ Fate.Cancelled }
-    ensures ends { Ends (R.protocol (partitions_of cluster.now)) 1 pass.old driver pass.new result }
+    ensures ends { Ends (R.protocol (partitions_of caller.now)) 1 pass.old driver pass.new result }
     ensures not_stopped { result ≢ DriveEnd.Stopped }
 {
     let Driver {
@@ -98,7 +91,7 @@ where
     if let Some(reasons) = reasons {
         return cancelled(reasons, no_table);
     }
-    let found = match ask_record(cluster, rt, alloc, pass, number) {
+    let found = match ask_record(caller, pass, number) {
         Ok(found) => found,
         Err(error) => return given_up(error),
     };
@@ -116,24 +109,21 @@ where
 
 /// The end of a transaction whose course is at its end.
 fn close<R: PageRules, T: Wait>(
-    cluster: &Cluster<R>,
-    rt: &T,
-    alloc: Global,
+    caller: &Caller<'_, R, T>,
     pass: &mut Pass<TableWorld<R>>,
     driver: DriverOf<R>,
 ) -> DriveEndOf<R>
 where
     R::Fault: Copy,
-    requires of { pass.old.turnstile ≡ cluster.now.id }
-    requires free { pass.old.turns ≡ [] }
-    requires driver { IsDriver (R.protocol (partitions_of cluster.now)) (reverse pass.old.front) driver }
+    requires rests { IsAtRest caller.now pass.old }
+    requires driver { IsDriver (R.protocol (partitions_of caller.now)) (reverse pass.old.front) driver }
     requires end { IsNext driver.course Move.End }
-    ensures ends { Ends (R.protocol (partitions_of cluster.now)) 1 pass.old driver pass.new result }
+    ensures ends { Ends (R.protocol (partitions_of caller.now)) 1 pass.old driver pass.new result }
     ensures not_stopped { result ≢ DriveEnd.Stopped }
 {
     match driver.fate {
         Fate::Committed => DriveEnd::Committed,
-        Fate::Cancelled => close_cancelled(cluster, rt, alloc, pass, driver),
+        Fate::Cancelled => close_cancelled(caller, pass, driver),
         Fate::Gone => DriveEnd::Gone,
         Fate::Undecided => unreachable!(),
     }
@@ -141,27 +131,24 @@ where
 
 /// Drives a transaction on from where its driver stands.
 pub(crate) fn drive_on<R: PageRules, G: Gate, T: Wait>(
-    cluster: &Cluster<R>,
-    rt: &T,
-    alloc: Global,
+    caller: &Caller<'_, R, T>,
     pass: &mut Pass<TableWorld<R>>,
     mut driver: DriverOf<R>,
     gate: &mut G,
 ) -> DriveEndOf<R>
 where
     R::Fault: Copy,
-    requires of { pass.old.turnstile ≡ cluster.now.id }
-    requires free { pass.old.turns ≡ [] }
-    requires driver { IsDriver (R.protocol (partitions_of cluster.now)) (reverse pass.old.front) driver }
-    ensures ends { Ends (R.protocol (partitions_of cluster.now)) (course_left driver.course + 1) pass.old driver pass.new result }
+    requires rests { IsAtRest caller.now pass.old }
+    requires driver { IsDriver (R.protocol (partitions_of caller.now)) (reverse pass.old.front) driver }
+    ensures ends { Ends (R.protocol (partitions_of caller.now)) (course_left driver.course + 1) pass.old driver pass.new result }
     ensures gate { Stops (result ≡ DriveEnd.Stopped) (G.stops gate.old) (G.stops gate.new) }
 {
-    let pace = match take_steps(cluster, rt, alloc, pass, &mut driver, gate) {
+    let pace = match take_steps(caller, pass, &mut driver, gate) {
         Ok(pace) => pace,
         Err(error) => return given_up(error),
     };
     match pace {
-        Pace::Go => close(cluster, rt, alloc, pass, driver),
+        Pace::Go => close(caller, pass, driver),
         Pace::Stop => DriveEnd::Stopped,
     }
 }
@@ -174,30 +161,27 @@ where
 /// stop, and always where it did, and `Spent` only where no unit is left. `NoMemory` comes only before this drive has decided, or
 /// when all is done and the reasons that another driver's cancel carried were asked for.
 pub fn drive<R: PageRules, G: Gate, T: Wait>(
-    cluster: &Cluster<R>,
-    rt: &T,
-    alloc: Global,
+    caller: &Caller<'_, R, T>,
     pass: &mut Pass<TableWorld<R>>,
     number: u64,
     gate: &mut G,
 ) -> DriveEndOf<R>
 where
     R::Fault: Copy,
-    requires of { pass.old.turnstile ≡ cluster.now.id }
-    requires free { pass.old.turns ≡ [] }
-    ensures drives { Drives (R.protocol (partitions_of cluster.now)) number pass.old pass.new result }
+    requires rests { IsAtRest caller.now pass.old }
+    ensures drives { Drives (R.protocol (partitions_of caller.now)) number pass.old pass.new result }
     ensures stopped { result ≡ DriveEnd.Stopped → Rose (G.stops gate.old) (G.stops gate.new) }
     ensures later { G.stops gate.old ≤ G.stops gate.new }
     ensures obeyed { result ≢ DriveEnd.Stopped → G.stops gate.new ≡ G.stops gate.old }
 {
-    let found = match recall(cluster, rt, alloc, pass, number) {
+    let found = match recall(caller, pass, number) {
         Ok(found) => found,
         Err(error) => return given_up(error),
     };
     let Some(driver) = found else {
         return DriveEnd::Gone;
     };
-    let end = drive_on(cluster, rt, alloc, pass, driver, gate);
-    cluster.facts(pass);
+    let end = drive_on(caller, pass, driver, gate);
+    caller.facts(pass);
     end
 }

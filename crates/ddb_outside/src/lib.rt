@@ -9,7 +9,6 @@
 
 mod clock;
 mod failed;
-mod gate;
 mod listener;
 mod memory_listener;
 mod sink;
@@ -17,7 +16,6 @@ mod source;
 
 pub use clock::{Clock, ListClock, StepClock, SystemClock};
 pub use failed::Failed;
-pub use gate::{Gate, GoGate, Pace, Point, ScriptGate};
 pub use listener::{Joined, Listener};
 pub use memory_listener::MemListener;
 pub use sink::{MemSink, Sink, StdSink, write_all};

@@ -7,6 +7,7 @@ ghost use Rattle.expr_words.specs.Words.{meanings, Sign};
 ghost use Rattle.expr_words.specs.Fronts.{IsBehindComma};
 ghost use Rattle.expr_lexer.specs.declared.token.TokenKind.TheVariants as sign;
 ghost use Rattle.expr_words.specs.Parses.{Extends};
+ghost use Rattle.expr_parse.specs.Arguments.{choices_then, choices_end_then};
 ghost use Rattle.expr_words.specs.Machine.{Goes, reads, choice, Whole, Side, Sides, ARest, AnOperand, MoreChoices, ASign, Do, FirstChoice, NextChoice, MakeChoice};
 
 use crate::operand::operand;
@@ -45,8 +46,7 @@ fn choices<'t, 'a>(
     levels: usize,
 ) -> Result<(Seq<Operand>, &'t [Word<'a>]), Stop>
     ensures goes { Goes
-        (λ os ks. reads (meanings words.now)
-        (AnOperand levels ∷ Do FirstChoice ∷ MoreChoices levels 99 ∷ os) ks)
+        (λ os ks. reads (meanings words.now) (choices_then levels os) ks)
         (λ x ks. choice (Sides x.0 ∷ ks)) (λ x. meanings x.1.now) result }
     ensures shorter { IfOk result (λ x. length x.1.now < length words.now) }
 {
@@ -72,7 +72,7 @@ fn closed<'t, 'a>(
     words: &'t [Word<'a>],
 ) -> Result<(Seq<Operand>, &'t [Word<'a>]), Stop>
     ensures goes { Goes
-        (λ os ks. reads (meanings words.now) (ASign sign.CloseParenthesis ∷ Do MakeChoice ∷ os) (Sides choices ∷ ks))
+        (λ os ks. reads (meanings words.now) (choices_end_then os) (Sides choices ∷ ks))
         (λ x ks. choice (Sides x.0 ∷ ks)) (λ x. meanings x.1.now) result }
     ensures shorter { IfOk result (λ x. length x.1.now < length words.now) }
 {

@@ -6,6 +6,7 @@ ghost use Rattle.expr_words.specs.Trees.{Compared, Presence, Absence, FrontTest,
 ghost use Rattle.expr_words.specs.Words.{meanings};
 ghost use Rattle.expr_words.specs.Fronts.{opens, calls, compares, is_deeper, IsComparing};
 ghost use Rattle.expr_words.specs.Parses.{Parses, whole};
+ghost use Rattle.expr_parse.specs.Arguments.{operands_then};
 ghost use Rattle.expr_lexer.specs.declared.token.TokenKind.TheVariants as sign;
 ghost use Rattle.expr_words.specs.Machine.{Goes, reads, Side, Place, APart, NamedPart, ARest, AnOperand, APath, AValue, ASign, Do, OfSides, OfPath, MakeRange, MakeSize, MakeKindTest};
 
@@ -149,8 +150,7 @@ fn two_operands<'t, 'a>(
     levels: usize,
 ) -> Result<(Operand, Operand, &'t [Word<'a>]), Stop>
     ensures goes { Goes
-        (λ os ks. reads (meanings words.now)
-        (ASign sign.OpenParenthesis ∷ AnOperand levels ∷ ASign sign.Comma ∷ AnOperand levels ∷ ASign sign.CloseParenthesis ∷ os) ks)
+        (λ os ks. reads (meanings words.now) (operands_then levels os) ks)
         (λ x ks. Side x.1 ∷ Side x.0 ∷ ks) (λ x. meanings x.2.now) result }
     ensures shorter { IfOk result (λ x. length x.2.now < length words.now) }
 {
@@ -168,10 +168,7 @@ fn begins<'t, 'a>(
     words: &'t [Word<'a>],
     levels: usize,
 ) -> Result<(Condition, &'t [Word<'a>]), Stop>
-    ensures goes { Parses whole
-        (ASign sign.OpenParenthesis ∷ AnOperand levels ∷ ASign sign.Comma ∷ AnOperand levels ∷ ASign sign.CloseParenthesis
-        ∷ Do (OfSides FrontTest) ∷ [])
-        [] words.now result }
+    ensures goes { Parses whole (operands_then levels (Do (OfSides FrontTest) ∷ [])) [] words.now result }
     ensures shorter { IfOk result (λ x. length x.1.now < length words.now) }
 {
     let (operand, front, rest) = two_operands(alloc, words, levels)?;
@@ -184,10 +181,7 @@ fn contains<'t, 'a>(
     words: &'t [Word<'a>],
     levels: usize,
 ) -> Result<(Condition, &'t [Word<'a>]), Stop>
-    ensures goes { Parses whole
-        (ASign sign.OpenParenthesis ∷ AnOperand levels ∷ ASign sign.Comma ∷ AnOperand levels ∷ ASign sign.CloseParenthesis
-        ∷ Do (OfSides PartTest) ∷ [])
-        [] words.now result }
+    ensures goes { Parses whole (operands_then levels (Do (OfSides PartTest) ∷ [])) [] words.now result }
     ensures shorter { IfOk result (λ x. length x.1.now < length words.now) }
 {
     let (operand, part, rest) = two_operands(alloc, words, levels)?;

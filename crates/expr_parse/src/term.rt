@@ -2,6 +2,7 @@
 #![tactic(auto, using(expr_words::proofs::Steps::do_it))]
 
 ghost use Rattle.std.specs.Prelude.{◌≡◌, ◌<◌, ◌≤◌, ◌∷◌, true, false, length, IfOk, []};
+ghost use Rattle.expr_parse.specs.Arguments.{terms_then};
 ghost use Rattle.expr_lexer.specs.declared.token.TokenKind.TheVariants as sign;
 ghost use Rattle.expr_words.specs.Trees.{term_tree, Plus, Minus};
 ghost use Rattle.expr_words.specs.Words.{meanings};
@@ -116,10 +117,7 @@ fn list_append<'t, 'a>(
     words: &'t [Word<'a>],
     levels: usize,
 ) -> Result<(Term, &'t [Word<'a>]), Stop>
-    ensures goes { Parses termed
-        (ASign sign.OpenParenthesis ∷ ATerm levels ∷ ASign sign.Comma ∷ ATerm levels
-        ∷ ASign sign.CloseParenthesis ∷ Do MakeAppended ∷ [])
-        [] words.now result }
+    ensures goes { Parses termed (terms_then levels (Do MakeAppended ∷ [])) [] words.now result }
     ensures shorter { IfOk result (λ x. length x.1.now < length words.now) }
 {
     let rest = open_parenthesis(words)?;

@@ -1,5 +1,8 @@
+-- The definitions in reading order: what is prepared for an item, its local entries, and what its change queues for an
+-- index; commands of the catalog, and what one will do to a cell: entries and items that come, places, changes to queue.
 pub mod Prepared
 pub mod Entries
+pub mod Expiry
 pub mod Index
 pub mod Commands
 pub mod Entering

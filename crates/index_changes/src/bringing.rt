@@ -3,7 +3,7 @@
 ghost use Rattle.std.specs.Prelude.{◌≡◌, ◌≤◌, ◌&&◌, ℕ, None, not, nat_eq, IfOk, OnOk, if◌then◌else◌};
 ghost use Rattle.std.specs.BTreeMap.{IsOrdered, get, is_at};
 ghost use Rattle.item_store.specs.Slots.{committed_at, slot_of};
-ghost use Rattle.index_changes.specs.Bringing.{brought_over, over};
+ghost use Rattle.index_changes.specs.Bringing.{ComesAt, brought_over, over};
 ghost use Rattle.index_changes.specs.Plans.{brought};
 
 use crate::rules::CellRules;
@@ -43,11 +43,8 @@ fn put_brought<R: CellRules>(
     items: &mut TableItems<R::Key, R::Value>,
 ) -> Result<(), NoMemory>
     requires { items.old.held ≡ 0 }
-    ensures slots { OnOk result ((n : ℕ) (q : R.Key) → get R.Key.cmp items.new.slots q
-        ≡ (if is_at (R.Key.cmp key.now) q
-        then over (slot_of (committed_at ((R.protocol n).core.adds command.now before.now key.now) stamp version) None)
-        (get R.Key.cmp items.old.slots q)
-        else get R.Key.cmp items.old.slots q)) }
+    ensures slots { OnOk result ((n : ℕ) → ComesAt R.Key.cmp items.old.slots items.new.slots key.now
+        (slot_of (committed_at ((R.protocol n).core.adds command.now before.now key.now) stamp version) None)) }
     ensures held { items.new.held ≡ 0 }
 {
     let Some(item) = R::adds(alloc, command, before, key)? else {
@@ -78,11 +75,8 @@ fn bring<R: CellRules>(
 ) -> Result<(), NoMemory>
     requires some { 1 ≤ partitions }
     requires free { items.old.held ≡ 0 }
-    ensures slots { OnOk result ((q : R.Key) → get R.Key.cmp items.new.slots q
-        ≡ (if is_at (R.Key.cmp key.now) q
-        then over (brought (R.protocol partitions) here command.now before.now after.now stamp version key.now)
-        (get R.Key.cmp items.old.slots q)
-        else get R.Key.cmp items.old.slots q)) }
+    ensures slots { OnOk result (ComesAt R.Key.cmp items.old.slots items.new.slots key.now
+        (brought (R.protocol partitions) here command.now before.now after.now stamp version key.now)) }
     ensures held { items.new.held ≡ 0 }
 {
     if !comes::<R>(partitions, here, before, after, key) {

@@ -1,11 +1,12 @@
-ghost use Rattle.std.specs.Prelude.{◌≡◌, ℕ, IfOk};
+ghost use Rattle.std.specs.Prelude.{◌≡◌, ℕ, false, IfOk};
 ghost use Rattle.index_changes.specs.Entries.{AreEntriesLawful, LocalEntries};
+ghost use Rattle.index_changes.specs.Expiry.{NeverExpires};
 
 use std::alloc::{AllocError as NoMemory, Global};
 use txn_core::Rules;
 
 /// What a cell needs to know of tables beside [`Rules`]: that keys are compared as the rules compare them, in which table an
-/// item is, and where it stands in the local indexes of its table.
+/// item is, where it stands in the local indexes of its table, and which tables have items that expire.
 pub trait CellRules: Rules<Key: Ord> {
     /// An entry of a local index: the index, and where an item stands in its order. It names the item.
     type Entry: Ord + Clone + Drop;
@@ -29,6 +30,10 @@ pub trait CellRules: Rules<Key: Ord> {
         item: &Self::Value,
     ) -> Result<Vec<Self::Entry>, NoMemory>
         ensures { IfOk result (λ entries. entries.items ≡ locals.entries catalog.now key.now item.now) };
+
+    /// Whether items of the table of this number may expire. Where they may not, no item of it is looked at for it.
+    fn may_expire(catalog: &Self::Catalog, table: u64) -> bool
+        ensures { result ≡ false → (partitions : ℕ) → NeverExpires (Self.protocol partitions).core catalog.now table };
 
     /// Keys are compared as the rules compare them, for every number of partitions.
     ghost ordered: { (partitions : ℕ) (x y : Self.Key) → (Self.protocol partitions).index.cmp x y ≡ Self.Key.cmp x y };

@@ -1,14 +1,13 @@
 //! One feed of a partition.
 
-ghost use Rattle.std.specs.Prelude.{◌≡◌, ◌<◌, [], IfOk, IfErr, Err};
+ghost use Rattle.std.specs.Prelude.{◌≡◌, ◌<◌, IfOk, IfErr, Err};
 ghost use Rattle.turnstile.specs.Passes.{most_units};
-ghost use Rattle.cluster.specs.Steps.{partitions_of};
+ghost use Rattle.cluster.specs.Steps.{IsAtRest, partitions_of};
 ghost use Rattle.cluster.specs.declared.step.StepError.{StepError};
 ghost use Rattle.index_feeder.specs.Feeds.{Feeds, FeedsPartly};
 
-use cluster::{Cluster, StepError, TableWorld, ask};
+use cluster::{Caller, StepError, TableWorld};
 use partition::PageRules;
-use std::alloc::Global;
 use std::sync::Wait;
 use turnstile::Pass;
 use txn_core::{Answer, Message};
@@ -28,23 +27,20 @@ pub enum Feed {
 /// The errors are those of [`step`](Cluster::step): [`StepError::Spent`] where no unit is left, and [`StepError::NoMemory`] only
 /// where one was. A change that was shown and not acknowledged then is fed again by the next feed of the partition, whoever's it is.
 pub fn feed_one<R: PageRules, T: Wait>(
-    cluster: &Cluster<R>,
-    rt: &T,
-    alloc: Global,
+    caller: &Caller<'_, R, T>,
     pass: &mut Pass<TableWorld<R>>,
     source: u32,
 ) -> Result<Feed, StepError>
 where
     R::Fault: Copy,
-    requires of { pass.old.turnstile ≡ cluster.now.id }
-    requires free { pass.old.turns ≡ [] }
-    requires source { source < partitions_of cluster.now }
-    ensures ok { IfOk result (λ feed. Feeds (R.protocol (partitions_of cluster.now)) pass.old source feed pass.new) }
-    ensures err { IfErr result (λ why. FeedsPartly (R.protocol (partitions_of cluster.now)) pass.old source why pass.new) }
+    requires rests { IsAtRest caller.now pass.old }
+    requires source { source < partitions_of caller.now }
+    ensures ok { IfOk result (λ feed. Feeds (R.protocol (partitions_of caller.now)) pass.old source feed pass.new) }
+    ensures err { IfErr result (λ why. FeedsPartly (R.protocol (partitions_of caller.now)) pass.old source why pass.new) }
     ensures spent { pass.old.used ≡ most_units → result ≡ Err StepError.Spent }
 {
     let message = Message::PeekOut { source };
-    let shown = ask(cluster, rt, alloc, pass, source, message)?;
+    let shown = caller.ask(pass, source, message)?;
     match shown {
         Answer::Out {
             sequence,
@@ -60,10 +56,10 @@ where
                 row_key,
                 after,
             };
-            let applied = ask(cluster, rt, alloc, pass, target, message)?;
+            let applied = caller.ask(pass, target, message)?;
             drop(applied);
             let message = Message::Ack { source, sequence };
-            let acknowledged = ask(cluster, rt, alloc, pass, source, message)?;
+            let acknowledged = caller.ask(pass, source, message)?;
             drop(acknowledged);
             Ok(Feed::Fed)
         }

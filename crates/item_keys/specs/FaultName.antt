@@ -1,3 +1,4 @@
+-- The names of faults.
 use Rattle.std.specs.Prelude.{ℕ, List, codes}
 use Rattle.item_keys.specs.declared.fault.KeyFault.{KeyFault}
 use Rattle.item_keys.specs.declared.fault.KeyFault.TheVariants.{Missing, WrongType, Empty, TooLong, Extra}

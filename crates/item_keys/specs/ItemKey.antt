@@ -12,8 +12,8 @@ use Rattle.attr_value.specs.Tree.{Tree, text, number, binary, Attributes, no_att
 use Rattle.attr_value.specs.Paths.{value_at}
 use Rattle.item_keys.specs.declared.fault.KeyFault.{KeyFault}
 use Rattle.item_keys.specs.declared.fault.KeyFault.TheVariants.{Missing, WrongType, Empty, TooLong, Extra}
-use Rattle.item_keys.specs.declared.fault.KeyEnd.{KeyEnd}
-use Rattle.item_keys.specs.declared.fault.KeyEnd.TheVariants.{Fault, NoMemory}
+use Rattle.base_types.specs.declared.end.End.{End}
+use Rattle.base_types.specs.declared.end.End.TheVariants.{Fault, NoMemory}
 use Rattle.item_keys.specs.declared.value.KeyValue.{KeyValue}
 use Rattle.item_keys.specs.declared.value.KeyValue.TheVariants.{S, N, B}
 use Rattle.item_keys.specs.declared.key.Key.{Key}
@@ -72,6 +72,6 @@ abbrev pub key_alone : Schema → KeyNames → Attributes → Result Key KeyFaul
 key_alone schema keys item = alone (has_only keys item) (key_in schema keys item)
 
 -- what is said of the fault, where it is one
-abbrev pub IfFault : KeyEnd → (KeyFault → Type 0) → Type 0
+abbrev pub IfFault : End KeyFault → (KeyFault → Type 0) → Type 0
 IfFault (Fault fault) P = P fault
 IfFault NoMemory P = Unit {0}

@@ -1,5 +1,5 @@
--- Places: a hash of the partition key's bytes, cut into parts of one length.
-use Rattle.std.specs.Prelude.{ℕ, ◌+◌, ◌*◌, ◌%◌, ◌^◌, ◌<◌, ◌≤◌, List, fold, bit_xor}
+-- Places: a hash of the partition key's bytes.
+use Rattle.std.specs.Prelude.{ℕ, ◌*◌, ◌%◌, ◌^◌, List, fold, bit_xor}
 use Rattle.std.specs.Int.{w64, swap_bytes}
 use Rattle.item_keys.specs.KeyBytes.{key_bytes}
 use Rattle.item_keys.specs.declared.value.KeyValue.{KeyValue}
@@ -15,7 +15,3 @@ hash_place bytes = swap_bytes w64 (fnv1a bytes)
 -- the place of the items with this partition key's value
 abbrev pub place_of : KeyValue → ℕ
 place_of value = hash_place (key_bytes value)
-
--- the places are cut into parts of one length, and this is one of that part
-abbrev pub IsInSegment : ℕ → ℕ → ℕ → Type 0
-IsInSegment segment total place = (segment * 2 ^ 64 ≤ place * total) × (place * total < (segment + 1) * 2 ^ 64)

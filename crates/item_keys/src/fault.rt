@@ -3,7 +3,7 @@
 ghost use Rattle.std.specs.Prelude.{◌≡◌, Some};
 ghost use Rattle.item_keys.specs.FaultName.{name_of};
 
-use std::alloc::AllocError as NoMemory;
+use base_types::End;
 use std::error::Error;
 use std::fmt;
 
@@ -49,28 +49,12 @@ impl fmt::Display for KeyFault {
 impl Error for KeyFault {}
 
 /// Why there is no key.
-#[derive(Debug, PartialEq, Eq, Drop)]
-pub enum KeyEnd {
-    /// The item has this fault.
-    Fault(KeyFault),
-    /// Memory was refused.
-    NoMemory,
-}
-
-impl From<NoMemory> for KeyEnd {
-    ghost use Rattle.item_keys.specs.declared.fault.KeyEnd.{KeyEnd};
-
-    ghost from_gives = { λ refused end. end ≡ KeyEnd.NoMemory };
-
-    fn from(_refused: NoMemory) -> KeyEnd {
-        KeyEnd::NoMemory
-    }
-}
+pub type KeyEnd = End<KeyFault>;
 
 impl From<KeyFault> for KeyEnd {
-    ghost use Rattle.item_keys.specs.declared.fault.KeyEnd.{KeyEnd};
+    ghost use Rattle.base_types.specs.declared.end.End.{End};
 
-    ghost from_gives = { λ fault end. end ≡ KeyEnd.Fault fault };
+    ghost from_gives = { λ fault end. end ≡ End.Fault fault };
 
     fn from(fault: KeyFault) -> KeyEnd {
         KeyEnd::Fault(fault)

@@ -3,8 +3,7 @@
 //! A [`Key`] is what tells an item from the others of its table: the value of the partition key and, where the table
 //! has one, of the sort key. What the layer above can rely on:
 //!
-//! - [`place`] spreads items by their partition key over the numbers of 64 bits, and [`cell_of`] and [`segment_places`]
-//!   cut these into cells and into the segments of a parallel Scan.
+//! - [`place`] spreads items by their partition key over the numbers of 64 bits, and [`cell_of`] cuts these into cells.
 //! - A [`PlacedKey`] carries the place of its key, which was computed once: it is compared by its fields, and its order
 //!   is that of a Scan.
 //!
@@ -24,7 +23,7 @@ pub use fault::{KeyEnd, KeyFault};
 pub use item_key::{key_of, key_only};
 pub use key::{Key, PlacedKey};
 pub use part::{MAX_PARTITION, MAX_SORT, key_value};
-pub use places::{PlaceRange, cell_of, place, segment_places};
+pub use places::{cell_of, place};
 pub use row::project;
 pub use unfit::is_unfit;
 pub use value::KeyValue;

@@ -1,8 +1,8 @@
-//! Places: where the items of a partition key stand, and how places are cut into cells and segments.
+//! Places: where the items of a partition key stand, and how places are cut into cells.
 
-ghost use Rattle.std.specs.Prelude.{◌≡◌, ◌+◌, ◌-◌, ◌*◌, ◌/◌, ◌^◌, ◌<◌, ◌≤◌, ◌↔◌, ℕ, IfOk, OnErr};
+ghost use Rattle.std.specs.Prelude.{◌≡◌, ◌*◌, ◌/◌, ◌^◌, ◌<◌, IfOk, OnErr};
 ghost use Rattle.item_keys.specs.KeyBytes.{IsNumber};
-ghost use Rattle.item_keys.specs.Place.{fnv1a, hash_place, place_of, IsInSegment};
+ghost use Rattle.item_keys.specs.Place.{fnv1a, hash_place, place_of};
 
 use crate::value::KeyValue;
 use std::alloc::{AllocError as NoMemory, Global};
@@ -53,33 +53,4 @@ pub fn cell_of(place: u64, partitions: u32) -> u32
     ensures within { 0 < partitions → result < partitions }
 {
     ((u128::from(place) * u128::from(partitions)) >> 64) as u32
-}
-
-/// Places from `first` to `last`, both included.
-#[derive(Clone, Copy, Debug, PartialEq, Eq)]
-pub struct PlaceRange {
-    pub first: u64,
-    pub last: u64,
-}
-
-/// The places of a segment of a parallel Scan, which is one of `total`, counted from 0 (API Reference: Scan, Segment).
-/// It has at least one place.
-pub fn segment_places(segment: u32, total: u32) -> PlaceRange
-    requires { segment < total }
-    ensures places { (place : ℕ) → place < 2 ^ 64 → IsInSegment segment total place ↔ ((result.first ≤ place) × (place ≤ result.last)) }
-{
-    let next = segment_start(u64::from(segment) + 1, total);
-    PlaceRange {
-        first: segment_start(u64::from(segment), total) as u64,
-        last: (next - 1) as u64,
-    }
-}
-
-/// The first place of a segment; of segment `total` the number of all places.
-fn segment_start(segment: u64, total: u32) -> u128
-    requires within { segment ≤ total }
-    requires some { 0 < total }
-    ensures { result ≡ (segment * 2 ^ 64 + (total - 1)) / total }
-{
-    ((u128::from(segment) << 64) + u128::from(total - 1)) / u128::from(total)
 }

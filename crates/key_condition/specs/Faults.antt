@@ -2,12 +2,10 @@
 use Rattle.std.specs.Prelude.{Result, Ok, Err}
 use Rattle.item_keys.specs.declared.fault.KeyFault.{KeyFault}
 use Rattle.item_keys.specs.declared.fault.KeyFault.TheVariants as key
-use Rattle.item_keys.specs.declared.fault.KeyEnd.{KeyEnd}
-use Rattle.item_keys.specs.declared.fault.KeyEnd.TheVariants as key_end
+use Rattle.base_types.specs.declared.end.End.{End}
 use Rattle.key_condition.specs.declared.fault.RangeFault.{RangeFault}
 use Rattle.key_condition.specs.declared.fault.RangeFault.TheVariants.{NotKey, WrongType, BadKeyValue}
-use Rattle.key_condition.specs.declared.fault.RangeEnd.{RangeEnd}
-use Rattle.key_condition.specs.declared.fault.RangeEnd.TheVariants.{Fault, NoMemory}
+use Rattle.base_types.specs.declared.end.End.TheVariants.{Fault, NoMemory}
 
 -- of the faults of two values the one that is told: NotKey before WrongType before any other, and then the first
 abbrev pub told : RangeFault → RangeFault → RangeFault
@@ -29,15 +27,15 @@ abbrev pub as_range_fault : KeyFault → RangeFault
 as_range_fault key.WrongType = WrongType
 as_range_fault fault = BadKeyValue fault
 
-abbrev pub as_range_end : KeyEnd → RangeEnd
-as_range_end (key_end.Fault fault) = Fault (as_range_fault fault)
-as_range_end key_end.NoMemory = NoMemory
+abbrev pub as_range_end : End KeyFault → End RangeFault
+as_range_end (Fault fault) = Fault (as_range_fault fault)
+as_range_end NoMemory = NoMemory
 
-abbrev pub end_told : RangeEnd → RangeEnd → RangeEnd
+abbrev pub end_told : End RangeFault → End RangeFault → End RangeFault
 end_told (Fault first) (Fault second) = Fault (told first second)
 end_told first second = NoMemory
 
 -- what is said of the fault, where it is one
-abbrev pub IfFault : RangeEnd → (RangeFault → Type 0) → Type 0
+abbrev pub IfFault : End RangeFault → (RangeFault → Type 0) → Type 0
 IfFault (Fault fault) P = P fault
 IfFault NoMemory P = Unit {0}

@@ -10,7 +10,7 @@ ghost use Rattle.key_condition.specs.Range.{key_value_of, front_kind, bound_of, 
 ghost use Rattle.key_condition.specs.Law.{HasKeysWhereTrue};
 
 use crate::asked::{Asked, End, Ends, asked_of, has_equality};
-use crate::fault::{RangeEnd, RangeFault};
+use crate::fault::{RangeEnd, RangeFault, first_told, without_key};
 use crate::key_range::{Bound, KeyRange};
 use attr_value::Value;
 use base_types::Seq;
@@ -83,9 +83,9 @@ fn range_asked(
         (Err(end), Ok(_)) => Err(end),
         (Err(first), Err(second)) => {
             if asked.sort_first {
-                Err(second.or_before(first))
+                Err(first_told(second, first))
             } else {
-                Err(first.or_before(second))
+                Err(first_told(first, second))
             }
         }
     }
@@ -124,7 +124,7 @@ fn bounds_of(
         (Ok(low), Ok(high)) => Ok(Bounds { low, high }),
         (Ok(_), Err(end)) => Err(end),
         (Err(end), Ok(_)) => Err(end),
-        (Err(first), Err(second)) => Err(first.or_before(second)),
+        (Err(first), Err(second)) => Err(first_told(first, second)),
     }
 }
 
@@ -175,6 +175,6 @@ fn key_value_of(
     };
     match key_value(alloc, limit, kind, value) {
         Ok(key) => Ok(key),
-        Err(end) => Err(RangeEnd::from(end)),
+        Err(end) => Err(without_key(end)),
     }
 }

@@ -4,8 +4,8 @@ ghost use Rattle.std.specs.Prelude.{◌≡◌, Some};
 ghost use Rattle.key_condition.specs.FaultName.{shown};
 ghost use Rattle.key_condition.specs.Faults.{told, end_told, as_range_end};
 
+use base_types::End;
 use item_keys::{KeyEnd, KeyFault};
-use std::alloc::AllocError as NoMemory;
 use std::error::Error;
 use std::fmt;
 
@@ -54,48 +54,27 @@ impl fmt::Display for RangeFault {
 impl Error for RangeFault {}
 
 /// Why there is no range.
-#[derive(Debug, PartialEq, Eq, Drop)]
-pub enum RangeEnd {
-    /// The condition has this fault.
-    Fault(RangeFault),
-    /// Memory was refused.
-    NoMemory,
-}
+pub type RangeEnd = End<RangeFault>;
 
-impl RangeEnd {
-    /// What is told where two values could not be had, this one first in the text.
-    pub(crate) fn or_before(self, other: RangeEnd) -> RangeEnd
-        ensures { result ≡ end_told self other }
-    {
-        match (self, other) {
-            (RangeEnd::Fault(first), RangeEnd::Fault(second)) => {
-                RangeEnd::Fault(first.or_before(second))
-            }
-            _ => RangeEnd::NoMemory,
+/// What is told where two values could not be had, the first one first in the text.
+pub(crate) fn first_told(first: RangeEnd, second: RangeEnd) -> RangeEnd
+    ensures { result ≡ end_told first second }
+{
+    match (first, second) {
+        (RangeEnd::Fault(first), RangeEnd::Fault(second)) => {
+            RangeEnd::Fault(first.or_before(second))
         }
+        _ => RangeEnd::NoMemory,
     }
 }
 
-impl From<NoMemory> for RangeEnd {
-    ghost use Rattle.key_condition.specs.declared.fault.RangeEnd.{RangeEnd};
-
-    ghost from_gives = { λ refused end. end ≡ RangeEnd.NoMemory };
-
-    fn from(_refused: NoMemory) -> RangeEnd {
-        RangeEnd::NoMemory
-    }
-}
-
-impl From<KeyEnd> for RangeEnd {
-    ghost use Rattle.key_condition.specs.Faults.{as_range_end};
-
-    ghost from_gives = { λ key_end end. end ≡ as_range_end key_end };
-
-    fn from(end: KeyEnd) -> RangeEnd {
-        match end {
-            KeyEnd::Fault(KeyFault::WrongType) => RangeEnd::Fault(RangeFault::WrongType),
-            KeyEnd::Fault(fault) => RangeEnd::Fault(RangeFault::BadKeyValue(fault)),
-            KeyEnd::NoMemory => RangeEnd::NoMemory,
-        }
+/// Why there is no range where a value stands in no key.
+pub(crate) fn without_key(end: KeyEnd) -> RangeEnd
+    ensures { result ≡ as_range_end end }
+{
+    match end {
+        KeyEnd::Fault(KeyFault::WrongType) => RangeEnd::Fault(RangeFault::WrongType),
+        KeyEnd::Fault(fault) => RangeEnd::Fault(RangeFault::BadKeyValue(fault)),
+        KeyEnd::NoMemory => RangeEnd::NoMemory,
     }
 }

@@ -1,3 +1,5 @@
+-- The definitions in reading order: words; what tests and changes ask; their faults; the trees that they stand for, and what
+-- is answered; and the expressions that took their place, as words and as bytes, with an example of each form.
 pub mod Operators
 pub mod Tests
 pub mod Changes

@@ -3,7 +3,7 @@
 ghost use Rattle.std.specs.Prelude.{◌≡◌};
 ghost use Rattle.legacy_params.specs.Faults.{least, number};
 
-use std::alloc::{AllocError as NoMemory, AllocFailed};
+use base_types::End;
 
 /// Why legacy parameters stand for no expression, in the order in which a request is told of it.
 #[derive(Clone, Copy)]
@@ -50,31 +50,4 @@ fn number(fault: LegacyFault) -> u8
 }
 
 /// Why there is no tree.
-#[derive(Clone, Copy)]
-pub enum LegacyEnd {
-    Fault(LegacyFault),
-    /// Memory was refused.
-    NoMemory,
-}
-
-impl From<NoMemory> for LegacyEnd {
-    ghost use Rattle.std.specs.Prelude.{◌≡◌};
-    ghost use Rattle.legacy_params.specs.declared.fault.LegacyEnd.{LegacyEnd};
-
-    ghost from_gives = { λ _ end. end ≡ LegacyEnd.NoMemory };
-
-    fn from(_: NoMemory) -> LegacyEnd {
-        LegacyEnd::NoMemory
-    }
-}
-
-impl<T: Drop> From<AllocFailed<T>> for LegacyEnd {
-    ghost use Rattle.std.specs.Prelude.{◌≡◌};
-    ghost use Rattle.legacy_params.specs.declared.fault.LegacyEnd.{LegacyEnd};
-
-    ghost from_gives = { λ _ end. end ≡ LegacyEnd.NoMemory };
-
-    fn from(_: AllocFailed<T>) -> LegacyEnd {
-        LegacyEnd::NoMemory
-    }
-}
+pub type LegacyEnd = End<LegacyFault>;

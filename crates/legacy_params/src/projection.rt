@@ -13,6 +13,10 @@ use expr_words::Paths;
 use std::alloc::{AllocError as NoMemory, Global};
 use std::collections::BTreeSet;
 
+/// The most names of one projection: as many as the text of an expression has room for. A page looks at all of them for
+/// each of its rows.
+const MOST_NAMES: usize = 2_048;
+
 /// The fault of AttributesToGet: NoAttributes where it is empty.
 pub fn attributes_fault(names: &[Text]) -> Option<LegacyFault>
     ensures { result ≡ attributes_fault names.now }
@@ -37,7 +41,7 @@ pub fn any_twice(alloc: Global, names: &[Text]) -> Result<bool, NoMemory>
 }
 
 /// The projection of AttributesToGet: the path of each name, in their order. Names are moved. NoAttributes where there is
-/// none; NoMemory where memory is refused.
+/// none; NoMemory where memory is refused, and for more than 2,048 names.
 pub fn attributes(alloc: Global, names: Seq<Text>) -> Result<Paths, LegacyEnd>
     ensures paths { IfOk result (λ made. made.paths ≡ map path_to names) }
     ensures sound { OnOk result (attributes_fault names ≡ None) }
@@ -45,6 +49,9 @@ pub fn attributes(alloc: Global, names: Seq<Text>) -> Result<Paths, LegacyEnd>
 {
     if let Some(fault) = attributes_fault(names.as_slice()) {
         return Err(LegacyEnd::Fault(fault));
+    }
+    if names.len() > MOST_NAMES {
+        return Err(LegacyEnd::NoMemory);
     }
     Ok(Paths {
         paths: paths_to(alloc, names)?,

@@ -1,15 +1,13 @@
 -- Fronts of rows that fill a page, and of rows that don't.
 use Rattle.std.proofs.Common.{◌≡◌, ℕ, ◌+◌, ◌<◌, ◌≤◌, Bool, true, false, List, [], ◌∷◌, ◌++◌, length, take, Option, None, Some, refl, sym, ap, ◌∙◌, subst, inl, inr, arith}
-use Rattle.std.specs.Prelude.{◌⊎◌, ◌-◌, ◌||◌, ◌==◌, nat_lt, map, filter, if◌then◌else◌}
-use Rattle.std.specs.List.{enumerate_from}
+use Rattle.std.specs.Prelude.{◌⊎◌, ◌-◌, ◌||◌, ◌==◌, nat_lt}
 use Rattle.std.proofs.lemmas.Bool.Decides.{nat_tests}
-use Rattle.std.proofs.lemmas.List.{length-take, length-append, take-append-le, append_assoc, append-nil, map-append}
+use Rattle.std.proofs.lemmas.List.{length-take, length-append, take-append-le, append_assoc}
 use Rattle.std.proofs.Math.Seq.{take-append_seam}
-use Rattle.std.proofs.lemmas.List.Elements.{filter-append}
 use Rattle.std.proofs.lemmas.List.Sums.{sum_by-take-le}
 use Rattle.paging.specs.declared.page.Judged.{Judged}
 use Rattle.std.specs.Option.{option_map}
-use Rattle.paging.specs.Page.{page_bytes, bytes_of, has_limit, is_full, IsPage, kept_of}
+use Rattle.paging.specs.Page.{page_bytes, bytes_of, has_limit, is_full, IsPage}
 use Rattle.paging.specs.Room.{room_after, has_stopped}
 
 fewer : (limit : Option ℕ) (more less : ℕ) → less ≤ more → has_limit limit more ≡ false → has_limit limit less ≡ false
@@ -55,30 +53,6 @@ page_with limit front row rest going full = record {
       subst (λ rows. is_full limit rows ≡ false) (sym same) (front_not_full limit front k going);
   ends = inl (subst (λ rows. is_full limit rows ≡ true) (sym (take-append_seam (front ++ row ∷ []) rest)) full);
 }
-
-numbered_push : (n : ℕ) (rows : List Judged) (row : Judged) → enumerate_from n (rows ++ row ∷ []) ≡ enumerate_from n rows ++ (n + length rows, row) ∷ []
-numbered_push n [] row = let e : n ≡ n + 0 = omega arith in ap (λ k. (k, row) ∷ []) e
-numbered_push n (first ∷ rows) row =
-    let e : n + 1 + length rows ≡ n + length (first ∷ rows) = omega arith in
-    ap (λ rest. (n, first) ∷ rest) (numbered_push (n + 1) rows row ∙ ap (λ k. enumerate_from (n + 1) rows ++ (k, row) ∷ []) e)
-
-kept_parts : (rows : List Judged) (row : Judged)
-    → kept_of (rows ++ row ∷ []) ≡ kept_of rows ++ map (λ entry. entry.0) (filter (λ (entry : ℕ × Judged). entry.1.passes) ((length rows, row) ∷ []))
-kept_parts rows row =
-    let named : 0 + length rows ≡ length rows = omega arith in
-    ap (λ entries. map (λ (entry : ℕ × Judged). entry.0) (filter (λ (entry : ℕ × Judged). entry.1.passes) entries))
-    (numbered_push 0 rows row ∙ ap (λ k. enumerate_from 0 rows ++ (k, row) ∷ []) named)
-    ∙ ap (map (λ (entry : ℕ × Judged). entry.0)) (filter-append (λ (entry : ℕ × Judged). entry.1.passes) (enumerate_from 0 rows) ((length rows, row) ∷ []))
-    ∙ map-append (λ (entry : ℕ × Judged). entry.0) (filter (λ (entry : ℕ × Judged). entry.1.passes) (enumerate_from 0 rows)) _
-
--- a row that passes the filter is kept under its number, and another row is not
-pub kept_push : (rows : List Judged) (row : Judged) → kept_of (rows ++ row ∷ []) ≡ (if row.passes then kept_of rows ++ length rows ∷ [] else kept_of rows)
-kept_push rows row = kept_parts rows row ∙ at row.passes
-  where
-    at : (passes : Bool) → kept_of rows ++ map (λ (entry : ℕ × Judged). entry.0) (if passes then (length rows, row) ∷ [] else [])
-        ≡ (if passes then kept_of rows ++ length rows ∷ [] else kept_of rows)
-    at true = refl
-    at false = append-nil (kept_of rows)
 
 -- what is left of a limit is reached where the limit is
 limit_left : (limit : Option ℕ) (count : ℕ) → has_limit (option_map (λ most. most - count) limit) 0 ≡ has_limit limit count

@@ -1,5 +1,4 @@
--- Lemmas: rows in order, full pages, a walk on its way.
+-- Lemmas: rows in order, and full pages.
 pub mod Ordered
 pub mod Ends
 pub mod Full
-pub mod Walking

@@ -1,7 +1,6 @@
--- The definitions in reading order: pages of lists and what a page may still take; the rows of a walk, what came of it,
--- and the rows of a range of a map.
+-- The definitions in reading order: pages of lists and what a page may still take; the rows of a walk, and those of a
+-- range of a map.
 pub mod Page
 pub mod Room
 pub mod Rows
-pub mod Walks
 pub mod MapRange

@@ -1,6 +1,5 @@
--- Pages: which rows of a list are taken together, and which of them are shown.
-use Rattle.std.specs.Prelude.{◌≡◌, ℕ, ◌<◌, ◌≤◌, Bool, true, false, ◌||◌, ◌⊎◌, nat_le, nat_lt, List, length, take, map, filter, sum_by, Option, None, Some}
-use Rattle.std.specs.List.{enumerate_from}
+-- Pages: which rows of a list are taken together.
+use Rattle.std.specs.Prelude.{◌≡◌, ℕ, ◌<◌, ◌≤◌, Bool, true, false, ◌||◌, ◌⊎◌, nat_le, nat_lt, List, length, take, sum_by, Option, None, Some}
 use Rattle.paging.specs.declared.page.Judged.{Judged}
 
 -- a page with more bytes than these is full
@@ -31,7 +30,3 @@ abbrev pub HasOnePage : Type 0
 HasOnePage =
     (limit : Option ℕ) (rows : List Judged) (count other : ℕ)
     → IsPage limit rows count → IsPage limit rows other → count ≡ other
-
--- the numbers, from 0, of the rows that pass the filter
-abbrev pub kept_of : List Judged → List ℕ
-kept_of rows = map (λ entry. entry.0) (filter (λ entry. entry.1.passes) (enumerate_from 0 rows))

@@ -1,8 +1,7 @@
--- The rows that a walk meets, in order, and what a judge makes of them.
-use Rattle.std.specs.Prelude.{ℕ, Bool, true, false, List, filter, reverse, filter_map, count_by, Option, None, Some, is_none}
+-- The rows that a walk meets, in order.
+use Rattle.std.specs.Prelude.{Bool, true, false, List, filter, reverse, Option, None, Some}
 use Rattle.std.specs.declared.cmp.Ordering.{Ordering}
 use Rattle.std.specs.Ordering.{is_lt}
-use Rattle.paging.specs.declared.page.Judged.{Judged}
 
 -- the rows as a walk in this direction meets them
 abbrev pub in_direction : {X : Type 0} → Bool → List X → List X
@@ -21,12 +20,3 @@ module _ {K X : Type 0} (cmp : K → K → Ordering) where
   rows_after forward None rows = in_direction forward rows
   rows_after forward (Some place) rows =
       filter (λ row. is_lt (walk_order cmp forward place row.0)) (in_direction forward rows)
-
-module _ {K X : Type 0} (look : X → Option Judged) where
-  -- the rows that are not passed over, as they are judged
-  abbrev pub judged_rows : List (K × X) → List Judged
-  judged_rows rows = filter_map (λ row. look row.1) rows
-
-  -- how many rows are passed over
-  abbrev pub count_passed_over : List (K × X) → ℕ
-  count_passed_over rows = count_by (λ row. is_none (look row.1)) rows

@@ -5,12 +5,11 @@
 //! of its last row is told exactly where it ended so, and not where the rows ended. [`PageState`] is offered the
 //! rows one by one.
 //!
-//! [`walk_page`] fills a page from a [`Walk`], a list of rows in order that gives one row a step, such as a
-//! [`MapRange`] of an ordered map, and looks at no more rows than the page needs. A [`Judge`] says how large a row
-//! is and whether it passes the filter, or passes it over. [`Steps`] counts the steps for contracts.
+//! The rows come from a [`Walk`], a list of rows in order that gives one row a step, such as a [`MapRange`] of an
+//! ordered map. [`Steps`] counts the steps for contracts.
 //!
-//! `specs/Page.antt` says what the page of a list is, and `specs/Walks.antt` what a walk makes of its rows. API
-//! Reference: Query, Scan. Developer Guide: Paginating table query results.
+//! `specs/Page.antt` says what the page of a list is, and `specs/Rows.antt` which rows a walk meets. API Reference:
+//! Query, Scan. Developer Guide: Paginating table query results.
 #![tactic(auto)]
 
 mod page;
@@ -21,4 +20,4 @@ mod walk;
 pub use page::{Judged, Offer, PageState, one_page};
 pub use range::MapRange;
 pub use steps::Steps;
-pub use walk::{Judge, Walk, Walked, walk_page};
+pub use walk::Walk;

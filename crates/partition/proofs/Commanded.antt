@@ -14,7 +14,7 @@ use Rattle.txn_core.specs.declared.answer.Answer.{Answer}
 use Rattle.txn_core.specs.Cells.{of_cell}
 use Rattle.txn_core.specs.Effects.{Effect, Wrote, Prepared, Applied, Released, Finished, Forgot}
 use Rattle.txn_core.specs.Feeding.{event_of, feed_after, feed_events}
-use Rattle.txn_core.specs.History.{begin_effect, decide_effect, effect_of, effects, is_accepted, is_applied, is_finished, is_forgotten, is_released, is_written, where_so}
+use Rattle.txn_core.specs.History.{begin_effect, decide_effect, effect_of, effects, is_accepted, is_applied, is_expired, is_finished, is_forgotten, is_released, is_written, where_so}
 use Rattle.txn_core.specs.Indexing.{indexed}
 use Rattle.txn_core.specs.Legal.{IsAnswer, IsClear, IsLegal, IsRuled, state}
 use Rattle.txn_core.specs.Service.{Asked, Event, History, Reply, Service, IsServiceLawful}
@@ -94,6 +94,7 @@ module _ {K V A F C D Q B : Type 0} (S : Service K V A F C D Q B) where
         (es : History S) (moment : ℕ) (m : Asked S) (a : Reply S) → IsAnswer S es moment m a → sound (state S es).catalog
         → sound (step S.core (state S es) (effect_of moment m a)).catalog
     step_sound es moment (Message.Write action) a is ok = subst (λ c. sound c) (sym (where_same (state S es) (is_written a) (Wrote action moment) refl)) ok
+    step_sound es moment (Message.Expire action) a is ok = subst (λ c. sound c) (sym (where_same (state S es) (is_expired a) (Wrote action moment) refl)) ok
     step_sound es moment (Message.Prepare n stamp action) a is ok = subst (λ c. sound c) (sym (where_same (state S es) (is_accepted a) (Prepared n stamp action) refl)) ok
     step_sound es moment (Message.Apply n key) a is ok = subst (λ c. sound c) (sym (where_same (state S es) (is_applied a) (Applied n key) refl)) ok
     step_sound es moment (Message.Release n key) a is ok = subst (λ c. sound c) (sym (where_same (state S es) (is_released a) (Released n key) refl)) ok

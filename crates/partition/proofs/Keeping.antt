@@ -9,14 +9,15 @@ use Rattle.index_feed.specs.Feed.{Feed}
 use Rattle.txn_core.specs.declared.stamp.Stamp.{Stamp}
 use Rattle.txn_core.specs.Service.{Service}
 use Rattle.txn_core.specs.State.{Pending as Held, Spot, State, Tally, holder, last, tally_after}
-use Rattle.txn_core.specs.Answers.{get_answer, write_answer, prepare_answer, apply_answer, release_answer, version_answer}
+use Rattle.txn_core.specs.Answers.{get_answer, write_answer, expire_answer, prepare_answer, apply_answer, release_answer, version_answer}
+use Rattle.txn_core.specs.Legal.{only_expired}
 use Rattle.item_store.specs.declared.slot.Committed.{Committed}
 use Rattle.item_store.specs.declared.slot.Pending.{Pending}
 use Rattle.item_store.specs.Slots.{committed_at, committed_of, counted, holder_of, item_of, last_of, left_absent, number_of, pending_of, row_of, slot_of, stamp_or, version_of, version_or}
 use Rattle.partition.specs.declared.cell.Partition.{Partition}
 use Rattle.partition.specs.Holds.{Holds, lives, pending_for, slot_for}
-use Rattle.partition.specs.Knows.{applied, got, kept_at, prepared, released, versioned, wrote}
-use Rattle.partition.specs.Says.{apply_says, get_says, prepare_says, release_says, version_says, write_says}
+use Rattle.partition.specs.Knows.{applied, expired, got, kept_at, prepared, released, versioned, wrote}
+use Rattle.partition.specs.Says.{apply_says, expire_says, get_says, prepare_says, release_says, version_says, write_says}
 
 module _ {V : Type 0} where
   pub committed_made : (c : Option (Committed V)) (p : Option (Pending V)) → committed_of (slot_of c p) ≡ c
@@ -120,6 +121,14 @@ module _
   write_is =
       let k = S.core.key_of a in
       λ j. write_answer (S.core.there (here.catalog j) k) (holder_is S k c w f here j) (row_is S k c w f here j) (S.core.act (here.catalog j) a (row_is S k c w f here j))
+
+  pub expire_is : (moment : ℕ) → expired S c a moment ≡ expire_says S w a moment
+  expire_is moment =
+      let k = S.core.key_of a in
+      λ j.
+      let row = row_is S k c w f here j in
+      let cat = here.catalog j in
+      expire_answer (S.core.there cat k) (holder_is S k c w f here j) (only_expired S cat k moment row) (S.core.act cat a row)
 
   pub prepare_is : (n : ℕ) (stamp : Stamp) → prepared S c n stamp a ≡ prepare_says S w n stamp a
   prepare_is n stamp =

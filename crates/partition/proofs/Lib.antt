@@ -10,6 +10,8 @@ pub mod Starting
 pub mod Listed
 pub mod Shown
 pub mod Paged
+pub mod Grouped
+pub mod Expired
 pub mod Lists
 pub mod Holders
 pub mod InTheWay
@@ -24,4 +26,3 @@ pub mod Commanded
 pub mod Planned
 pub mod Shares
 pub mod Staying
-pub mod Shows

@@ -105,7 +105,7 @@ module _
   cmp_is : S.index.cmp ≡ O.cmp
   cmp_is = λ j x y. order x y j
 
-  items_are : (u : ℕ) → AreItemsOrdered (get nat_cmp c.items.tables u)
+  pub items_are : (u : ℕ) → AreItemsOrdered (get nat_cmp c.items.tables u)
       → filter (λ row. nat_eq (S.core.table row.0) u) (items_in (indexed S.core S.index) f i) ≡ items_of (get nat_cmp c.items.tables u)
   items_are u up =
       let I = indexed S.core S.index in

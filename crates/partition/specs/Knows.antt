@@ -13,7 +13,8 @@ use Rattle.txn_core.specs.Service.{Service, Reply}
 use Rattle.txn_core.specs.Stamps.{single}
 use Rattle.txn_core.specs.Protocol.{after}
 use Rattle.txn_core.specs.declared.outcome.Outcome.{Outcome}
-use Rattle.txn_core.specs.Answers.{ack_answer, apply_answer, get_answer, out_answer, prepare_answer, release_answer, version_answer, write_answer}
+use Rattle.txn_core.specs.Answers.{ack_answer, apply_answer, expire_answer, get_answer, out_answer, prepare_answer, release_answer, version_answer, write_answer}
+use Rattle.txn_core.specs.Legal.{only_expired}
 use Rattle.item_store.specs.declared.slot.Slot.{Slot}
 use Rattle.item_store.specs.Slots.{holder_of, last_of, pending_of, row_of, version_of}
 use Rattle.item_store.specs.Changes.{slot_at}
@@ -49,6 +50,12 @@ module _
       let k = S.core.key_of action in
       let s = kept_at c k in
       write_answer (S.core.there c.catalog k) (holder_of s) (row_of s) (outcome_at c action)
+
+  abbrev pub expired : Partition K V C N O E P X Y Z → A → ℕ → Reply S
+  expired c action moment =
+      let k = S.core.key_of action in
+      let s = kept_at c k in
+      expire_answer (S.core.there c.catalog k) (holder_of s) (only_expired S c.catalog k moment (row_of s)) (outcome_at c action)
 
   abbrev pub prepared : Partition K V C N O E P X Y Z → ℕ → Stamp → A → Reply S
   prepared c n stamp action =

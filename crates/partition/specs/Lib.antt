@@ -4,7 +4,6 @@ pub mod Says
 pub mod Changes
 pub mod Moves
 pub mod InStep
-pub mod Shown
 pub mod Knows
 pub mod Makes
 pub mod Evaluations
@@ -12,6 +11,7 @@ pub mod Steps
 pub mod Listed
 pub mod Pages
 pub mod Pendings
+pub mod Expiry
 pub mod Holders
 pub mod Plans
 pub mod Carrying

@@ -10,9 +10,9 @@ use Rattle.txn_core.specs.Indexing.{indexed}
 use Rattle.txn_core.specs.Service.{Service, Asked, Reply, History}
 use Rattle.txn_core.specs.State.{State, here, state_after, step}
 use Rattle.txn_core.specs.History.{effect_of}
-use Rattle.txn_core.specs.Answers.{get_answer, write_answer, prepare_answer, apply_answer, release_answer, version_answer, out_answer, feed_answer, ack_answer}
+use Rattle.txn_core.specs.Answers.{get_answer, write_answer, expire_answer, prepare_answer, apply_answer, release_answer, version_answer, out_answer, feed_answer, ack_answer}
 use Rattle.txn_core.specs.Feeding.{event_of, feed_after, has_sequence}
-use Rattle.txn_core.specs.Legal.{there_in, holder_in, last_in, outcome_in, state, IsPendingList}
+use Rattle.txn_core.specs.Legal.{only_expired, there_in, holder_in, last_in, outcome_in, state, IsPendingList}
 use Rattle.partition.specs.declared.cell.Partition.{Partition}
 use Rattle.partition.specs.Holds.{Holds}
 
@@ -36,6 +36,12 @@ module _ {K V A F C D Q B : Type 0} (S : Service K V A F C D Q B) where
   abbrev pub write_says : State K V A C → A → Reply S
   write_says w action =
       let k = S.core.key_of action in write_answer (there_in S w k) (holder_in S w k) (w.spot k).row (outcome_in S w action)
+
+  abbrev pub expire_says : State K V A C → A → ℕ → Reply S
+  expire_says w action moment =
+      let k = S.core.key_of action in
+      let over = only_expired S w.catalog k moment (w.spot k).row in
+      expire_answer (there_in S w k) (holder_in S w k) over (outcome_in S w action)
 
   abbrev pub prepare_says : State K V A C → ℕ → Stamp → A → Reply S
   prepare_says w n stamp action =

@@ -15,12 +15,14 @@ use Rattle.partition.specs.Says.{Stands}
 abbrev pub is_served : {K V A F D Q : Type 0} → ℕ → Message K V A F D Q → Bool
 is_served partitions (Message.Get key) = true
 is_served partitions (Message.Write action) = true
+is_served partitions (Message.Expire action) = true
 is_served partitions (Message.Prepare n stamp action) = true
 is_served partitions (Message.Apply n key) = true
 is_served partitions (Message.Release n key) = true
 is_served partitions (Message.ReadVersion key) = true
 is_served partitions (Message.QueryPage page) = true
 is_served partitions (Message.ScanPage page) = true
+is_served partitions (Message.ExpiredKeys cell limit) = nat_lt cell partitions
 is_served partitions (Message.Pendings cell) = nat_lt cell partitions
 is_served partitions (Message.PeekOut source) = nat_lt source partitions
 is_served partitions (Message.ApplyIndex source sequence index row_key after) = nat_lt source partitions

@@ -7,6 +7,7 @@ ghost use Rattle.partition.specs.Steps.{StepAnswers, StepKeeps, StepStands, is_s
 
 use crate::cell::PartitionOf;
 use crate::ends::{apply, release};
+use crate::expiry::{expire, expired_keys};
 use crate::feeds::{acknowledge, apply_index, peek_out};
 use crate::held_items::pendings;
 use crate::page_rules::PageRules;
@@ -24,9 +25,10 @@ pub fn is_served<R: CellRules>(cell: &PartitionOf<R>, message: &Asked<R>) -> boo
 {
     match message {
         Message::Get { .. } | Message::ReadVersion { .. } => true,
-        Message::Write { .. } | Message::Prepare { .. } => true,
+        Message::Write { .. } | Message::Expire { .. } | Message::Prepare { .. } => true,
         Message::Apply { .. } | Message::Release { .. } => true,
         Message::QueryPage { .. } | Message::ScanPage { .. } => true,
+        Message::ExpiredKeys { cell: listed, .. } => *listed < cell.partitions,
         Message::Pendings { cell: held } => *held < cell.partitions,
         Message::PeekOut { source } => *source < cell.partitions,
         Message::ApplyIndex { source, .. } => *source < cell.partitions,
@@ -53,6 +55,7 @@ pub fn step<R: PageRules>(
     match message {
         Message::Get { key } => get::<R>(alloc, cell, &key),
         Message::Write { action } => write::<R>(alloc, cell, action, moment),
+        Message::Expire { action } => expire::<R>(alloc, cell, action, moment),
         Message::Prepare {
             number,
             stamp,
@@ -63,6 +66,7 @@ pub fn step<R: PageRules>(
         Message::ReadVersion { key } => read_version::<R>(alloc, cell, &key),
         Message::QueryPage { page: asked } => page::<R>(alloc, cell, &asked),
         Message::ScanPage { page: asked } => page::<R>(alloc, cell, &asked),
+        Message::ExpiredKeys { limit, .. } => expired_keys::<R>(alloc, cell, limit, moment),
         Message::Pendings { .. } => pendings::<R>(alloc, cell),
         Message::PeekOut { .. } => peek_out::<R>(alloc, cell),
         Message::ApplyIndex {

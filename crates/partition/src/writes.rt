@@ -1,12 +1,13 @@
 //! A single write.
 
-ghost use Rattle.std.specs.Prelude.{◌≡◌, ℕ, true, IfOk, OnErr};
+ghost use Rattle.std.specs.Prelude.{◌≡◌, ℕ, true, IfOk, OnOk, OnErr};
 ghost use Rattle.txn_core.specs.History.{is_written};
+ghost use Rattle.item_store.specs.Slots.{row_of};
 ghost use Rattle.txn_core.specs.declared.message.Message.{Message};
 ghost use Rattle.partition.specs.Changes.{Unchanged};
 ghost use Rattle.partition.specs.Evaluations.{EvaluatesWrite};
 ghost use Rattle.partition.specs.InStep.{StaysInStep};
-ghost use Rattle.partition.specs.Knows.{LeftByWrite, wrote};
+ghost use Rattle.partition.specs.Knows.{LeftByWrite, kept_at, wrote};
 ghost use Rattle.partition.specs.Makes.{MakesItem};
 ghost use Rattle.partition.specs.Says.{Keeps, Leaves, Says, write_says};
 
@@ -41,6 +42,28 @@ fn evaluate_write<R: CellRules>(
     evaluate::<R>(alloc, &cell.catalog, action, row_of(slot))
 }
 
+/// Makes an item this that no transaction holds, as an action does, with what that makes of indexes, and hands out the item that was
+/// there.
+pub(crate) fn put_item<R: CellRules>(
+    alloc: Global,
+    cell: &mut PartitionOf<R>,
+    action: R::Action,
+    item: Option<R::Value>,
+    changes: IndexChangesOf<R>,
+    moment: u64,
+) -> Result<Option<R::Value>, NoMemory>
+    requires { (n : ℕ) → MakesItem (R.protocol n) R.locals cell.old action item changes }
+    ensures old { IfOk result (λ old. (n : ℕ) → old ≡ row_of (kept_at (R.protocol n) cell.old ((R.protocol n).core.key_of action))) }
+    ensures left { OnOk result ((n : ℕ) → LeftByWrite (R.protocol n) cell.old cell.new action moment true) }
+    ensures err { OnErr result (Unchanged cell.old cell.new) }
+    ensures in_step { (n : ℕ) → StaysInStep (R.protocol n) R.locals cell.old cell.new }
+{
+    let table = R::table_of(R::key_of(&action));
+    let key = R::into_key(action);
+    let stamp = Stamp { moment, number: 0 };
+    cell.put(alloc, table, key, item, stamp, changes)
+}
+
 /// Carries out a write of an item that no transaction holds, which makes it this, with what it makes of indexes.
 fn carry_out<R: CellRules>(
     alloc: Global,
@@ -58,10 +81,7 @@ fn carry_out<R: CellRules>(
     ensures in_step { (n : ℕ) → StaysInStep (R.protocol n) R.locals cell.old cell.new }
 {
     let new = copy_of_row::<R>(alloc, item.as_ref())?;
-    let table = R::table_of(R::key_of(&action));
-    let key = R::into_key(action);
-    let stamp = Stamp { moment, number: 0 };
-    let old = cell.put(alloc, table, key, item, stamp, changes)?;
+    let old = put_item::<R>(alloc, cell, action, item, changes, moment)?;
     Ok(Answer::Written { old, new })
 }
 

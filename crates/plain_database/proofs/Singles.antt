@@ -28,6 +28,7 @@ use Rattle.table_model.specs.declared.refusal.Invalid as why
 use Rattle.table_model.specs.declared.refusal.Invalid.TheVariants as invalid
 use Rattle.table_model.specs.Database.{Database, Table, Effect, table_named, in_table, at_key, unless}
 use Rattle.table_model.specs.Outcome.{Outcome, becomes, is_false, is_faulty, is_met, where_met, fit_if, is_too_large, updated_by, put_outcome, update_outcome, delete_outcome}
+use Rattle.table_model.specs.declared.reply.Reply.{Reply}
 use Rattle.table_model.specs.Writes.{written, old_at, put_item, touched_name, touched_key, key_update, update_at, update_item, delete_item}
 use Rattle.table_model.specs.Reads.{get_item}
 use Rattle.plain_database.specs.Keyed.{HasRowsAtKeys}
@@ -142,11 +143,11 @@ at_own_key schema item key e = at_its_key schema item key (without_others (has_o
 
 -- ---- writes
 
-written_keyed : (db : Database) (name : List ℕ) (table : Table) (key : Key) (lost : Option Attributes) (fault : EvalFault → why.Invalid) (show : Option Attributes → Option Attributes) (o : Outcome)
-    → table_named db name ≡ Some table → FitsOutcome table.schema (row_key key) o → HasRowsAtKeys db → HasRowsAtKeys (written db name table key lost fault show o).0
-written_keyed db name table key lost fault show (becomes new) is fits all = row_keyed db name table (row_key key) new is fits all
-written_keyed db name table key lost fault show is_false is fits all = all
-written_keyed db name table key lost fault show (is_faulty why) is fits all = all
+written_keyed : (db : Database) (name : List ℕ) (table : Table) (key : Key) (lost : Option Attributes) (fault : EvalFault → why.Invalid) (told : Option Attributes → Reply) (o : Outcome)
+    → table_named db name ≡ Some table → FitsOutcome table.schema (row_key key) o → HasRowsAtKeys db → HasRowsAtKeys (written db name table key lost fault told o).0
+written_keyed db name table key lost fault told (becomes new) is fits all = row_keyed db name table (row_key key) new is fits all
+written_keyed db name table key lost fault told is_false is fits all = all
+written_keyed db name table key lost fault told (is_faulty why) is fits all = all
 
 pub put_keyed : (db : Database) (r : PutItem) → HasRowsAtKeys db → HasRowsAtKeys (put_item db r).0
 put_keyed db r all =

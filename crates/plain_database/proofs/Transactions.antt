@@ -209,7 +209,7 @@ transacted_keyed : (db : Database) (r : TransactWrite) (moment : ℕ) → HasRow
     → HasRowsAtKeys (transacted db r moment).0
 transacted_keyed db r moment all none =
     either_keyed (list_all (λ action. is_accepted (outcome_of db action)) r.actions)
-    (with_token (made_all db r.actions (map (outcome_of db) r.actions)) r.token moment (numbered_all db r.actions), answer.TransactWritten None)
+    (with_token (made_all db r.actions (map (outcome_of db) r.actions)) r.token moment (numbered_all db r.actions), answer.TransactWritten r.consumed)
     (refused db (Cancelled (map (reason_of db) r.actions)))
     (token_keyed (made_all db r.actions (map (outcome_of db) r.actions)) r.token moment (numbered_all db r.actions)
     (all_well db r.actions (map (outcome_of db) r.actions) all (all_fit db r.actions all none)))
@@ -219,7 +219,7 @@ repeated_keyed : (db : Database) (r : TransactWrite) (moment : ℕ) (o : Option 
     → first (map (updates_key db) r.actions) ≡ None → HasRowsAtKeys (repeated db r moment o).0
 repeated_keyed db r moment None all none = transacted_keyed db r moment all none
 repeated_keyed db r moment (Some kept) all none =
-    either_keyed (pointwise same_action kept.actions (numbered_all db r.actions)) (db, answer.TransactWritten None) (refused db Mismatch) all all
+    either_keyed (pointwise same_action kept.actions (numbered_all db r.actions)) (db, answer.TransactWritten r.consumed) (refused db Mismatch) all all
 
 pub transact_write_keyed : (db : Database) (r : TransactWrite) (moment : ℕ) → HasRowsAtKeys db → HasRowsAtKeys (transact_write db r moment).0
 transact_write_keyed db r moment all =

@@ -1,17 +1,16 @@
 //! By which attribute the items of a table expire, and the items that do.
 
-ghost use Rattle.std.specs.Prelude.{◌≡◌, [], if◌then◌else◌, None, Some, IfOk, OnOk, OnErr};
-ghost use Rattle.table_model.specs.Catalog.{describe_time_to_live, ttl_fault, update_time_to_live};
+ghost use Rattle.std.specs.Prelude.{◌≡◌, [], IfOk, OnOk, OnErr};
+ghost use Rattle.table_model.specs.Catalog.{describe_time_to_live, update_time_to_live};
 ghost use Rattle.table_model.specs.Expired.{swept};
 ghost use Rattle.table_items.specs.Effects.{IsDone};
 
 use crate::database::SlowDb;
-use base_types::Text;
+use schema_update::{expiring, ttl_fault};
 use std::alloc::{AllocError as NoMemory, Global};
-use table_model::{Invalid, Refusal, Reply, TtlFault};
+use table_model::{Invalid, Refusal, Reply};
 use table_request::{DescribeTimeToLive, UpdateTimeToLive};
 use table_rows::TableRows;
-use table_schema::Schema;
 
 /// How many microseconds a second has.
 const SECOND: u64 = 1_000_000;
@@ -86,30 +85,4 @@ fn set_time_to_live(
     let schema = expiring(rows.schema(), &name, enabled)?;
     rows.change_schema(alloc, schema)?;
     Ok(Reply::TimeToLiveSet { name, enabled })
-}
-
-/// The schema of a table whose items expire by an attribute, or no longer.
-fn expiring(schema: &Schema, name: &Text, enabled: bool) -> Result<Schema, NoMemory>
-    ensures { IfOk result (λ new. new ≡ record schema.now { ttl = if enabled then Some name.now else None }) }
-{
-    let mut new = schema.try_clone()?;
-    new.ttl = if enabled {
-        Some(name.try_clone()?)
-    } else {
-        None
-    };
-    Ok(new)
-}
-
-/// Why the time to live of a table can't become so.
-fn ttl_fault(known: &Option<Text>, name: &Text, enabled: bool) -> Option<TtlFault>
-    ensures { result ≡ ttl_fault known.now name.now enabled }
-{
-    match (known, enabled) {
-        (None, true) => None,
-        (None, false) => Some(TtlFault::AlreadyDisabled),
-        (Some(_), true) => Some(TtlFault::AlreadyEnabled),
-        (Some(known), false) if *known == *name => None,
-        (Some(_), false) => Some(TtlFault::OtherAttribute),
-    }
 }

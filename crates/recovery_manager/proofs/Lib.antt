@@ -6,4 +6,4 @@ mod Told
 mod Ended
 mod Freed
 mod Swept
-mod Resolved
+mod Expired

@@ -1,4 +1,5 @@
 pub mod Ends
+pub mod Expiries
 pub mod Lists
 pub mod Parts
 pub mod Sweeps

@@ -1,35 +1,32 @@
 //! What the cells list of transactions that are not ended.
 
-ghost use Rattle.std.specs.Prelude.{◌≡◌, ◌<◌, [], IfOk, IfErr};
-ghost use Rattle.cluster.specs.Steps.{partitions_of};
+ghost use Rattle.std.specs.Prelude.{◌<◌, [], IfOk, IfErr};
+ghost use Rattle.cluster.specs.Steps.{IsAtRest, partitions_of};
 ghost use Rattle.cluster.specs.Counts.{CountsUntil};
 ghost use Rattle.recovery_manager.specs.Lists.{AreTheNumbers, ListsHeld, ListsItems, ListsNumbers, ListsPartly, numbers_in};
 
 use base_types::Seq;
-use cluster::{Cluster, StepError, TableWorld, ask, ask_ledger};
+use cluster::{Caller, StepError, TableWorld};
 use partition::PageRules;
-use std::alloc::{AllocError as NoMemory, Global};
+use std::alloc::AllocError as NoMemory;
 use std::sync::Wait;
 use turnstile::Pass;
 use txn_core::{Answer, HeldItem, Message};
 
 /// Asks a partition for the items that transactions hold there.
 fn held_in<R: PageRules, T: Wait>(
-    cluster: &Cluster<R>,
-    rt: &T,
-    alloc: Global,
+    caller: &Caller<'_, R, T>,
     pass: &mut Pass<TableWorld<R>>,
     cell: u32,
 ) -> Result<Seq<HeldItem<R::Key>>, StepError>
 where
     R::Fault: Copy,
-    requires of { pass.old.turnstile ≡ cluster.now.id }
-    requires free { pass.old.turns ≡ [] }
-    requires cell { cell < partitions_of cluster.now }
-    ensures ok { IfOk result (λ items. ListsItems (R.protocol (partitions_of cluster.now)) cell pass.old items pass.new) }
-    ensures err { IfErr result (λ why. CountsUntil (R.protocol (partitions_of cluster.now)) pass.old [] why pass.new) }
+    requires rests { IsAtRest caller.now pass.old }
+    requires cell { cell < partitions_of caller.now }
+    ensures ok { IfOk result (λ items. ListsItems (R.protocol (partitions_of caller.now)) cell pass.old items pass.new) }
+    ensures err { IfErr result (λ why. CountsUntil (R.protocol (partitions_of caller.now)) pass.old [] why pass.new) }
 {
-    let answer = ask(cluster, rt, alloc, pass, cell, Message::Pendings { cell })?;
+    let answer = caller.ask(pass, cell, Message::Pendings { cell })?;
     match answer {
         Answer::PendingList { pendings } => Ok(pendings),
         _ => unreachable!(),
@@ -38,23 +35,20 @@ where
 
 /// Asks each partition in order for the items that transactions hold there.
 pub(crate) fn all_held<R: PageRules, T: Wait>(
-    cluster: &Cluster<R>,
-    rt: &T,
-    alloc: Global,
+    caller: &Caller<'_, R, T>,
     pass: &mut Pass<TableWorld<R>>,
 ) -> Result<Vec<HeldItem<R::Key>>, StepError>
 where
     R::Fault: Copy,
-    requires of { pass.old.turnstile ≡ cluster.now.id }
-    requires free { pass.old.turns ≡ [] }
+    requires rests { IsAtRest caller.now pass.old }
     ensures ok { IfOk result (λ items.
-        ListsHeld (R.protocol (partitions_of cluster.now)) (partitions_of cluster.now) pass.old items.items pass.new) }
+        ListsHeld (R.protocol (partitions_of caller.now)) (partitions_of caller.now) pass.old items.items pass.new) }
     ensures err { IfErr result (λ why.
-        ListsPartly (R.protocol (partitions_of cluster.now)) (partitions_of cluster.now) pass.old why pass.new) }
+        ListsPartly (R.protocol (partitions_of caller.now)) (partitions_of caller.now) pass.old why pass.new) }
 {
-    let mut held = Vec::new(alloc);
-    for cell in 0..cluster.partitions() {
-        let items = held_in(cluster, rt, alloc, pass, cell)?;
+    let mut held = Vec::new(caller.alloc());
+    for cell in 0..caller.partitions() {
+        let items = held_in(caller, pass, cell)?;
         held.append(&mut Vec::from(items))?;
     }
     Ok(held)
@@ -62,19 +56,16 @@ where
 
 /// Asks the control cell for the numbers that are begun and not done.
 pub(crate) fn unfinished_numbers<R: PageRules, T: Wait>(
-    cluster: &Cluster<R>,
-    rt: &T,
-    alloc: Global,
+    caller: &Caller<'_, R, T>,
     pass: &mut Pass<TableWorld<R>>,
 ) -> Result<Seq<u64>, StepError>
 where
     R::Fault: Copy,
-    requires of { pass.old.turnstile ≡ cluster.now.id }
-    requires free { pass.old.turns ≡ [] }
-    ensures ok { IfOk result (λ numbers. ListsNumbers (R.protocol (partitions_of cluster.now)) pass.old numbers pass.new) }
-    ensures err { IfErr result (λ why. CountsUntil (R.protocol (partitions_of cluster.now)) pass.old [] why pass.new) }
+    requires rests { IsAtRest caller.now pass.old }
+    ensures ok { IfOk result (λ numbers. ListsNumbers (R.protocol (partitions_of caller.now)) pass.old numbers pass.new) }
+    ensures err { IfErr result (λ why. CountsUntil (R.protocol (partitions_of caller.now)) pass.old [] why pass.new) }
 {
-    let answer = ask_ledger(cluster, rt, alloc, pass, Message::Unfinished)?;
+    let answer = caller.ask_ledger(pass, Message::Unfinished)?;
     match answer {
         Answer::Numbers { numbers } => Ok(numbers),
         _ => unreachable!(),

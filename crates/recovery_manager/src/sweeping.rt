@@ -1,8 +1,8 @@
 //! All transactions that are not ended are driven to their ends.
 
-ghost use Rattle.std.specs.Prelude.{◌≡◌, ◌≢◌, [], Err, IfErr, IfOk};
+ghost use Rattle.std.specs.Prelude.{◌≡◌, ◌≢◌, Err, IfErr, IfOk};
 ghost use Rattle.ddb_outside.specs.Causes.{Rose};
-ghost use Rattle.cluster.specs.Steps.{partitions_of};
+ghost use Rattle.cluster.specs.Steps.{IsAtRest, partitions_of};
 ghost use Rattle.recovery_manager.specs.declared.sweep_end.SweepEnd.{SweepEnd};
 ghost use Rattle.recovery_manager.specs.Sweeps.{Sweeps, SweepsPartly};
 
@@ -10,10 +10,9 @@ use crate::driving::drive_all;
 use crate::listing::{all_held, listed_numbers, unfinished_numbers};
 use crate::releasing::release_all;
 use crate::sweep_end::SweepEnd;
-use cluster::{Cluster, TableWorld};
-use ddb_outside::Gate;
+use cluster::{Caller, TableWorld};
+use coordinator::Gate;
 use partition::PageRules;
-use std::alloc::Global;
 use std::sync::Wait;
 use turnstile::Pass;
 
@@ -24,30 +23,27 @@ use turnstile::Pass;
 /// `Stopped` comes only where the gate counted a stop, and always where it did, `Spent` only where no unit is left. `NoMemory`
 /// leaves no transaction that this sweep drove between its decision and its Done.
 pub fn sweep<R: PageRules, G: Gate, T: Wait>(
-    cluster: &Cluster<R>,
-    rt: &T,
-    alloc: Global,
+    caller: &Caller<'_, R, T>,
     pass: &mut Pass<TableWorld<R>>,
     gate: &mut G,
 ) -> Result<u64, SweepEnd>
 where
     R::Fault: Copy,
-    requires of { pass.old.turnstile ≡ cluster.now.id }
-    requires free { pass.old.turns ≡ [] }
-    ensures ok { IfOk result (λ count. Sweeps (R.protocol (partitions_of cluster.now)) (partitions_of cluster.now) pass.old count pass.new) }
+    requires rests { IsAtRest caller.now pass.old }
+    ensures ok { IfOk result (λ count. Sweeps (R.protocol (partitions_of caller.now)) (partitions_of caller.now) pass.old count pass.new) }
     ensures err { IfErr result (λ why.
-        SweepsPartly (R.protocol (partitions_of cluster.now)) (partitions_of cluster.now) pass.old why pass.new) }
+        SweepsPartly (R.protocol (partitions_of caller.now)) (partitions_of caller.now) pass.old why pass.new) }
     ensures stopped { result ≡ Err SweepEnd.Stopped → Rose (G.stops gate.old) (G.stops gate.new) }
     ensures obeyed { result ≢ Err SweepEnd.Stopped → G.stops gate.new ≡ G.stops gate.old }
 {
-    let items = all_held(cluster, rt, alloc, pass)?;
-    let unfinished = unfinished_numbers(cluster, rt, alloc, pass)?;
+    let items = all_held(caller, pass)?;
+    let unfinished = unfinished_numbers(caller, pass)?;
     let numbers = listed_numbers(unfinished, &items)?;
-    let driven = drive_all(cluster, rt, alloc, pass, &numbers, gate);
-    cluster.facts(pass);
+    let driven = drive_all(caller, pass, &numbers, gate);
+    caller.facts(pass);
     let gone = driven?;
-    let released = release_all(cluster, rt, alloc, pass, items, &gone);
-    cluster.facts(pass);
+    let released = release_all(caller, pass, items, &gone);
+    caller.facts(pass);
     released?;
     Ok(numbers.len() as u64)
 }

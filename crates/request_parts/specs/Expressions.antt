@@ -13,8 +13,8 @@ use Rattle.api_form.specs.declared.name.Name.TheVariants as name
 use Rattle.api_form.specs.declared.fault.Fault.TheVariants as fault
 use Rattle.request_parts.specs.declared.refusal.Refusal.{Refusal}
 use Rattle.request_parts.specs.declared.refusal.Refusal.TheVariants as refusal
-use Rattle.request_parts.specs.declared.refusal.RequestEnd.{RequestEnd}
-use Rattle.request_parts.specs.declared.refusal.RequestEnd.TheVariants as request_end
+use Rattle.base_types.specs.declared.end.End.{End}
+use Rattle.base_types.specs.declared.end.End.TheVariants as request_end
 use Rattle.request_parts.specs.Placeholders.{Known}
 
 -- ---- types that values name (Developer Guide: attribute_type)
@@ -73,9 +73,9 @@ WhereStated Reads _ _ = ⊥
 -- ---- steps of the code
 
 -- how a parser's end is passed on
-abbrev pub IsFailed : Name → ParseEnd → RequestEnd → Type 0
+abbrev pub IsFailed : Name → ParseEnd → End Refusal → Type 0
 IsFailed m parse_end.NoMemory end = end ≡ request_end.NoMemory
-IsFailed m f end = end ≡ request_end.Refused (refusal.Expression m f)
+IsFailed m f end = end ≡ request_end.Fault (refusal.Expression m f)
 
 -- a condition that was read stays where its values fit
 abbrev pub IsFitting : List Value → Tree → Result Tree Refusal → Type 0

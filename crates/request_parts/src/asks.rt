@@ -188,8 +188,8 @@ fn all_used<T: Drop>(alloc: Global, whole: T, given: &Given, used: &Used) -> Res
         return Ok(whole);
     };
     match given.names.get(place) {
-        Some(pair) => Err(RequestEnd::Refused(Refusal::UnusedName(pair.placeholder.try_clone()?))),
-        None => Err(RequestEnd::Refused(Refusal::UnusedValue(value_name(alloc, given, place)?))),
+        Some(pair) => Err(RequestEnd::Fault(Refusal::UnusedName(pair.placeholder.try_clone()?))),
+        None => Err(RequestEnd::Fault(Refusal::UnusedValue(value_name(alloc, given, place)?))),
     }
 }
 

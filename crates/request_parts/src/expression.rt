@@ -68,7 +68,7 @@ fn fitting(alloc: Global, condition: Condition, values: &[Value]) -> Result<Cond
         Ok(true) => Ok(condition),
         Ok(false) => {
             let name = Name::ExpressionAttributeValues;
-            Err(RequestEnd::Refused(Refusal::Body(Fault::OutOfRange(name))))
+            Err(RequestEnd::Fault(Refusal::Body(Fault::OutOfRange(name))))
         }
         Err(_) => Err(RequestEnd::NoMemory),
     }
@@ -164,7 +164,7 @@ fn failed(member: Name, end: ParseEnd) -> RequestEnd
 {
     match end {
         ParseEnd::NoMemory => RequestEnd::NoMemory,
-        fault => RequestEnd::Refused(Refusal::Expression { member, fault }),
+        fault => RequestEnd::Fault(Refusal::Expression { member, fault }),
     }
 }
 

@@ -1,9 +1,10 @@
 //! The legacy members of requests: what clients sent before there were expressions (Developer Guide: Legacy conditional
 //! parameters).
 
-ghost use Rattle.std.specs.Prelude.{◌≡◌, ◌≢◌, ◌↔◌, Ok, IfOk, IsTrue, AllPairs, map, option_map};
+ghost use Rattle.std.specs.Prelude.{◌≡◌, ◌≢◌, ◌↔◌, None, Ok, IfOk, IfErr, IsTrue, AllPairs, map, option_map};
 ghost use Rattle.serde_json.specs.View.{view};
 ghost use Rattle.expr_parse.specs.Overlaps.{HaveOverlap};
+ghost use Rattle.legacy_params.specs.Answers.{IsEnd};
 ghost use Rattle.legacy_params.specs.Trees.{path_to};
 ghost use Rattle.request_parts.specs.Ends.{IsToldOf};
 ghost use Rattle.request_parts.specs.Asks.{lent};
@@ -292,14 +293,14 @@ fn judged(
     ensures { IsToldOf (IsJudgment kind (view json.now) parts.now) result }
 {
     if let Some(fault) = first_legacy(json, kind, parts) {
-        return Err(RequestEnd::Refused(Refusal::Legacy(fault)));
+        return Err(RequestEnd::Fault(Refusal::Legacy(fault)));
     }
     if lacks_key(kind, parts.keys.as_slice()) {
         let missing = Fault::Missing(Name::KeyConditionExpression);
-        return Err(RequestEnd::Refused(Refusal::Body(missing)));
+        return Err(RequestEnd::Fault(Refusal::Body(missing)));
     }
     if have_overlap(alloc, &parts.names)? {
-        return Err(RequestEnd::Refused(Refusal::Expression {
+        return Err(RequestEnd::Fault(Refusal::Expression {
             member: Name::ProjectionExpression,
             fault: ParseEnd::Overlap,
         }));
@@ -321,6 +322,7 @@ pub struct LegacyTrees {
 /// What the parts stand for, which are sound. Values are moved.
 fn trees_of(alloc: Global, parts: LegacyParts) -> Result<LegacyTrees, NoMemory>
     requires once { AllPairs (λ one other. one.name ≢ other.name) parts.changes }
+    requires faultless { parts_fault parts ≡ None }
     ensures { IfOk result (AreLegacyTrees parts) }
 {
     let LegacyParts {
@@ -346,6 +348,7 @@ fn trees_of(alloc: Global, parts: LegacyParts) -> Result<LegacyTrees, NoMemory>
 
 /// The paths of names, where they are stated.
 fn paths_of(alloc: Global, names: Option<Seq<Text>>) -> Result<Option<Paths>, NoMemory>
+    requires { names_fault names ≡ None }
     ensures { IfOk result (λ paths. option_map (λ p. p.paths) paths ≡ option_map (map path_to) names) }
 {
     match names {
@@ -354,13 +357,15 @@ fn paths_of(alloc: Global, names: Option<Seq<Text>>) -> Result<Option<Paths>, No
     }
 }
 
-/// What was made. Where it was not, memory was refused: faults have been asked for before.
+/// What was made of members without a fault.
 fn made<T>(made: Result<T, LegacyEnd>) -> Result<T, NoMemory>
+    requires { IfErr made (IsEnd None) }
     ensures { IfOk result (λ value. made ≡ Ok value) }
 {
     match made {
         Ok(value) => Ok(value),
-        Err(_) => Err(NoMemory),
+        Err(LegacyEnd::NoMemory) => Err(NoMemory),
+        Err(LegacyEnd::Fault(_)) => unreachable!(),
     }
 }
 

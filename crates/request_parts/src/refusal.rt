@@ -1,10 +1,9 @@
 //! Why a message is no request.
 
 use api_form::{Fault, Name};
-use base_types::Text;
+use base_types::{End, Text};
 use expr_parse::ParseEnd;
 use legacy_params::LegacyFault;
-use std::alloc::{AllocError as NoMemory, AllocFailed};
 use table_schema::SchemaFault;
 
 /// Why a message is refused before the database sees it.
@@ -47,42 +46,15 @@ impl Drop for Refusal {
 }
 
 /// Why there is no request.
-#[derive(Drop)]
-pub enum RequestEnd {
-    Refused(Refusal),
-    /// Memory was refused.
-    NoMemory,
-}
-
-impl From<NoMemory> for RequestEnd {
-    ghost use Rattle.std.specs.Prelude.{◌≡◌};
-    ghost use Rattle.request_parts.specs.declared.refusal.RequestEnd.{RequestEnd};
-
-    ghost from_gives = { λ refused end. end ≡ RequestEnd.NoMemory };
-
-    fn from(_refused: NoMemory) -> RequestEnd {
-        RequestEnd::NoMemory
-    }
-}
+pub type RequestEnd = End<Refusal>;
 
 impl From<Refusal> for RequestEnd {
     ghost use Rattle.std.specs.Prelude.{◌≡◌};
-    ghost use Rattle.request_parts.specs.declared.refusal.RequestEnd.{RequestEnd};
+    ghost use Rattle.base_types.specs.declared.end.End.{End};
 
-    ghost from_gives = { λ refusal end. end ≡ RequestEnd.Refused refusal };
+    ghost from_gives = { λ fault end. end ≡ End.Fault fault };
 
-    fn from(refusal: Refusal) -> RequestEnd {
-        RequestEnd::Refused(refusal)
-    }
-}
-
-impl<T: Drop> From<AllocFailed<T>> for RequestEnd {
-    ghost use Rattle.std.specs.Prelude.{◌≡◌};
-    ghost use Rattle.request_parts.specs.declared.refusal.RequestEnd.{RequestEnd};
-
-    ghost from_gives = { λ refused end. end ≡ RequestEnd.NoMemory };
-
-    fn from(_refused: AllocFailed<T>) -> RequestEnd {
-        RequestEnd::NoMemory
+    fn from(fault: Refusal) -> RequestEnd {
+        RequestEnd::Fault(fault)
     }
 }

@@ -1,6 +1,7 @@
 -- Tables by name, in the database of the tables alone.
-use Rattle.std.proofs.Common.{◌≡◌, ℕ, List, [], map, Option, None, Some, is_some, true, false, Result, Ok, refl, sym, ap, ◌∙◌}
+use Rattle.std.proofs.Common.{◌≡◌, ℕ, List, [], ◌∷◌, ◌++◌, append_assoc, map, Option, None, Some, is_some, true, false, Result, Ok, refl, sym, ap, ◌∙◌}
 use Rattle.std.specs.Prelude.{filter_map}
+use Rattle.std.specs.List.{cons_option}
 use Rattle.std.specs.FinMap.{empty}
 use Rattle.std.specs.Map.{lookup}
 use Rattle.item_keys.specs.declared.fault.KeyFault.{KeyFault}
@@ -9,9 +10,11 @@ use Rattle.row_keys.specs.declared.row_key.RowKey.{RowKey}
 use Rattle.row_keys.specs.Rows.{item_at}
 use Rattle.table_request.specs.declared.batches.TableKeys.{TableKeys}
 use Rattle.table_request.specs.declared.batches.TableWrites.{TableWrites}
+use Rattle.table_request.specs.declared.consumed.Consumed.{Consumed}
 use Rattle.table_model.specs.declared.refusal.Refusal.TheVariants.{NoTable}
-use Rattle.table_model.specs.Database.{Table, table_named}
-use Rattle.table_model.specs.Batches.{missing, missing_if, place_if, asked_keys, asked_keys_if, asked_items, asked_items_if, write_keys, write_keys_if, write_key}
+use Rattle.table_model.specs.Database.{Database, Table, table_named}
+use Rattle.table_model.specs.Batches.{missing, missing_if, place_if, asked_keys, asked_keys_if, asked_items, asked_items_if, write_keys, write_keys_if, write_key, write_halves_in, used_if, used_by_writes}
+use Rattle.table_model.specs.Consumed.{used_by_all}
 use Rattle.numbered_tables.specs.declared.table.NumberedTable.{NumberedTable}
 use Rattle.numbered_tables.specs.Tables.{Kept, table_in}
 use Rattle.numbered_tables.proofs.Kept.{at, absent, there}
@@ -81,3 +84,23 @@ pub changes_written :
     (es : Kept) (t : TableWrites) (x : NumberedTable) → lookup (at t.table) es ≡ Some x
     → changes_of (table_in x) t.table t.writes ≡ changes_in (tables_alone es) t
 changes_written es t x here = sym (ap (λ (o : Option Table). changes_if o t) (is_there es t.table x here))
+
+pub used_nowhere : (es : Kept) (t : TableWrites) → lookup (at t.table) es ≡ None → used_by_writes (tables_alone es) (t ∷ []) ≡ []
+used_nowhere es t none = ap (λ (o : Option Table). cons_option (used_if o t) []) (not_there es t.table none)
+
+pub used_there :
+    (es : Kept) (t : TableWrites) (x : NumberedTable) → lookup (at t.table) es ≡ Some x
+    → used_by_writes (tables_alone es) (t ∷ []) ≡ used_by_all t.table (write_halves_in (table_in x)) t.writes ∷ []
+used_there es t x here = ap (λ (o : Option Table). cons_option (used_if o t) []) (is_there es t.table x here)
+
+-- what one table more uses stands before what the others use
+pub used_more :
+    (db : Database) (all : List Consumed) (t : TableWrites) (ts : List TableWrites)
+    → (all ++ used_by_writes db (t ∷ [])) ++ used_by_writes db ts ≡ all ++ used_by_writes db (t ∷ ts)
+used_more db all t ts =
+    append_assoc all (used_by_writes db (t ∷ [])) (used_by_writes db ts)
+    ∙ ap (λ (us : List Consumed). all ++ us) (go (used_if (table_named db t.table) t))
+  where
+    go : (o : Option Consumed) → cons_option o [] ++ used_by_writes db ts ≡ cons_option o (used_by_writes db ts)
+    go None = refl
+    go (Some used) = refl

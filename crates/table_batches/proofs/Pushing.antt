@@ -17,11 +17,15 @@ use Rattle.table_batches.specs.Writes.{change_if, changes_of}
 use Rattle.table_batches.proofs.Gathered.{behind_none, one_more, a_fault, places}
 
 -- the place of a key that was read
-place_is : (read : Result Key KeyFault) (key : RowKey) → Ok key ≡ row_key_if read → place_if read ≡ Some key
+pub place_is : (read : Result Key KeyFault) (key : RowKey) → Ok key ≡ row_key_if read → place_if read ≡ Some key
 place_is (Ok found) key is =
     let same : row_key found ≡ key = cc in
     ap (λ (k : RowKey). Some k) same
 place_is (Err fault) key is = absurd (cc)
+
+pub no_place : (read : Result Key KeyFault) (fault : KeyFault) → Err fault ≡ row_key_if read → place_if read ≡ None
+no_place (Ok found) fault is = absurd (cc)
+no_place (Err other) fault is = refl
 
 module _ (table : Table) (name : List ℕ) (writes : List WriteRequest) where
   -- what was changed so far, the keys of it, and how the whole follows from the rest

@@ -10,15 +10,17 @@ use Rattle.item_keys.specs.declared.fault.KeyFault.{KeyFault}
 use Rattle.item_keys.specs.declared.key.Key.{Key}
 use Rattle.table_request.specs.declared.batches.BatchGet.{BatchGet}
 use Rattle.table_request.specs.declared.batches.TableKeys.{TableKeys}
+use Rattle.table_request.specs.declared.consumed.Consumed.{Consumed}
 use Rattle.table_model.specs.declared.reply.Reply.{Reply}
 use Rattle.table_model.specs.declared.reply.Reply.TheVariants.{BatchRead, Refused}
 use Rattle.table_model.specs.declared.reply.TableItems.{TableItems}
 use Rattle.table_model.specs.declared.refusal.Refusal.{Refusal}
 use Rattle.table_model.specs.Database.{Database, Table, table_named, first, unless}
-use Rattle.table_model.specs.Batches.{missing, missing_if, key_refusal, place_if, asked_keys, asked_keys_if, asked_items, asked_items_if, most_batch_bytes, read_count, found, found_in, unread, unread_in, batch_get, batch_get_refusal}
+use Rattle.table_model.specs.Batches.{missing, missing_if, key_refusal, place_if, asked_keys, asked_keys_if, asked_items, asked_items_if, most_batch_bytes, read_count, found, found_in, unread, unread_in, used_by_keys, used_by_reads, batch_get, batch_get_refusal}
 use Rattle.numbered_tables.specs.Tables.{Kept, database_in}
 use Rattle.table_batches.specs.Answers.{IsRead, tables_alone}
-use Rattle.table_batches.specs.Reads.{bytes_of, shown, found_among, read_of}
+use Rattle.table_model.specs.Consumed.{where_asked, bytes_of}
+use Rattle.table_batches.specs.Reads.{shown, found_among, used_among, read_of}
 
 -- ---- how many are read
 
@@ -126,6 +128,20 @@ found_is db (t ∷ ts) count all =
     (λ i. (let r : TableItems = record { table = t.table; items = shown t.projection (here i) } in r) ∷ found_among ts (rest i))
     ∙ ap (λ (fs : List TableItems). found_in db count t ∷ fs) (found_is db ts (count - length t.keys) all.1)
 
+pub used_is :
+    (db : Database) (ts : List TableKeys) (count : ℕ) → HaveItems db ts
+    → used_among ts (take count (flat_map (asked_items db) ts)) ≡ used_by_reads db count ts
+used_is db [] count all = refl
+used_is db (t ∷ ts) count all =
+    let xs = asked_items db t in
+    let ys = flat_map (asked_items db) ts in
+    let here : take (length t.keys) (take count (xs ++ ys)) ≡ take count xs =
+    ap (λ (n : ℕ). take n (take count (xs ++ ys))) (sym all.0) ∙ front xs ys count in
+    let rest : drop (length t.keys) (take count (xs ++ ys)) ≡ take (count - length t.keys) ys =
+    ap (λ (n : ℕ). drop n (take count (xs ++ ys))) (sym all.0) ∙ back xs ys count ∙ ap (λ (n : ℕ). take (count - n) ys) all.0 in
+    (λ i. used_by_keys t (here i) ∷ used_among ts (rest i))
+    ∙ ap (λ (us : List Consumed). used_by_keys t (take count xs) ∷ us) (used_is db ts (count - length t.keys) all.1)
+
 -- ---- what is not read
 
 pub none_left : (t : TableKeys) (count : ℕ) → length t.keys ≤ count → unread_in t (drop count t.keys) [] ≡ []
@@ -185,27 +201,29 @@ have_items db (t ∷ ts) there is =
 -- a request that is not refused is read
 pub read_is :
     (db : Database) (r : BatchGet) (items : List (Option Attributes)) (reply : Reply) → batch_get_refusal db r.tables ≡ None
-    → items ≡ flat_map (asked_items db) r.tables → reply ≡ read_of r.tables items → batch_get db r ≡ (db, reply)
+    → items ≡ flat_map (asked_items db) r.tables → reply ≡ read_of r.capacity r.tables items → batch_get db r ≡ (db, reply)
 read_is db r items reply fit is told =
     let ts = r.tables in
     let tables = both_none (first (map (λ t. missing db t.table) ts)) _ fit in
     let keys = both_none (first (map key_refusal (flat_map (asked_keys db) ts))) _ tables.1 in
     let count = read_count most_batch_bytes (flat_map (asked_items db) ts) in
     let shown : found_among ts (take count (flat_map (asked_items db) ts)) ≡ found db count ts = found_is db ts count (have_items db ts tables.0 keys.0) in
-    ap (λ (o : Option Refusal). unless db o (db, BatchRead (found db count ts) (unread count ts) None)) fit
-    ∙ sym ((λ i. (db, told i)) ∙ (λ i. (db, read_of ts (is i))) ∙ (λ i. (db, BatchRead (shown i) (unread count ts) None)))
+    let used : used_among ts (take count (flat_map (asked_items db) ts)) ≡ used_by_reads db count ts = used_is db ts count (have_items db ts tables.0 keys.0) in
+    ap (λ (o : Option Refusal). unless db o (db, BatchRead (found db count ts) (unread count ts) (where_asked r.capacity (used_by_reads db count ts)))) fit
+    ∙ sym ((λ i. (db, told i)) ∙ (λ i. (db, read_of r.capacity ts (is i)))
+    ∙ (λ i. (db, BatchRead (shown i) (unread count ts) (where_asked r.capacity (used i)))))
 
 -- and one that is refused is not
 pub refused_is : (db : Database) (r : BatchGet) (why : Refusal) → batch_get_refusal db r.tables ≡ Some why → batch_get db r ≡ (db, Refused why)
 refused_is db r why is =
     let ts = r.tables in
     let count = read_count most_batch_bytes (flat_map (asked_items db) ts) in
-    ap (λ (o : Option Refusal). unless db o (db, BatchRead (found db count ts) (unread count ts) None)) is
+    ap (λ (o : Option Refusal). unless db o (db, BatchRead (found db count ts) (unread count ts) (where_asked r.capacity (used_by_reads db count ts)))) is
 
 -- the same of the tables that are kept
 pub answered :
     (es : Kept) (r : BatchGet) (items : List (Option Attributes)) (ts : List TableKeys) (reply : Reply) → ts ≡ r.tables
-    → batch_get_refusal (tables_alone es) ts ≡ None → items ≡ flat_map (asked_items (tables_alone es)) ts → reply ≡ read_of r.tables items
+    → batch_get_refusal (tables_alone es) ts ≡ None → items ≡ flat_map (asked_items (tables_alone es)) ts → reply ≡ read_of r.capacity r.tables items
     → IsRead es r reply
 answered es r items ts reply same fit is told = λ tokens made.
     read_is (database_in es tokens made) r items reply (ap (batch_get_refusal (tables_alone es)) (sym same) ∙ fit)

@@ -17,13 +17,15 @@ use Rattle.table_request.specs.declared.batches.BatchWrite.{BatchWrite}
 use Rattle.table_request.specs.declared.batches.TableWrites.{TableWrites}
 use Rattle.table_request.specs.declared.batches.WriteRequest.{WriteRequest}
 use Rattle.table_request.specs.declared.batches.WriteRequest.TheVariants.{Put, Delete}
+use Rattle.table_model.specs.declared.reply.Reply.{Reply}
 use Rattle.table_model.specs.declared.reply.Reply.TheVariants.{BatchWritten, Refused}
 use Rattle.table_model.specs.declared.refusal.Refusal.{Refusal}
 use Rattle.table_model.specs.declared.refusal.Refusal.TheVariants.{Invalid}
 use Rattle.table_model.specs.declared.refusal.Invalid.TheVariants as invalid
 use Rattle.update_eval.specs.declared.fault.EvalFault.TheVariants.{IndexKey}
 use Rattle.table_model.specs.Database.{Database, Table, table_named, with_row, unless, first, where_true}
-use Rattle.table_model.specs.Batches.{missing, key_refusal, place_if, has_twice, is_oversized, is_unfit_write, write_keys, write_key, write_image, write_at, write_if, write_one, write_table, write_all, batch_write, batch_write_refusal}
+use Rattle.table_model.specs.Batches.{missing, key_refusal, place_if, has_twice, is_oversized, is_unfit_write, write_keys, write_key, write_image, write_at, write_if, write_one, write_table, write_all, used_by_writes, batch_write, batch_write_refusal}
+use Rattle.table_model.specs.Consumed.{where_asked}
 use Rattle.numbered_tables.specs.declared.change.TableChange.{TableChange}
 use Rattle.numbered_tables.specs.Changes.{changed_if, changed, changed_all, IsChanged}
 use Rattle.numbered_tables.specs.Tables.{Kept, database_in}
@@ -160,17 +162,21 @@ of_all db other (t ∷ ts) alike =
     ∙ ap (λ (d : Database). changed_all d (flat_map (changes_in other) ts)) here.made
     ∙ of_all (write_table db t.table t.writes) other ts here.alike
 
+-- what is told where all writes are made
+abbrev pub told_all : Database → BatchWrite → Reply
+told_all db r = BatchWritten [] (where_asked r.capacity (used_by_writes db r.tables))
+
 -- a request that is not refused is made by its changes
 pub written_is :
     (db new : Database) (r : BatchWrite) (changes : List TableChange) → batch_write_refusal db r.tables ≡ None
-    → changes ≡ flat_map (changes_in db) r.tables → new ≡ changed_all db changes → batch_write db r ≡ (new, BatchWritten [] None)
+    → changes ≡ flat_map (changes_in db) r.tables → new ≡ changed_all db changes → batch_write db r ≡ (new, told_all db r)
 written_is db new r changes fit are made =
     let all : new ≡ write_all db r.tables = made ∙ ap (changed_all db) are ∙ of_all db db r.tables (λ name. refl) in
-    ap (λ (o : Option Refusal). unless db o (write_all db r.tables, BatchWritten [] None)) fit ∙ (λ i. (sym all i, BatchWritten [] None))
+    ap (λ (o : Option Refusal). unless db o (write_all db r.tables, told_all db r)) fit ∙ (λ i. (sym all i, told_all db r))
 
 -- and one that is refused changes nothing
 pub refused_is : (db : Database) (r : BatchWrite) (why : Refusal) → batch_write_refusal db r.tables ≡ Some why → batch_write db r ≡ (db, Refused why)
-refused_is db r why is = ap (λ (o : Option Refusal). unless db o (write_all db r.tables, BatchWritten [] None)) is
+refused_is db r why is = ap (λ (o : Option Refusal). unless db o (write_all db r.tables, told_all db r)) is
 
 -- ---- refusals in their order
 
@@ -231,7 +237,7 @@ none_twice db ts is =
 
 pub answered :
     (old new : Kept) (r : BatchWrite) (changes : List TableChange) → batch_write_refusal (tables_alone old) r.tables ≡ None
-    → changes ≡ flat_map (changes_in (tables_alone old)) r.tables → IsChanged old changes new → IsWritten old r new (BatchWritten [] None)
+    → changes ≡ flat_map (changes_in (tables_alone old)) r.tables → IsChanged old changes new → IsWritten old r new (told_all (tables_alone old) r)
 answered old new r changes fit are made = λ tokens count.
     written_is (database_in old tokens count) (database_in new tokens count) r changes fit are (made tokens count)
 

@@ -32,7 +32,7 @@ impl Keyed for TableChange {
 }
 
 /// The key of the row that is written, or its first fault.
-fn write_key(
+pub(crate) fn write_key(
     table: &NumberedTable,
     alloc: Global,
     write: &WriteRequest,

@@ -5,7 +5,8 @@
 //!
 //! A request is refused as a whole: first for a table that is not there, then for the form of a key, then for a key that
 //! stands twice in a table, and then for an item that may not be written. Each key is computed once, and what a request
-//! holds moves into the tables or the answer.
+//! holds moves into the tables or the answer. Where it is asked what the writes use of the tables' capacity, their keys are
+//! computed once more before they are made, to look at the items as they were.
 //!
 //! `specs/Answers.antt` says what a call does in the words of the sequential database.
 #![tactic(auto)]
@@ -17,6 +18,7 @@ mod keys;
 mod missing;
 mod read;
 mod unread;
+mod used;
 mod write;
 
 pub use read::batch_get;

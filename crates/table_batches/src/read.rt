@@ -1,36 +1,29 @@
 //! BatchGetItem.
 
-ghost use Rattle.std.specs.Prelude.{◌≡◌, ◌≤◌, ◌++◌, map, length, take, filter_map, IfOk, OnOk};
+ghost use Rattle.std.specs.Prelude.{◌≡◌, ◌≤◌, ◌++◌, map, sum_by, length, take, filter_map, IfOk, OnOk};
 ghost use Rattle.std.specs.Option.{option_copied};
 ghost use Rattle.table_model.specs.Reads.{view};
-ghost use Rattle.table_model.specs.Batches.{most_batch_bytes, read_count};
+ghost use Rattle.capacity.specs.Units as units;
+ghost use Rattle.table_model.specs.Batches.{most_batch_bytes, read_count, used_by_keys};
+ghost use Rattle.table_model.specs.Consumed.{bytes_of, where_asked};
 ghost use Rattle.table_batches.specs.Answers.{IsRead, tables_alone};
-ghost use Rattle.table_batches.specs.Reads.{bytes_of, shown, found_among, read_of};
+ghost use Rattle.table_batches.specs.Reads.{shown, found_among, used_among, read_of};
 
 use crate::asked::asked_items;
 use crate::unread::unread;
-use attr_value::SharedItem;
+use attr_value::{SharedItem, lent};
 use base_types::{Seq, Text};
+use capacity::{Mode, read_halves};
 use expr_words::Paths;
 use numbered_tables::NumberedTable;
 use std::alloc::{AllocError as NoMemory, Global};
 use std::collections::BTreeMap;
-use table_items::view;
+use table_items::{bytes_of, read_mode, view};
 use table_model::{Reply, TableItems};
-use table_request::{BatchGet, TableKeys};
+use table_request::{BatchGet, Consumed, TableKeys};
 
 /// The most bytes of the items that are read together.
 const MOST_BYTES: u64 = 16_777_216;
-
-/// The bytes of an item, none where it is not there.
-fn bytes_of(item: Option<&SharedItem>) -> u64
-    ensures { result ≡ bytes_of (option_copied item.entry) }
-{
-    match item {
-        Some(item) => item.item().size(),
-        None => 0,
-    }
-}
 
 /// How many keys are read: those before the first item with which the items would have more than 16,777,216 bytes.
 fn read_count(items: &[Option<&SharedItem>]) -> usize
@@ -39,7 +32,7 @@ fn read_count(items: &[Option<&SharedItem>]) -> usize
 {
     let mut room = MOST_BYTES;
     for (read, item) in items.iter().enumerate() {
-        let bytes = bytes_of(*item);
+        let bytes = bytes_of(lent(*item));
         if bytes > room {
             return read;
         }
@@ -96,21 +89,78 @@ fn found(
     Ok(found)
 }
 
+/// The halves of a unit that reads of these items use, each by itself.
+fn halves_read(mode: Mode, items: &[Option<&SharedItem>]) -> u64
+    ensures { result ≡ units.counted (sum_by (λ item. units.read_halves mode (bytes_of item)) (map option_copied items.now)) }
+{
+    let mut halves = 0u64;
+    for item in items {
+        let bytes = bytes_of(lent(*item));
+        halves = halves.saturating_add(read_halves(bytes, mode));
+    }
+    halves
+}
+
+/// What the reads of these items of a table use.
+fn used_of(asked: &TableKeys, items: &[Option<&SharedItem>]) -> Result<Consumed, NoMemory>
+    ensures { IfOk result (λ used. used ≡ used_by_keys asked.now (map option_copied items.now)) }
+{
+    let table = asked.table.try_clone()?;
+    let mode = read_mode(asked.consistent.unwrap_or(false));
+    let halves = halves_read(mode, items);
+    Ok(Consumed { table, halves })
+}
+
+/// Of each table what is used by the reads of those of its items that are among these, which are the first of all.
+fn used(
+    alloc: Global,
+    requests: &[TableKeys],
+    items: &[Option<&SharedItem>],
+) -> Result<Seq<Consumed>, NoMemory>
+    ensures { IfOk result (λ used. used ≡ used_among requests.now (map option_copied items.now)) }
+{
+    let mut used = Seq::with_capacity(alloc, requests.len())?;
+    let mut start = 0;
+    for asked in requests {
+        let end = start + asked.keys.len().min(items.len() - start);
+        used.push(used_of(asked, &items[start..end])?)?;
+        start = end;
+    }
+    Ok(used)
+}
+
+/// The same where it is told. Else nothing is measured.
+fn used_if(
+    capacity: bool,
+    alloc: Global,
+    requests: &[TableKeys],
+    items: &[Option<&SharedItem>],
+) -> Result<Option<Seq<Consumed>>, NoMemory>
+    ensures { IfOk result (λ used. used ≡ where_asked capacity (used_among requests.now (map option_copied items.now))) }
+{
+    if !capacity {
+        return Ok(None);
+    }
+    Ok(Some(used(alloc, requests, items)?))
+}
+
 /// The answer to a request for these items.
 fn read(
     alloc: Global,
     requests: Seq<TableKeys>,
+    capacity: bool,
     items: &[Option<&SharedItem>],
 ) -> Result<Reply, NoMemory>
-    ensures { IfOk result (λ reply. reply ≡ read_of requests (map option_copied items.now)) }
+    ensures { IfOk result (λ reply. reply ≡ read_of capacity requests (map option_copied items.now)) }
 {
     let count = read_count(items);
     let found = found(alloc, requests.as_slice(), &items[..count])?;
+    let consumed = used_if(capacity, alloc, requests.as_slice(), &items[..count])?;
     let unread = unread(alloc, requests, count)?;
     Ok(Reply::BatchRead {
         found,
         unread,
-        consumed: None,
+        consumed,
     })
 }
 
@@ -126,9 +176,12 @@ pub fn batch_get(
 ) -> Result<Reply, NoMemory>
     ensures { IfOk result (IsRead tables.now.entries request) }
 {
-    let requests = request.tables;
+    let BatchGet {
+        tables: requests,
+        capacity,
+    } = request;
     match asked_items(tables, alloc, requests.as_slice())? {
-        Ok(items) => read(alloc, requests, items.as_slice()),
+        Ok(items) => read(alloc, requests, capacity, items.as_slice()),
         Err(refusal) => {
             drop(requests);
             Ok(Reply::Refused(refusal))

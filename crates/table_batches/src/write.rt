@@ -11,6 +11,7 @@ ghost use Rattle.table_batches.specs.Writes.{changes_in, ascend};
 use crate::change::changes_of_all;
 use crate::fit::{some_oversized, some_unfit};
 use crate::missing::missing;
+use crate::used::used_if;
 use base_types::{Seq, Text};
 use numbered_tables::{NumberedTable, TableChange, change_all};
 use std::alloc::{AllocError as NoMemory, Global};
@@ -88,13 +89,18 @@ pub fn batch_write(
     ensures ok { IfOk result (IsWritten tables.old.entries request tables.new.entries) }
     ensures err { OnErr result (tables.new.entries ≡ tables.old.entries) }
 {
-    match changes_asked(tables, alloc, request.tables)? {
+    let BatchWrite {
+        tables: requests,
+        capacity,
+    } = request;
+    let consumed = used_if(capacity, tables, alloc, requests.as_slice())?;
+    match changes_asked(tables, alloc, requests)? {
         Ok(changes) => {
             change_all(tables, alloc, changes)?;
             let unwritten = Seq::new(alloc);
             Ok(Reply::BatchWritten {
                 unwritten,
-                consumed: None,
+                consumed,
             })
         }
         Err(refusal) => Ok(Reply::Refused(refusal)),

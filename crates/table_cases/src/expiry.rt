@@ -16,7 +16,7 @@ const SECOND: u64 = 1_000_000;
 
 /// What an item's attribute `exp` holds.
 #[derive(Clone, Copy)]
-enum Expiry {
+pub(crate) enum Expiry {
     Number(u64),
     /// The text `1`.
     Text,
@@ -60,14 +60,15 @@ fn value(alloc: Global, expiry: Expiry) -> Result<Value, NoMemory> {
 }
 
 /// The attributes of the item's key.
-fn key(alloc: Global) -> Result<Item, NoMemory> {
+fn key(alloc: Global, id: &str) -> Result<Item, NoMemory> {
     let mut key = Item::new(alloc);
-    attribute(alloc, &mut key, "id", "a")?;
+    attribute(alloc, &mut key, "id", id)?;
     Ok(key)
 }
 
-fn expiring(alloc: Global, expiry: Expiry) -> Result<Item, NoMemory> {
-    let mut item = key(alloc)?;
+/// The item of this key that expires so.
+pub(crate) fn expiring(alloc: Global, id: &str, expiry: Expiry) -> Result<Item, NoMemory> {
+    let mut item = key(alloc, id)?;
     let name = Text::copied(alloc, "exp")?;
     let value = value(alloc, expiry)?;
     item.put(name, value)?;
@@ -88,12 +89,12 @@ fn putting(alloc: Global, table: Text, item: Item) -> Request {
 
 fn put(alloc: Global, expiry: Expiry) -> Result<Request, NoMemory> {
     let table = Text::copied(alloc, "Tab")?;
-    Ok(putting(alloc, table, expiring(alloc, expiry)?))
+    Ok(putting(alloc, table, expiring(alloc, "a", expiry)?))
 }
 
 fn get(alloc: Global) -> Result<Request, NoMemory> {
     let table = Text::copied(alloc, "Tab")?;
-    let key = key(alloc)?;
+    let key = key(alloc, "a")?;
     Ok(Request::GetItem(GetItem {
         table,
         key,

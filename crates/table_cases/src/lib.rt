@@ -4,6 +4,8 @@
 #[cfg(test)]
 mod cells;
 #[cfg(test)]
+mod expirations;
+#[cfg(test)]
 mod expiry;
 #[cfg(test)]
 mod histories;

@@ -111,7 +111,13 @@ pub(crate) fn index_key(alloc: Global) -> Result<CellKey, NoMemory> {
     }))
 }
 
-fn changing(alloc: Global, table: Text, change: StatedChange, key: CellKey) -> KeyedAction {
+/// An action on the item of a key, without a condition.
+pub(crate) fn changing(
+    alloc: Global,
+    table: Text,
+    change: StatedChange,
+    key: CellKey,
+) -> KeyedAction {
     let statement = Statement {
         table,
         change,

@@ -10,7 +10,7 @@ use Rattle.txn_core.specs.declared.ruling.Ruling.TheVariants.{Carries, Refuses}
 use Rattle.txn_core.specs.Effects.{Effect, Wrote}
 use Rattle.txn_core.specs.State.{State}
 use Rattle.txn_core.specs.Serial.{serial, catalog_of}
-use Rattle.txn_core.specs.History.{is_written, where_so, decide_effect, effects}
+use Rattle.txn_core.specs.History.{is_expired, is_written, where_so, decide_effect, effects}
 use Rattle.txn_core.specs.Legal.{state, IsRuled, ruling_answer, IsAnswer, IsLegal}
 use Rattle.txn_core.specs.Laws.{catalog_by}
 use Rattle.txn_core.proofs.Exports.{catalog_is_serial, others_leave_the_order}
@@ -119,6 +119,7 @@ module _ (n : ℕ) (es : List TableEvent) where
     by_message : (m : TableMessage) (a : TableAnswer) → IsAnswer (service n) es e.moment m a → Does m a
     by_message (Message.Command d) a is = by_command d a is
     by_message (Message.Write action) a is = inl (written (is_written a) action e.moment)
+    by_message (Message.Expire action) a is = inl (written (is_expired a) action e.moment)
     by_message (Message.Decide number commit reasons) a is = inl (decided number a)
     by_message m a is = inl (ap (catalog_of (protocol n)) (others_leave_the_order (entry m a) es refl))
 

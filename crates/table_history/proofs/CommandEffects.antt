@@ -5,6 +5,7 @@ use Rattle.table_request.specs.declared.request.Request.TheVariants as request
 use Rattle.table_request.specs.declared.tables.CreateTable.{CreateTable}
 use Rattle.table_request.specs.declared.tables.DeleteTable.{DeleteTable}
 use Rattle.table_request.specs.declared.tables.UpdateTable.{UpdateTable}
+use Rattle.table_request.specs.declared.time_to_live.UpdateTimeToLive.{UpdateTimeToLive}
 use Rattle.table_model.specs.declared.reply.Reply.{Reply}
 use Rattle.table_model.specs.Database.{Database}
 use Rattle.table_model.specs.Effect.{IsEffect}
@@ -15,7 +16,7 @@ use Rattle.txn_core.specs.Laws.{catalog_by, item_by}
 use Rattle.txn_core.proofs.Exports.{newest}
 use Rattle.cell_model.specs.declared.catalog.Catalog.{Catalog}
 use Rattle.cell_model.specs.declared.command.CatalogCommand.{CatalogCommand}
-use Rattle.cell_model.specs.declared.command.CatalogCommand.TheVariants.{Create, Drop, Change}
+use Rattle.cell_model.specs.declared.command.CatalogCommand.TheVariants.{Create, Drop, Change, TimeToLive}
 use Rattle.cell_model.specs.Service.{service}
 use Rattle.cell_model.proofs.Numbers.{some_parts}
 use Rattle.table_history.specs.Entries.{TableMessage, TableAnswer, TableEvent}
@@ -25,6 +26,7 @@ use Rattle.table_history.proofs.Carried.{carried_by, denied_by}
 use Rattle.table_history.proofs.CreateEffect.{created, uncreated}
 use Rattle.table_history.proofs.DeleteEffect.{drops, undrops}
 use Rattle.table_history.proofs.KeptHistories.{catalogs_are_kept}
+use Rattle.table_history.proofs.TtlEffect.{expires, unexpires}
 use Rattle.table_history.proofs.UpdateEffect.{changes, unchanges}
 
 module _ (n : ℕ) (es : List TableEvent) (legal : IsLegal (service n) es) (e : TableEvent) (db : Database) (stands : StandsFor (catalog_by (service n) es) (item_by (service n) es) db) where
@@ -69,6 +71,15 @@ module _ (n : ℕ) (es : List TableEvent) (legal : IsLegal (service n) es) (e : 
       (db, unchanges r e.moment before (catalogs_are_kept n es legal) (item_by (service n) es) db stands told reply (denied_by n es (Change r.table r.update) e.moment told is) told_is, stands)
   by_change r _ reply is told_is = absurd (cc)
 
+  by_time_to_live : (r : UpdateTimeToLive) (a : TableAnswer) (reply : Reply) → Answers (TimeToLive r.table r.name r.enabled) a → reply_by (request.UpdateTimeToLive r) e.moment a ≡ Some reply
+      → Did (request.UpdateTimeToLive r) reply (Message.Command (TimeToLive r.table r.name r.enabled)) a
+  by_time_to_live r (Answer.Changed told) reply is told_is =
+      let done = expires r e.moment before (catalogs_are_kept n es legal) (item_by (service n) es) db stands told reply (carried_by n es (TimeToLive r.table r.name r.enabled) e.moment told is) told_is in
+      (done.0, done.1, done.2)
+  by_time_to_live r (Answer.Refused told) reply is told_is =
+      (db, unexpires r e.moment before (catalogs_are_kept n es legal) (item_by (service n) es) db stands told reply (denied_by n es (TimeToLive r.table r.name r.enabled) e.moment told is) told_is, stands)
+  by_time_to_live r _ reply is told_is = absurd (cc)
+
   -- the command of a request
   stated : (asked : Request) (reply : Reply) (a : TableAnswer) (own command : CatalogCommand) → Some own ≡ Some command → Answers command a
       → (Answers own a → Did asked reply (Message.Command own) a) → Did asked reply (Message.Command command) a
@@ -84,6 +95,8 @@ module _ (n : ℕ) (es : List TableEvent) (legal : IsLegal (service n) es) (e : 
       stated (request.DeleteTable r) reply a (Drop r.table) command states is (λ own. by_drop r a reply own told_is)
   by_request (request.UpdateTable r) command states a reply is told_is =
       stated (request.UpdateTable r) reply a (Change r.table r.update) command states is (λ own. by_change r a reply own told_is)
+  by_request (request.UpdateTimeToLive r) command states a reply is told_is =
+      stated (request.UpdateTimeToLive r) reply a (TimeToLive r.table r.name r.enabled) command states is (λ own. by_time_to_live r a reply own told_is)
   by_request _ command states a reply is told_is = absurd (cc)
 
 pub commands_are_effects : (n : ℕ) → CommandsAreEffects n

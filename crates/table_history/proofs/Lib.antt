@@ -13,6 +13,8 @@ pub mod Altered
 pub mod CreateEffect
 pub mod DeleteEffect
 pub mod UpdateEffect
+pub mod TtlEffect
 pub mod CommandEffects
 pub mod WriteEffects
+pub mod Expirations
 pub mod Others

@@ -10,9 +10,9 @@ use Rattle.txn_core.proofs.Exports.{legal_before}
 use Rattle.cell_model.specs.declared.catalog.Catalog.{Catalog}
 use Rattle.cell_model.specs.declared.catalog.CatalogTable.{CatalogTable}
 use Rattle.cell_model.specs.declared.command.CatalogCommand.{CatalogCommand}
-use Rattle.cell_model.specs.declared.command.CatalogCommand.TheVariants.{Create, Drop, Change}
+use Rattle.cell_model.specs.declared.command.CatalogCommand.TheVariants.{Create, Drop, Change, TimeToLive}
 use Rattle.cell_model.specs.Catalogs.{named, numbered, last_drawn}
-use Rattle.cell_model.specs.Commands.{subject, is_number, is_typed, updated_table, changed_table, kept, catalog_after}
+use Rattle.cell_model.specs.Commands.{subject, is_number, is_typed, expiring_table, updated_table, changed_table, kept, catalog_after}
 use Rattle.cell_model.specs.KeptCatalogs.{IsKept, IsMade}
 use Rattle.cell_model.specs.Service.{service}
 use Rattle.cell_model.proofs.Numbers.{some_parts}
@@ -55,6 +55,8 @@ changed_that : (d : CatalogCommand) (drawn : ℕ) (t u : CatalogTable) → IsMad
 changed_that (Create schema) drawn t u made e = subst (IsThat t) (some_parts t u e) (itself t.schema)
 changed_that (Drop name) drawn t u made e = absurd (cc)
 changed_that (Change name update) drawn t u made e = subst (IsThat t) (some_parts (updated_table update drawn t) u e) (updated_that update drawn t made)
+changed_that (TimeToLive name attribute enabled) drawn t u made e =
+    subst (IsThat t) (some_parts (expiring_table attribute enabled t) u e) (record { name = refl; keys = refl; locals = refl; kinds = λ name h. refl })
 
 kept_that : (d : CatalogCommand) (on : Option ℕ) (drawn : ℕ) (t u : CatalogTable) → IsMade t → kept d on drawn t ≡ Some u → IsThat t u
 kept_that d on drawn t u made =

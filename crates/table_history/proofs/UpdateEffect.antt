@@ -45,7 +45,7 @@ use Rattle.table_history.proofs.Named.{absent_named, found_named}
 use Rattle.table_history.proofs.Steps.{Stays, set_stands}
 
 -- where it is there
-there : (o : Option CatalogTable) → (if is_some o then None else Some answer.NoTable) ≡ None → (t : CatalogTable) × (o ≡ Some t)
+pub there : (o : Option CatalogTable) → (if is_some o then None else Some answer.NoTable) ≡ None → (t : CatalogTable) × (o ≡ Some t)
 there None e = absurd (cc)
 there (Some t) e = (t, refl)
 

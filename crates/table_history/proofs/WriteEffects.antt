@@ -15,14 +15,14 @@ use Rattle.table_request.specs.declared.items.PutItem.{PutItem}
 use Rattle.table_request.specs.declared.items.UpdateItem.{UpdateItem}
 use Rattle.table_request.specs.declared.items.DeleteItem.{DeleteItem}
 use Rattle.table_model.specs.declared.reply.Reply.{Reply}
-use Rattle.table_model.specs.declared.reply.Reply.TheVariants.{Written, Refused}
+use Rattle.table_model.specs.declared.reply.Reply.TheVariants.{Refused}
 use Rattle.table_model.specs.declared.refusal.Refusal.TheVariants as refusal
 use Rattle.table_model.specs.declared.refusal.Invalid as why
 use Rattle.table_model.specs.declared.refusal.Invalid.TheVariants as invalid
 use Rattle.table_model.specs.Outcome.{Outcome as TableOutcome, becomes, is_false, is_faulty, is_met, where_met, put_outcome, update_outcome, delete_outcome}
 use Rattle.table_model.specs.Database.{Database, Table, table_named, with_row, in_table, at_key, unless}
 use Rattle.table_model.specs.Effect.{IsEffect}
-use Rattle.table_model.specs.Writes.{shown, key_update, put_fault, shown_if, written, old_at, put_at, update_at, delete_at}
+use Rattle.table_model.specs.Writes.{told_written, key_update, put_fault, shown_if, written, old_at, put_at, update_at, delete_at}
 use Rattle.txn_core.specs.declared.message.Message.{Message}
 use Rattle.txn_core.specs.declared.answer.Answer.{Answer}
 use Rattle.txn_core.specs.declared.outcome.Outcome.TheVariants.{New, Unmet, Fails}
@@ -74,7 +74,7 @@ module _ (c : Catalog) (was : IsKept c) (f g : CellKey → Option Attributes) (t
     rows = changed_at f g new (record { table = t.number; key = row_key key }) is t.number refl table.rows that.ordered that.rows;
   }
 
-  changed_stands : (name : List ℕ) → named c.tables name ≡ Some t → (table : Table) → IsTableOf f t (t.schema.name, table)
+  pub changed_stands : (name : List ℕ) → named c.tables name ≡ Some t → (table : Table) → IsTableOf f t (t.schema.name, table)
       → StandsFor c g (with_row db name table (row_key key) (new (item_key t key)))
   changed_stands name found table that =
       subst (λ ts. AllZip (IsTableOf g) ts (with_row db name table (row_key key) (new (item_key t key))).tables) (all_kept c.tables)
@@ -117,7 +117,7 @@ module _ (n : ℕ) (es : List TableEvent) (legal : IsLegal (service n) es) (e : 
   module _ (t : CatalogTable) (found : numbered before.tables t.number ≡ Some t) (key : Key) (action : ItemAction) (on : action.key ≡ item_key t key) (table : Table)
       (is : table_named db t.schema.name ≡ Some table) (that : IsTableOf item t (t.schema.name, table))
       (w : TableOutcome) (acts : action_outcome t.schema action (old_at table key) ≡ w)
-      (fault : EvalFault → why.Invalid) (show_old : Bool) (show : Option Attributes → Option Attributes → Option Attributes) where
+      (fault : EvalFault → why.Invalid) (show_old : Bool) (tell : Option Attributes → Option Attributes → Reply) where
     old_is : item action.key ≡ old_at table key
     old_is = ap item on ∙ sym (that.rows (row_key key))
 
@@ -134,18 +134,18 @@ module _ (n : ℕ) (es : List TableEvent) (legal : IsLegal (service n) es) (e : 
 
     abbrev Does : TableAnswer → Reply → Type 0
     Does a reply =
-        (new : Database) × ((new, reply) ≡ written db t.schema.name table key (shown_if show_old (old_at table key)) fault (show (old_at table key)) w) × Now action a new
+        (new : Database) × ((new, reply) ≡ written db t.schema.name table key (shown_if show_old (old_at table key)) fault (tell (old_at table key)) w) × Now action a new
 
-    does : (a : TableAnswer) (reply : Reply) → IsSerialWrite (service n) es action a → told_by fault show_old show a ≡ Some reply → Does a reply
+    does : (a : TableAnswer) (reply : Reply) → IsSerialWrite (service n) es action a → told_by fault show_old tell a ≡ Some reply → Does a reply
     does (Answer.Written old new) reply serial told =
         let same = serial.0 ∙ old_is in
         let w_is = new_outcome w new (sym (outcome_is old same) ∙ serial.1) in
-        let reply_is : reply ≡ Written (show old new) None = some_parts reply _ (sym told) in
+        let reply_is : reply ≡ tell old new = some_parts reply _ (sym told) in
         let made : act before action (item action.key) ≡ New new = ap (act before action) (sym serial.0) ∙ serial.1 in
         let put : makes (item_key t key) ≡ new = ap makes (sym on) ∙ ap (λ o. after o (item action.key)) made in (
           with_row db t.schema.name table (row_key key) new,
-          (λ i. (with_row db t.schema.name table (row_key key) new, (reply_is ∙ ap (λ o. Written (show o new) None) same) i))
-              ∙ sym (ap (written db t.schema.name table key (shown_if show_old (old_at table key)) fault (show (old_at table key))) w_is),
+          (λ i. (with_row db t.schema.name table (row_key key) new, (reply_is ∙ ap (λ o. tell o new) same) i))
+              ∙ sym (ap (written db t.schema.name table key (shown_if show_old (old_at table key)) fault (tell (old_at table key))) w_is),
           subst (λ v. Now action (Answer.Written old new) (with_row db t.schema.name table (row_key key) v)) put
               (changed_stands before (catalogs_are_kept n es legal) item (λ q. item_by (service n) (entry (Message.Write action) (Answer.Written old new) ∷ es) q) t key
               makes (λ q. ap (λ k. if same_key k q then makes q else item q) on)
@@ -157,14 +157,14 @@ module _ (n : ℕ) (es : List TableEvent) (legal : IsLegal (service n) es) (e : 
         let reply_is : reply ≡ Refused (refusal.ConditionFailed (shown_if show_old old)) = some_parts reply _ (sym told) in (
           db,
           (λ i. (db, (reply_is ∙ ap (λ o. Refused (refusal.ConditionFailed (shown_if show_old o))) same) i))
-              ∙ sym (ap (written db t.schema.name table key (shown_if show_old (old_at table key)) fault (show (old_at table key))) w_is),
+              ∙ sym (ap (written db t.schema.name table key (shown_if show_old (old_at table key)) fault (tell (old_at table key))) w_is),
           stands,
         )
     does (Answer.Invalid failed) reply serial told =
         let w_is = faulty_outcome w failed (sym (outcome_is (item action.key) old_is) ∙ serial) in
         let reply_is : reply ≡ Refused (refusal.Invalid (fault failed)) = some_parts reply _ (sym told) in (
           db,
-          (λ i. (db, reply_is i)) ∙ sym (ap (written db t.schema.name table key (shown_if show_old (old_at table key)) fault (show (old_at table key))) w_is),
+          (λ i. (db, reply_is i)) ∙ sym (ap (written db t.schema.name table key (shown_if show_old (old_at table key)) fault (tell (old_at table key))) w_is),
           stands,
         )
     does _ reply serial told = absurd (cc)
@@ -194,11 +194,11 @@ module _ (n : ℕ) (es : List TableEvent) (legal : IsLegal (service n) es) (e : 
     put r a reply name its_key serial told =
         let w = where_met (is_met r.condition r.values (old_at table key)) (put_outcome t.schema r.item) in
         let done = does t found key (stated_put (item_key t key) r) refl table there.is there.that w (act_as_the_database.puts t.schema (item_key t key) r (old_at table key))
-        put_fault r.show_old (shown r.return_values None) a reply serial told in (
+        put_fault r.show_old (told_written r.capacity r.table r.return_values None) a reply serial told in (
           done.0,
           done.1
-              ∙ ap (λ x. written db x table key (shown_if r.show_old (old_at table key)) put_fault (shown r.return_values None (old_at table key)) w) name
-              ∙ ap (λ s. written db r.table table key (shown_if r.show_old (old_at table key)) put_fault (shown r.return_values None (old_at table key)) (where_met (is_met r.condition r.values (old_at table key)) (put_outcome s r.item))) (sym same_schema)
+              ∙ ap (λ x. written db x table key (shown_if r.show_old (old_at table key)) put_fault (told_written r.capacity r.table r.return_values None (old_at table key)) w) name
+              ∙ ap (λ s. written db r.table table key (shown_if r.show_old (old_at table key)) put_fault (told_written r.capacity r.table r.return_values None (old_at table key)) (where_met (is_met r.condition r.values (old_at table key)) (put_outcome s r.item))) (sym same_schema)
               ∙ sym (ap (λ x. at_key db x (put_at db r table)) (ap (λ s. key_in s s.keys r.item) same_schema ∙ its_key))
               ∙ sym (ap (λ o. in_table db r.table o (λ z. at_key db (key_in z.schema z.schema.keys r.item) (put_at db r z))) (ap (table_named db) (sym name) ∙ there.is)),
           done.2,
@@ -211,11 +211,11 @@ module _ (n : ℕ) (es : List TableEvent) (legal : IsLegal (service n) es) (e : 
         let old = old_at table key in
         let w = where_met (is_met r.condition r.values old) (update_outcome t.schema r.update r.values r.key old) in
         let done = does t found key (stated_update (item_key t key) r) refl table there.is there.that w (act_as_the_database.updates t.schema (item_key t key) r old)
-        invalid.Evaluation r.show_old (shown r.return_values r.update) a reply serial told in (
+        invalid.Evaluation r.show_old (told_written r.capacity r.table r.return_values r.update) a reply serial told in (
           done.0,
           done.1
-              ∙ ap (λ x. written db x table key (shown_if r.show_old old) invalid.Evaluation (shown r.return_values r.update old) w) name
-              ∙ ap (λ s. written db r.table table key (shown_if r.show_old old) invalid.Evaluation (shown r.return_values r.update old) (where_met (is_met r.condition r.values old) (update_outcome s r.update r.values r.key old))) (sym same_schema)
+              ∙ ap (λ x. written db x table key (shown_if r.show_old old) invalid.Evaluation (told_written r.capacity r.table r.return_values r.update old) w) name
+              ∙ ap (λ s. written db r.table table key (shown_if r.show_old old) invalid.Evaluation (told_written r.capacity r.table r.return_values r.update old) (where_met (is_met r.condition r.values old) (update_outcome s r.update r.values r.key old))) (sym same_schema)
               ∙ sym (ap (λ o. unless db o (update_at db r table key)) (ap (λ s. key_update s.keys r.update) same_schema ∙ free))
               ∙ sym (ap (λ x. at_key db x (λ k. unless db (key_update table.schema.keys r.update) (update_at db r table k))) (ap (λ s. key_alone s s.keys r.key) same_schema ∙ its_key))
               ∙ sym (ap (λ o. in_table db r.table o (λ z. at_key db (key_alone z.schema z.schema.keys r.key) (λ k. unless db (key_update z.schema.keys r.update) (update_at db r z k)))) (ap (table_named db) (sym name) ∙ there.is)),
@@ -229,10 +229,10 @@ module _ (n : ℕ) (es : List TableEvent) (legal : IsLegal (service n) es) (e : 
         let old = old_at table key in
         let w = where_met (is_met r.condition r.values old) delete_outcome in
         let done = does t found key (stated_delete (item_key t key) r) refl table there.is there.that w (act_as_the_database.deletes t.schema (item_key t key) r old)
-        invalid.Evaluation r.show_old (shown r.return_values None) a reply serial told in (
+        invalid.Evaluation r.show_old (told_written r.capacity r.table r.return_values None) a reply serial told in (
           done.0,
           done.1
-              ∙ ap (λ x. written db x table key (shown_if r.show_old old) invalid.Evaluation (shown r.return_values None old) w) name
+              ∙ ap (λ x. written db x table key (shown_if r.show_old old) invalid.Evaluation (told_written r.capacity r.table r.return_values None old) w) name
               ∙ sym (ap (λ x. at_key db x (delete_at db r table)) (ap (λ s. key_alone s s.keys r.key) same_schema ∙ its_key))
               ∙ sym (ap (λ o. in_table db r.table o (λ z. at_key db (key_alone z.schema z.schema.keys r.key) (delete_at db r z))) (ap (table_named db) (sym name) ∙ there.is)),
           done.2,

@@ -5,11 +5,13 @@ use Rattle.table_request.specs.declared.request.Request.TheVariants as request
 use Rattle.table_request.specs.declared.tables.IndexChange.{IndexChange}
 use Rattle.table_request.specs.declared.tables.IndexChange.TheVariants.{Remove}
 use Rattle.table_request.specs.declared.tables.UpdateTable.{UpdateTable}
+use Rattle.table_request.specs.declared.time_to_live.UpdateTimeToLive.{UpdateTimeToLive}
 use Rattle.table_schema.specs.declared.schema.Schema.{Schema}
 use Rattle.table_schema.specs.declared.fault.SchemaFault.TheVariants.{BadIndexName}
 use Rattle.table_model.specs.declared.reply.Reply.{Reply}
-use Rattle.table_model.specs.declared.reply.Reply.TheVariants.{Described, Refused}
+use Rattle.table_model.specs.declared.reply.Reply.TheVariants.{Described, Refused, TimeToLiveSet}
 use Rattle.table_model.specs.declared.refusal.Refusal.TheVariants as refusal
+use Rattle.table_model.specs.declared.refusal.Invalid.TheVariants as invalid
 use Rattle.table_model.specs.Catalog.{made_at, schema_refusal}
 use Rattle.table_model.specs.Database.{Database}
 use Rattle.table_model.specs.Effect.{IsEffect}
@@ -17,7 +19,7 @@ use Rattle.txn_core.specs.declared.message.Message.{Message}
 use Rattle.txn_core.specs.declared.answer.Answer.{Answer}
 use Rattle.txn_core.specs.Legal.{IsLegal}
 use Rattle.cell_model.specs.declared.command.CatalogCommand.{CatalogCommand}
-use Rattle.cell_model.specs.declared.command.CatalogCommand.TheVariants.{Create, Drop, Change}
+use Rattle.cell_model.specs.declared.command.CatalogCommand.TheVariants.{Create, Drop, Change, TimeToLive}
 use Rattle.cell_model.specs.declared.answer.CatalogAnswer.{CatalogAnswer}
 use Rattle.cell_model.specs.declared.answer.CatalogAnswer.TheVariants as answer
 use Rattle.cell_model.specs.Service.{service}
@@ -29,6 +31,7 @@ abbrev pub command_of : Request → Option CatalogCommand
 command_of (request.CreateTable r) = Some (Create r.schema)
 command_of (request.DeleteTable r) = Some (Drop r.table)
 command_of (request.UpdateTable r) = Some (Change r.table r.update)
+command_of (request.UpdateTimeToLive r) = Some (TimeToLive r.table r.name r.enabled)
 command_of _ = None
 
 -- ---- replies by what is told
@@ -58,10 +61,17 @@ update_reply r answer.IndexExists = Some (Refused (schema_refusal BadIndexName))
 update_reply r (answer.BadSchema fault) = Some (Refused (schema_refusal fault))
 update_reply r _ = None
 
+abbrev pub ttl_reply : UpdateTimeToLive → CatalogAnswer → Option Reply
+ttl_reply r (answer.Changed schema) = Some (TimeToLiveSet r.name r.enabled)
+ttl_reply r answer.NoTable = Some (Refused (refusal.NoTable r.table))
+ttl_reply r (answer.TtlRefused fault) = Some (Refused (refusal.Invalid (invalid.TimeToLive fault)))
+ttl_reply r _ = None
+
 abbrev pub reply_to : Request → ℕ → CatalogAnswer → Option Reply
 reply_to (request.CreateTable r) moment told = create_reply r.schema moment told
 reply_to (request.DeleteTable r) moment told = delete_reply r.table told
 reply_to (request.UpdateTable r) moment told = update_reply r told
+reply_to (request.UpdateTimeToLive r) moment told = ttl_reply r told
 reply_to _ moment told = None
 
 -- the reply by a command's answer; of one that a transaction stands in the way of nothing is said

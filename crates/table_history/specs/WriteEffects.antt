@@ -8,12 +8,12 @@ use Rattle.row_keys.specs.Keys.{row_key}
 use Rattle.table_request.specs.declared.request.Request.{Request}
 use Rattle.table_request.specs.declared.request.Request.TheVariants as request
 use Rattle.table_model.specs.declared.reply.Reply.{Reply}
-use Rattle.table_model.specs.declared.reply.Reply.TheVariants.{Written, Refused}
+use Rattle.table_model.specs.declared.reply.Reply.TheVariants.{Refused}
 use Rattle.table_model.specs.declared.refusal.Refusal.TheVariants as refusal
 use Rattle.table_model.specs.declared.refusal.Invalid as why
 use Rattle.table_model.specs.declared.refusal.Invalid.TheVariants as invalid
 use Rattle.table_model.specs.Database.{Database}
-use Rattle.table_model.specs.Writes.{shown, key_update, put_fault, shown_if}
+use Rattle.table_model.specs.Writes.{told_written, key_update, put_fault, shown_if}
 use Rattle.txn_core.specs.declared.message.Message.{Message}
 use Rattle.txn_core.specs.declared.answer.Answer.{Answer}
 use Rattle.txn_core.specs.Legal.{IsLegal}
@@ -43,17 +43,17 @@ StatesWrite (request.DeleteItem r) table key action =
     (table.schema.name ≡ r.table) × (key_alone table.schema table.schema.keys r.key ≡ Ok key) × (action ≡ stated_delete (item_key table key) r)
 StatesWrite _ table key action = ⊥
 
--- the reply by the answer to a write, by the text of faults and what is shown of items; of Held and Stale nothing is said
-abbrev pub told_by : (EvalFault → why.Invalid) → Bool → (Option Attributes → Option Attributes → Option Attributes) → TableAnswer → Option Reply
-told_by fault show_old show (Answer.Written old new) = Some (Written (show old new) None)
-told_by fault show_old show (Answer.CondFalse old) = Some (Refused (refusal.ConditionFailed (shown_if show_old old)))
-told_by fault show_old show (Answer.Invalid found) = Some (Refused (refusal.Invalid (fault found)))
-told_by fault show_old show _ = None
+-- the reply by the answer to a write, by the text of faults and what is told of items; of Held and Stale nothing is said
+abbrev pub told_by : (EvalFault → why.Invalid) → Bool → (Option Attributes → Option Attributes → Reply) → TableAnswer → Option Reply
+told_by fault show_old tell (Answer.Written old new) = Some (tell old new)
+told_by fault show_old tell (Answer.CondFalse old) = Some (Refused (refusal.ConditionFailed (shown_if show_old old)))
+told_by fault show_old tell (Answer.Invalid found) = Some (Refused (refusal.Invalid (fault found)))
+told_by fault show_old tell _ = None
 
 abbrev pub write_reply : Request → TableAnswer → Option Reply
-write_reply (request.PutItem r) a = told_by put_fault r.show_old (shown r.return_values None) a
-write_reply (request.UpdateItem r) a = told_by invalid.Evaluation r.show_old (shown r.return_values r.update) a
-write_reply (request.DeleteItem r) a = told_by invalid.Evaluation r.show_old (shown r.return_values None) a
+write_reply (request.PutItem r) a = told_by put_fault r.show_old (told_written r.capacity r.table r.return_values None) a
+write_reply (request.UpdateItem r) a = told_by invalid.Evaluation r.show_old (told_written r.capacity r.table r.return_values r.update) a
+write_reply (request.DeleteItem r) a = told_by invalid.Evaluation r.show_old (told_written r.capacity r.table r.return_values None) a
 write_reply _ a = None
 
 -- the entry is the write of a request, by a table that is there, and was answered so

@@ -2,6 +2,7 @@
 
 ghost use Rattle.std.specs.Prelude.{ℕ};
 ghost use Rattle.table_history.specs.CommandEffects.{CommandsAreEffects};
+ghost use Rattle.table_history.specs.Expirations.{ExpirationsRemoveRows};
 ghost use Rattle.table_history.specs.KeptHistories.{CatalogsAreKept};
 ghost use Rattle.table_history.specs.SameTable.{LooksHold, NumbersStay};
 ghost use Rattle.table_history.specs.Standing.{OthersLeaveTables, StandAlike, TablesStand};
@@ -38,4 +39,11 @@ pub fn commands_are_effects()
 /// reply: what is left has the tables with the write's entry.
 pub fn writes_are_effects()
     ensures { (partitions : ℕ) → WritesAreEffects partitions }
+{}
+
+/// Each expiration removes of every database that has the tables the row of its key, which was there as it tells and was
+/// expired: what is left has the tables with the expiration's entry. One that removes nothing leaves the tables, as
+/// [`tables_stand`] says of all that puts nothing into the one order.
+pub fn expirations_remove_rows()
+    ensures { (partitions : ℕ) → ExpirationsRemoveRows partitions }
 {}

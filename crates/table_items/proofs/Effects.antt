@@ -42,26 +42,26 @@ refused_is db name number old new why reply has kept =
 -- what is written at a key
 pub written_is :
     (db : Database) (name : List ℕ) (number : ℕ) (old new : TableView) (key : Key) (lost : Option Attributes) (fault : EvalFault → why.Invalid)
-    (show : Option Attributes → Option Attributes) (outcome : Outcome) (reply : Reply)
-    → HasTable db name number old → IsWritten old (row_key key) lost fault show outcome new reply
-    → written db name (table_at number old) key lost fault show outcome ≡ (with_table db name (table_at number new), reply)
-written_is db name number old new key lost fault show (becomes item) reply has made =
+    (told : Option Attributes → Reply) (outcome : Outcome) (reply : Reply)
+    → HasTable db name number old → IsWritten old (row_key key) lost fault told outcome new reply
+    → written db name (table_at number old) key lost fault told outcome ≡ (with_table db name (table_at number new), reply)
+written_is db name number old new key lost fault told (becomes item) reply has made =
     let table = sym made.0 in
-    let told = sym made.1 in
-    λ i. (with_table db name (table_at number (table i)), told i)
-written_is db name number old new key lost fault show is_false reply has kept =
+    let same = sym made.1 in
+    λ i. (with_table db name (table_at number (table i)), same i)
+written_is db name number old new key lost fault told is_false reply has kept =
     refused_is db name number old new (refusal.ConditionFailed lost) reply has kept
-written_is db name number old new key lost fault show (is_faulty why) reply has kept =
+written_is db name number old new key lost fault told (is_faulty why) reply has kept =
     refused_is db name number old new (refusal.Invalid (fault why)) reply has kept
 
 -- no change is prepared after a write
 pub idle_after :
     (old new : TableView) (key : RowKey) (lost : Option Attributes) (fault : EvalFault → why.Invalid)
-    (show : Option Attributes → Option Attributes) (outcome : Outcome) (reply : Reply) → old.pending ≡ []
-    → IsWritten old key lost fault show outcome new reply → new.pending ≡ []
-idle_after old new key lost fault show (becomes item) reply idle made = ap (λ kept. kept.pending) made.0 ∙ idle
-idle_after old new key lost fault show is_false reply idle kept = ap (λ kept. kept.pending) kept.0 ∙ idle
-idle_after old new key lost fault show (is_faulty why) reply idle kept = ap (λ kept. kept.pending) kept.0 ∙ idle
+    (told : Option Attributes → Reply) (outcome : Outcome) (reply : Reply) → old.pending ≡ []
+    → IsWritten old key lost fault told outcome new reply → new.pending ≡ []
+idle_after old new key lost fault told (becomes item) reply idle made = ap (λ kept. kept.pending) made.0 ∙ idle
+idle_after old new key lost fault told is_false reply idle kept = ap (λ kept. kept.pending) kept.0 ∙ idle
+idle_after old new key lost fault told (is_faulty why) reply idle kept = ap (λ kept. kept.pending) kept.0 ∙ idle
 
 -- ---- requests that state a key
 

@@ -1,5 +1,5 @@
 -- Each request: its step in the table is its effect.
-use Rattle.std.proofs.Common.{◌≡◌, ℕ, List, [], ◌∷◌, ◌++◌, Option, None, Some, Result, Ok, Err, ap, sym, ◌∙◌, subst, option_map}
+use Rattle.std.proofs.Common.{◌≡◌, ℕ, List, [], ◌∷◌, ◌++◌, Option, None, Some, Result, Ok, Err, ap, sym, ◌∙◌, subst}
 use Rattle.attr_value.specs.Tree.{Attributes}
 use Rattle.item_keys.specs.declared.fault.KeyFault.{KeyFault}
 use Rattle.item_keys.specs.declared.key.Key.{Key}
@@ -15,7 +15,7 @@ use Rattle.table_request.specs.declared.items.UpdateItem.{UpdateItem}
 use Rattle.table_request.specs.declared.items.DeleteItem.{DeleteItem}
 use Rattle.table_request.specs.declared.items.GetItem.{GetItem}
 use Rattle.table_model.specs.declared.reply.Reply.{Reply}
-use Rattle.table_model.specs.declared.reply.Reply.TheVariants.{Read, Refused}
+use Rattle.table_model.specs.declared.reply.Reply.TheVariants.{Refused}
 use Rattle.table_model.specs.declared.refusal.Refusal.{Refusal}
 use Rattle.table_model.specs.declared.refusal.Refusal.TheVariants as refusal
 use Rattle.table_model.specs.declared.refusal.Invalid.TheVariants as invalid
@@ -23,7 +23,7 @@ use Rattle.table_model.specs.declared.refusal.Invalid as why
 use Rattle.update_eval.specs.declared.fault.EvalFault.{EvalFault}
 use Rattle.table_model.specs.Outcome.{Outcome}
 use Rattle.table_model.specs.Database.{Database, Table, Effect, unless, with_table}
-use Rattle.table_model.specs.Reads.{get_item, view}
+use Rattle.table_model.specs.Reads.{get_item, told_read}
 use Rattle.table_model.specs.Writes.{put_item, put_at, put_fault, update_item, update_at, delete_item, delete_at, key_update, old_at}
 use Rattle.table_items.specs.Effects.{table_at, HasTable, IsDone, IsTold}
 use Rattle.table_items.specs.Outcomes.{row_key_if}
@@ -43,10 +43,10 @@ made_one old held new change idle is made =
 -- what is written goes by the outcome
 pub along_outcome :
     (old new : TableView) (key : RowKey) (lost : Option Attributes) (fault : EvalFault → why.Invalid)
-    (show : Option Attributes → Option Attributes) (reply : Reply) (here wanted : Outcome) → here ≡ wanted
-    → IsWritten old key lost fault show here new reply → IsWritten old key lost fault show wanted new reply
-along_outcome old new key lost fault show reply here wanted same =
-    let P : Outcome → Type 0 = λ outcome. IsWritten old key lost fault show outcome new reply in
+    (told : Option Attributes → Reply) (reply : Reply) (here wanted : Outcome) → here ≡ wanted
+    → IsWritten old key lost fault told here new reply → IsWritten old key lost fault told wanted new reply
+along_outcome old new key lost fault told reply here wanted same =
+    let P : Outcome → Type 0 = λ outcome. IsWritten old key lost fault told outcome new reply in
     subst P same
 
 -- ---- puts
@@ -161,15 +161,15 @@ abbrev get_key : GetItem → Schema → Result Key KeyFault
 get_key r schema = key_alone schema schema.keys r.key
 
 abbrev get_effect : GetItem → Database → Table → Key → Effect
-get_effect r db table key = (db, Read (option_map (view r.projection) (old_at table key)) None)
+get_effect r db table key = (db, told_read r (old_at table key))
 
 pub get_told :
-    (r : GetItem) (kept : TableView) (key : RowKey) (shown : Option Attributes) → Ok key ≡ row_key_if (key_alone kept.schema kept.schema.keys r.key)
-    → shown ≡ option_map (view r.projection) (item_at kept.rows key) → IsTold r.table (λ db. get_item db r) kept (Read shown None)
-get_told r kept key shown is found =
+    (r : GetItem) (kept : TableView) (key : RowKey) (reply : Reply) → Ok key ≡ row_key_if (key_alone kept.schema kept.schema.keys r.key)
+    → reply ≡ told_read r (item_at kept.rows key) → IsTold r.table (λ db. get_item db r) kept reply
+get_told r kept key reply is told =
     λ db number has.
-    keyed_is db r.table number kept key (get_key r) (get_effect r) (db, Read shown None) has is
-    (λ at same. ap (λ item. (db, Read item None)) (ap (λ k. option_map (view r.projection) (item_at kept.rows k)) (sym same) ∙ sym found))
+    keyed_is db r.table number kept key (get_key r) (get_effect r) (db, reply) has is
+    (λ at same. ap (λ answer. (db, answer)) (ap (λ k. told_read r (item_at kept.rows k)) (sym same) ∙ sym told))
 
 pub get_refused :
     (r : GetItem) (kept : TableView) (fault : KeyFault) → Err fault ≡ row_key_if (key_alone kept.schema kept.schema.keys r.key)

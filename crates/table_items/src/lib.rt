@@ -7,6 +7,8 @@
 //! - [`put_item`], [`update_item`] and [`delete_item`] make a write whole or not at all, and each refusal comes in the one
 //!   order: the key's form, an update of a key attribute, the condition, the evaluation, the size, the keys of indexes.
 //!   Where memory is refused the table is as it was.
+//! - Where it is asked what a request uses of the table's capacity, its items are measured and that is told; else nothing is.
+//!   [`bytes_of`], [`read_mode`] and [`halves_written`] are for those who read or write many items.
 //! - [`put_outcome`], [`update_outcome`] and [`delete_outcome`] tell what becomes of one item and change nothing, for
 //!   those who make many changes together. [`touched_key`] is the key attribute that an update would write.
 //!
@@ -18,11 +20,14 @@ mod key;
 mod outcome;
 mod read;
 mod returned;
+mod telling;
 mod touched;
+mod used;
 mod write;
 
 pub use key::{key_of_item, key_of_key};
 pub use outcome::{Outcome, delete_outcome, is_met, is_too_large, put_outcome, update_outcome};
 pub use read::{get_item, view};
 pub use returned::{shown, shown_old, touched_key};
+pub use used::{bytes_of, halves_written, read_mode};
 pub use write::{delete_item, put_item, update_item};

@@ -1,14 +1,16 @@
 //! Writes of one item.
 
-ghost use Rattle.std.specs.Prelude.{◌≡◌, ℕ, List, [], IfOk, OnErr};
+ghost use Rattle.std.specs.Prelude.{◌≡◌, [], IfOk, OnErr};
 ghost use Rattle.std.specs.Option.{option_copied};
+ghost use Rattle.attr_value.specs.Tree.{no_attributes};
 ghost use Rattle.table_model.specs.Writes.{put_item, update_item, delete_item, put_fault, shown_if};
 ghost use Rattle.table_items.specs.Effects.{IsDone};
-ghost use Rattle.table_items.specs.Steps.{IsMade, IsPut, IsUpdate, IsUpdateAt, IsDelete, put_of, update_of};
+ghost use Rattle.table_items.specs.Steps.{IsMade, IsPut, IsUpdate, IsUpdateAt, IsDelete, put_of, update_of, delete_of};
 
 use crate::key::{key_of_item, key_of_key};
 use crate::outcome::{Outcome, delete_outcome, put_outcome, update_outcome};
-use crate::returned::{shown, shown_old, touched_key};
+use crate::returned::{shown_old, touched_key};
+use crate::telling::Telling;
 use attr_value::{Item, SharedItem, Value, kept};
 use base_types::Seq;
 use expr_parse::Update;
@@ -16,28 +18,25 @@ use expr_words::Condition;
 use row_keys::RowKey;
 use std::alloc::{AllocError as NoMemory, Global};
 use table_model::{Invalid, Refusal, Reply};
-use table_request::{DeleteItem, PutItem, ReturnValues, UpdateItem};
+use table_request::{DeleteItem, PutItem, UpdateItem};
 use table_rows::TableRows;
 use update_eval::EvalFault;
 
-/// Makes the item at a key this one, or none, and answers what is shown.
+/// Makes the item at a key this one, or none, and answers what is told of that.
 fn make(
     table: &mut TableRows,
     alloc: Global,
     key: RowKey,
     new: Option<SharedItem>,
-    shown: Option<SharedItem>,
+    told: Reply,
 ) -> Result<Reply, NoMemory>
     requires { table.old.pending ≡ [] }
-    ensures made { IfOk result (IsMade table.old key new shown table.new) }
+    ensures made { IfOk result (IsMade table.old key new told table.new) }
     ensures err { OnErr result (table.new ≡ table.old) }
 {
     table.prepare(alloc, key, new)?;
     table.commit();
-    Ok(Reply::Written {
-        shown,
-        consumed: None,
-    })
+    Ok(told)
 }
 
 /// What is told of a request that does not fit the table.
@@ -73,21 +72,20 @@ fn put_at(
     item: Item,
     condition: Option<&Condition>,
     values: &Seq<Value>,
-    return_values: ReturnValues,
-    show_old: bool,
+    telling: Telling,
 ) -> Result<Reply, NoMemory>
     requires { table.old.pending ≡ [] }
-    ensures done { IfOk result (IsPut (put_of [] item (option_copied condition.entry) values.now return_values show_old) table.old key table.new) }
+    ensures done { IfOk result (IsPut (put_of item (option_copied condition.entry) values.now telling) table.old key table.new) }
     ensures err { OnErr result (table.new ≡ table.old) }
 {
     let old = table.get(&key);
     match put_outcome(table.schema(), condition, values, item, old) {
         Outcome::Becomes(new) => {
             let new = kept(alloc, new)?;
-            let shown = shown(alloc, return_values, None, old, new.as_ref())?;
-            make(table, alloc, key, new, shown)
+            let told = telling.written(alloc, None, old, new.as_ref())?;
+            make(table, alloc, key, new, told)
         }
-        Outcome::False => failed(show_old, old),
+        Outcome::False => failed(telling.show_old, old),
         Outcome::Faulty(fault) => Ok(invalid(put_fault(fault))),
     }
 }
@@ -99,25 +97,15 @@ fn put(
     item: Item,
     condition: Option<&Condition>,
     values: &Seq<Value>,
-    return_values: ReturnValues,
-    show_old: bool,
+    telling: Telling,
 ) -> Result<Reply, NoMemory>
     requires { table.old.pending ≡ [] }
-    ensures done { IfOk result (λ reply. (name : List ℕ) → IsDone name
-        (λ db. put_item db (put_of name item (option_copied condition.entry) values.now return_values show_old)) table.old table.new reply) }
+    ensures done { IfOk result (IsDone telling.table
+        (λ db. put_item db (put_of item (option_copied condition.entry) values.now telling)) table.old table.new) }
     ensures err { OnErr result (table.new ≡ table.old) }
 {
     match key_of_item(alloc, table.schema(), &item)? {
-        Ok(key) => put_at(
-            table,
-            alloc,
-            key,
-            item,
-            condition,
-            values,
-            return_values,
-            show_old,
-        ),
+        Ok(key) => put_at(table, alloc, key, item, condition, values, telling),
         Err(fault) => Ok(invalid(Invalid::Key(fault))),
     }
 }
@@ -138,18 +126,15 @@ pub fn put_item(table: &mut TableRows, alloc: Global, request: PutItem) -> Resul
         values,
         return_values,
         show_old,
-        capacity: _,
+        capacity,
     } = request;
-    let done = put(
-        table,
-        alloc,
-        item,
-        condition.as_ref(),
-        &values,
+    let telling = Telling {
+        table: name,
         return_values,
         show_old,
-    );
-    drop(name);
+        capacity,
+    };
+    let done = put(table, alloc, item, condition.as_ref(), &values, telling);
     drop(condition);
     drop(values);
     done
@@ -164,12 +149,11 @@ fn update_row(
     update: Option<&Update>,
     condition: Option<&Condition>,
     values: &Seq<Value>,
-    return_values: ReturnValues,
-    show_old: bool,
+    telling: Telling,
 ) -> Result<Reply, NoMemory>
     requires { table.old.pending ≡ [] }
     ensures done { IfOk result (IsUpdate
-        (update_of [] key (option_copied update.entry) (option_copied condition.entry) values.now return_values show_old) table.old row table.new) }
+        (update_of key (option_copied update.entry) (option_copied condition.entry) values.now telling) table.old row table.new) }
     ensures err { OnErr result (table.new ≡ table.old) }
 {
     let old = table.get(&row);
@@ -177,10 +161,10 @@ fn update_row(
     match outcome {
         Outcome::Becomes(new) => {
             let new = kept(alloc, new)?;
-            let shown = shown(alloc, return_values, update, old, new.as_ref())?;
-            make(table, alloc, row, new, shown)
+            let told = telling.written(alloc, update, old, new.as_ref())?;
+            make(table, alloc, row, new, told)
         }
-        Outcome::False => failed(show_old, old),
+        Outcome::False => failed(telling.show_old, old),
         Outcome::Faulty(fault) => Ok(invalid(Invalid::Evaluation(fault))),
     }
 }
@@ -194,27 +178,16 @@ fn update_at(
     update: Option<&Update>,
     condition: Option<&Condition>,
     values: &Seq<Value>,
-    return_values: ReturnValues,
-    show_old: bool,
+    telling: Telling,
 ) -> Result<Reply, NoMemory>
     requires { table.old.pending ≡ [] }
     ensures done { IfOk result (IsUpdateAt
-        (update_of [] key (option_copied update.entry) (option_copied condition.entry) values.now return_values show_old) table.old row table.new) }
+        (update_of key (option_copied update.entry) (option_copied condition.entry) values.now telling) table.old row table.new) }
     ensures err { OnErr result (table.new ≡ table.old) }
 {
     match touched_key(&table.schema().keys, update) {
         Some(name) => Ok(invalid(Invalid::UpdateOfKey(name.try_clone()?))),
-        None => update_row(
-            table,
-            alloc,
-            row,
-            key,
-            update,
-            condition,
-            values,
-            return_values,
-            show_old,
-        ),
+        None => update_row(table, alloc, row, key, update, condition, values, telling),
     }
 }
 
@@ -226,27 +199,16 @@ fn update(
     update: Option<&Update>,
     condition: Option<&Condition>,
     values: &Seq<Value>,
-    return_values: ReturnValues,
-    show_old: bool,
+    telling: Telling,
 ) -> Result<Reply, NoMemory>
     requires { table.old.pending ≡ [] }
-    ensures done { IfOk result (λ reply. (name : List ℕ) → IsDone name
-        (λ db. update_item db (update_of name key (option_copied update.entry) (option_copied condition.entry) values.now return_values show_old))
-        table.old table.new reply) }
+    ensures done { IfOk result (IsDone telling.table
+        (λ db. update_item db (update_of key (option_copied update.entry) (option_copied condition.entry) values.now telling))
+        table.old table.new) }
     ensures err { OnErr result (table.new ≡ table.old) }
 {
     match key_of_key(alloc, table.schema(), &key)? {
-        Ok(row) => update_at(
-            table,
-            alloc,
-            row,
-            key,
-            update,
-            condition,
-            values,
-            return_values,
-            show_old,
-        ),
+        Ok(row) => update_at(table, alloc, row, key, update, condition, values, telling),
         Err(fault) => Ok(invalid(Invalid::Key(fault))),
     }
 }
@@ -273,8 +235,14 @@ pub fn update_item(
         values,
         return_values,
         show_old,
-        capacity: _,
+        capacity,
     } = request;
+    let telling = Telling {
+        table: name,
+        return_values,
+        show_old,
+        capacity,
+    };
     let done = update(
         table,
         alloc,
@@ -282,10 +250,8 @@ pub fn update_item(
         actions.as_ref(),
         condition.as_ref(),
         &values,
-        return_values,
-        show_old,
+        telling,
     );
-    drop(name);
     drop(actions);
     drop(condition);
     drop(values);
@@ -296,33 +262,43 @@ pub fn update_item(
 fn delete_at(
     table: &mut TableRows,
     alloc: Global,
-    key: RowKey,
-    request: &DeleteItem,
+    row: RowKey,
+    condition: Option<&Condition>,
+    values: &Seq<Value>,
+    telling: Telling,
 ) -> Result<Reply, NoMemory>
     requires { table.old.pending ≡ [] }
-    ensures done { IfOk result (IsDelete request.now table.old key table.new) }
+    ensures done { IfOk result (IsDelete (delete_of no_attributes (option_copied condition.entry) values.now telling) table.old row table.new) }
     ensures err { OnErr result (table.new ≡ table.old) }
 {
-    let old = table.get(&key);
-    match delete_outcome(request.condition.as_ref(), &request.values, old) {
+    let old = table.get(&row);
+    match delete_outcome(condition, values, old) {
         Outcome::Becomes(new) => {
             let new = kept(alloc, new)?;
-            let shown = shown(alloc, request.return_values, None, old, new.as_ref())?;
-            make(table, alloc, key, new, shown)
+            let told = telling.written(alloc, None, old, new.as_ref())?;
+            make(table, alloc, row, new, told)
         }
-        Outcome::False => failed(request.show_old, old),
+        Outcome::False => failed(telling.show_old, old),
         Outcome::Faulty(fault) => Ok(invalid(Invalid::Evaluation(fault))),
     }
 }
 
 /// Drops the item, where the key is one of the table.
-fn delete(table: &mut TableRows, alloc: Global, request: &DeleteItem) -> Result<Reply, NoMemory>
+fn delete(
+    table: &mut TableRows,
+    alloc: Global,
+    key: &Item,
+    condition: Option<&Condition>,
+    values: &Seq<Value>,
+    telling: Telling,
+) -> Result<Reply, NoMemory>
     requires { table.old.pending ≡ [] }
-    ensures done { IfOk result (IsDone request.now.table (λ db. delete_item db request.now) table.old table.new) }
+    ensures done { IfOk result (IsDone telling.table
+        (λ db. delete_item db (delete_of key.now (option_copied condition.entry) values.now telling)) table.old table.new) }
     ensures err { OnErr result (table.new ≡ table.old) }
 {
-    match key_of_key(alloc, table.schema(), &request.key)? {
-        Ok(key) => delete_at(table, alloc, key, request),
+    match key_of_key(alloc, table.schema(), key)? {
+        Ok(row) => delete_at(table, alloc, row, condition, values, telling),
         Err(fault) => Ok(invalid(Invalid::Key(fault))),
     }
 }
@@ -340,7 +316,24 @@ pub fn delete_item(
     ensures done { IfOk result (IsDone request.table (λ db. delete_item db request) table.old table.new) }
     ensures err { OnErr result (table.new ≡ table.old) }
 {
-    let done = delete(table, alloc, &request);
-    drop(request);
+    let DeleteItem {
+        table: name,
+        key,
+        condition,
+        values,
+        return_values,
+        show_old,
+        capacity,
+    } = request;
+    let telling = Telling {
+        table: name,
+        return_values,
+        show_old,
+        capacity,
+    };
+    let done = delete(table, alloc, &key, condition.as_ref(), &values, telling);
+    drop(key);
+    drop(condition);
+    drop(values);
     done
 }

@@ -40,5 +40,17 @@ worked = record {
   expired = refl;
   forgotten = refl;
   textual = refl;
+  used_by_read = refl;
+  used_for_none = refl;
+  used_by_write = refl;
+  refused_untold = refl;
+  greater_before = refl;
+  greater_after = refl;
+  one_piece = refl;
+  used_by_keys = refl;
+  used_by_writes = refl;
+  added_up = refl;
+  used_by_transaction = refl;
+  used_by_repeat = refl;
   dropped = refl;
 }

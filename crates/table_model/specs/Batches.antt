@@ -1,6 +1,6 @@
 -- Reads and writes of many items, one after the other (API Reference: BatchGetItem, BatchWriteItem).
 use Rattle.std.specs.Prelude.{ℕ, suc, ◌-◌, List, [], ◌∷◌, map, length, take, drop, filter_map, nat_lt, Bool, false, ◌||◌, if◌then◌else◌}
-use Rattle.std.specs.Prelude.{Option, None, Some, Result, Ok, Err}
+use Rattle.std.specs.Prelude.{Option, None, Some, option_map, unwrap_or, Result, Ok, Err}
 use Rattle.std.specs.List.{list_any, flat_map}
 use Rattle.std.specs.BTreeMap.{is_at}
 use Rattle.attr_value.specs.Tree.{Attributes}
@@ -10,6 +10,8 @@ use Rattle.item_keys.specs.declared.fault.KeyFault.{KeyFault}
 use Rattle.item_keys.specs.declared.key.Key.{Key}
 use Rattle.row_keys.specs.declared.row_key.RowKey.{RowKey}
 use Rattle.item_keys.specs.ItemKey.{key_in, key_alone}
+use Rattle.capacity.specs.Units.{read_halves}
+use Rattle.table_request.specs.declared.consumed.Consumed.{Consumed}
 use Rattle.table_request.specs.declared.batches.BatchGet.{BatchGet}
 use Rattle.table_request.specs.declared.batches.BatchWrite.{BatchWrite}
 use Rattle.table_request.specs.declared.batches.TableKeys.{TableKeys}
@@ -26,6 +28,7 @@ use Rattle.row_keys.specs.Rows.{item_at, is_refused}
 use Rattle.table_model.specs.Outcome.{is_too_large}
 use Rattle.table_model.specs.Reads.{view}
 use Rattle.table_model.specs.Database.{Database, Table, Effect, table_named, with_row, unless, first, where_true}
+use Rattle.table_model.specs.Consumed.{where_asked, bytes_of, read_mode, halves_written, used_by_all}
 
 -- ---- tables and keys
 
@@ -100,6 +103,16 @@ abbrev pub unread : ℕ → List TableKeys → List TableKeys
 unread count [] = []
 unread count (t ∷ ts) = unread_in t (drop count t.keys) (unread (count - length t.keys) ts)
 
+-- what the reads of a table use
+abbrev pub used_by_keys : TableKeys → List (Option Attributes) → Consumed
+used_by_keys t items = used_by_all t.table (λ item. read_halves (read_mode (unwrap_or t.consistent false)) (bytes_of item)) items
+
+-- of each table, what is used by those among the first `count` keys of all
+abbrev pub used_by_reads : Database → ℕ → List TableKeys → List Consumed
+used_by_reads db count [] = []
+used_by_reads db count (t ∷ ts) =
+    used_by_keys t (take count (asked_items db t)) ∷ used_by_reads db (count - length t.keys) ts
+
 -- the first refusal: of a table, then of a key, then of a key that stands twice
 abbrev pub batch_get_refusal : Database → List TableKeys → Option Refusal
 batch_get_refusal db ts =
@@ -112,7 +125,8 @@ batch_get_refusal db ts =
 abbrev pub batch_get : Database → BatchGet → Effect
 batch_get db r =
     let count = read_count most_batch_bytes (flat_map (asked_items db) r.tables) in
-    unless db (batch_get_refusal db r.tables) (db, BatchRead (found db count r.tables) (unread count r.tables) None)
+    unless db (batch_get_refusal db r.tables)
+    (db, BatchRead (found db count r.tables) (unread count r.tables) (where_asked r.capacity (used_by_reads db count r.tables)))
 
 -- ---- BatchWriteItem
 
@@ -173,5 +187,23 @@ abbrev pub write_all : Database → List TableWrites → Database
 write_all db [] = db
 write_all db (t ∷ ts) = write_all (write_table db t.table t.writes) ts
 
+-- what a write at a key of a table uses
+abbrev pub halves_at : Table → WriteRequest → Option RowKey → ℕ
+halves_at table write None = 0
+halves_at table write (Some key) = halves_written (item_at table.rows key) (write_image write)
+
+abbrev pub write_halves_in : Table → WriteRequest → ℕ
+write_halves_in table write = halves_at table write (place_if (write_key table write))
+
+-- what the writes of a table use
+abbrev pub used_if : Option Table → TableWrites → Option Consumed
+used_if table t = option_map (λ found. used_by_all t.table (write_halves_in found) t.writes) table
+
+-- of each table, what its writes use, as the items were before
+abbrev pub used_by_writes : Database → List TableWrites → List Consumed
+used_by_writes db ts = filter_map (λ t. used_if (table_named db t.table) t) ts
+
 abbrev pub batch_write : Database → BatchWrite → Effect
-batch_write db r = unless db (batch_write_refusal db r.tables) (write_all db r.tables, BatchWritten [] None)
+batch_write db r =
+    unless db (batch_write_refusal db r.tables)
+    (write_all db r.tables, BatchWritten [] (where_asked r.capacity (used_by_writes db r.tables)))

@@ -1,7 +1,8 @@
--- The definitions in reading order: rows and indexes; the new item of a write; the database; and each operation, with
--- the page of the API Reference that it is from.
+-- The definitions in reading order: rows and indexes; the new item of a write; the database; what is used of capacity;
+-- and each operation, with the page of the API Reference that it is from.
 pub mod Outcome
 pub mod Database
+pub mod Consumed
 pub mod Writes
 pub mod Reads
 pub mod Batches

@@ -1,5 +1,5 @@
 -- Pages of rows (API Reference: Query, Scan; Developer Guide: Querying tables, Scanning tables).
-use Rattle.std.specs.Prelude.{◌≡◌, ℕ, ◌+◌, ◌*◌, ◌^◌, List, [], ◌∷◌, map, filter, take, length, nat_le, nat_lt, Bool, true, false, not, ◌&&◌, ◌||◌}
+use Rattle.std.specs.Prelude.{◌≡◌, ℕ, ◌+◌, ◌*◌, ◌^◌, List, [], ◌∷◌, map, sum_by, filter, take, length, nat_le, nat_lt, Bool, true, false, not, ◌&&◌, ◌||◌}
 use Rattle.std.specs.Prelude.{if◌then◌else◌, bytes_eq, Option, None, Some, option_map, Result, Ok, Err}
 use Rattle.std.specs.List.{list_any}
 use Rattle.std.specs.Ordering.{is_eq}
@@ -31,6 +31,8 @@ use Rattle.table_schema.specs.declared.schema.Schema.{Schema}
 use Rattle.paging.specs.declared.page.Judged.{Judged}
 use Rattle.paging.specs.Page.{IsPage, is_full}
 use Rattle.paging.specs.Rows.{rows_after}
+use Rattle.capacity.specs.Units.{counted, read_halves}
+use Rattle.table_request.specs.declared.consumed.Consumed.{Consumed}
 use Rattle.table_request.specs.declared.pages.Select.{Select}
 use Rattle.table_request.specs.declared.pages.Select.TheVariants as select
 use Rattle.table_request.specs.declared.pages.PageRequest.{PageRequest}
@@ -49,6 +51,7 @@ use Rattle.row_keys.specs.Rows.{Entries, position, table_entries, local_entries,
 use Rattle.table_model.specs.Outcome.{is_met}
 use Rattle.table_model.specs.Reads.{view}
 use Rattle.table_model.specs.Database.{Database, Table, table_named, first, where_true}
+use Rattle.table_model.specs.Consumed.{where_asked, read_mode, used_of}
 
 -- ---- what is read
 
@@ -238,12 +241,24 @@ page_of schema source r entries = record {
   last = page_last schema source r entries;
 }
 
+-- the bytes of the rows of a page, whether they pass the filter or not
+abbrev pub bytes_read : Entries → ℕ
+bytes_read entries = counted (sum_by (λ entry. item_size entry.1) entries)
+
+-- what a page of so many bytes uses
+abbrev pub used_by_page : PageRequest → ℕ → Option Consumed
+used_by_page r bytes = where_asked r.capacity (used_of r.table (read_halves (read_mode r.consistent) bytes))
+
+-- what is answered by the page of these rows
+abbrev pub told_page : Schema → Source → PageRequest → Entries → Reply
+told_page schema source r entries = answer.Page (page_of schema source r entries) (used_by_page r (bytes_read entries))
+
 -- the reply is the page of these rows, which are met in this direction from behind a position on
 pub record IsPageOf (schema : Schema) (source : Source) (r : PageRequest) (forward : Bool) (start : Option Position)
     (entries : Entries) (reply : Reply) : Type 0 where
   pub count : ℕ
   pub is_page : IsPage r.limit (map (λ entry. judged r entry.1) (rows_after position_order forward start entries)) count
-  pub reply_is : reply ≡ answer.Page (page_of schema source r (take count (rows_after position_order forward start entries))) None
+  pub reply_is : reply ≡ told_page schema source r (take count (rows_after position_order forward start entries))
 
 -- ---- Query
 

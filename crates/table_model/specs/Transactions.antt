@@ -13,6 +13,10 @@ use Rattle.item_keys.specs.declared.key.Key.{Key}
 use Rattle.row_keys.specs.declared.row_key.RowKey.{RowKey}
 use Rattle.item_keys.specs.ItemKey.{key_in, key_alone}
 use Rattle.table_schema.specs.declared.schema.Schema.{Schema}
+use Rattle.capacity.specs.declared.halves.Mode.TheVariants.{Transact}
+use Rattle.capacity.specs.Units.{read_halves}
+use Rattle.table_request.specs.declared.consumed.Consumed.{Consumed}
+use Rattle.table_request.specs.Usage.{by_table}
 use Rattle.table_request.specs.declared.transactions.TransactWrite.{TransactWrite}
 use Rattle.table_request.specs.declared.transactions.TransactAction.{TransactAction}
 use Rattle.table_request.specs.declared.transactions.Change.{Change}
@@ -34,6 +38,7 @@ use Rattle.table_model.specs.Reads.{view}
 use Rattle.table_model.specs.Writes.{key_update, shown_if}
 use Rattle.table_model.specs.Batches.{missing, key_refusal, place_if}
 use Rattle.table_model.specs.Database.{Database, Table, Effect, table_named, with_row, refused, unless, first, where_true}
+use Rattle.table_model.specs.Consumed.{where_asked, bytes_of, used_of}
 
 -- ---- the items of a transaction
 
@@ -178,14 +183,14 @@ same_action = ghosts.eq
 abbrev pub transacted : Database → TransactWrite → ℕ → Effect
 transacted db r moment =
     if list_all (λ action. is_accepted (outcome_of db action)) r.actions
-    then (with_token (made_all db r.actions (map (outcome_of db) r.actions)) r.token moment (numbered_all db r.actions), answer.TransactWritten None)
+    then (with_token (made_all db r.actions (map (outcome_of db) r.actions)) r.token moment (numbered_all db r.actions), answer.TransactWritten r.consumed)
     else refused db (Cancelled (map (reason_of db) r.actions))
 
 -- a token that lives changes nothing: the same actions were made before, and others are refused
 abbrev pub repeated : Database → TransactWrite → ℕ → Option (Kept (List NumberedAction)) → Effect
 repeated db r moment None = transacted db r moment
 repeated db r moment (Some kept) =
-    if pointwise same_action kept.actions (numbered_all db r.actions) then (db, answer.TransactWritten None) else refused db Mismatch
+    if pointwise same_action kept.actions (numbered_all db r.actions) then (db, answer.TransactWritten r.consumed) else refused db Mismatch
 
 abbrev pub transact_write : Database → TransactWrite → ℕ → Effect
 transact_write db r moment =
@@ -217,8 +222,17 @@ abbrev pub read_item : Option Table → Option Target → Option Attributes
 read_item (Some table) (Some target) = item_at table.rows target.key
 read_item _ _ = None
 
+abbrev pub item_of_read : Database → TransactRead → Option Attributes
+item_of_read db read = read_item (table_named db read.table) (read_target db read)
+
 abbrev pub read_view : Database → TransactRead → Option Attributes
-read_view db read = option_map (view read.projection) (read_item (table_named db read.table) (read_target db read))
+read_view db read = option_map (view read.projection) (item_of_read db read)
+
+-- what a read uses
+abbrev pub used_by_read : Database → TransactRead → Consumed
+used_by_read db read = used_of read.table (read_halves Transact (bytes_of (item_of_read db read)))
 
 abbrev pub transact_get : Database → TransactGet → Effect
-transact_get db r = unless db (read_refusal db r.reads) (db, answer.TransactRead (map (read_view db) r.reads) None)
+transact_get db r =
+    unless db (read_refusal db r.reads)
+    (db, answer.TransactRead (map (read_view db) r.reads) (where_asked r.capacity (by_table (map (used_by_read db) r.reads))))

@@ -1,5 +1,5 @@
 -- Worked examples: what the definitions say of small requests, one after the other.
-use Rattle.std.specs.Prelude.{◌≡◌, ℕ, pos, Bool, List, [], ◌∷◌, Option, None, Some, codes, true, false}
+use Rattle.std.specs.Prelude.{◌≡◌, ℕ, pos, Bool, List, [], ◌∷◌, replicate, Option, None, Some, codes, true, false}
 use Rattle.attr_value.specs.Tree.{Tree, Attributes, no_attributes, attribute, text, number}
 use Rattle.base_types.specs.declared.path.Step.TheVariants as step
 use Rattle.expr_words.specs.declared.tree.Condition.{Condition}
@@ -9,6 +9,8 @@ use Rattle.item_keys.specs.declared.value.KeyValue.TheVariants.{S}
 use Rattle.row_keys.specs.Keys.{row_key}
 use Rattle.table_schema.specs.declared.definition.KeyKind.TheVariants as kind
 use Rattle.table_schema.specs.declared.schema.Schema.{Schema}
+use Rattle.table_request.specs.declared.consumed.Consumed.{Consumed}
+use Rattle.table_request.specs.Usage.{by_table}
 use Rattle.table_request.specs.declared.items.ReturnValues.TheVariants as show
 use Rattle.table_request.specs.declared.items.PutItem.{PutItem}
 use Rattle.table_request.specs.declared.items.GetItem.{GetItem}
@@ -32,6 +34,7 @@ use Rattle.table_model.specs.declared.refusal.TtlFault.{TtlFault}
 use Rattle.table_model.specs.declared.refusal.TtlFault.TheVariants.{AlreadyEnabled, AlreadyDisabled, OtherAttribute}
 use Rattle.row_keys.specs.Expiry.{of_seconds}
 use Rattle.table_model.specs.Database.{Database, Effect, empty_database, with_row}
+use Rattle.table_model.specs.Consumed.{used_of, halves_written}
 use Rattle.table_model.specs.Writes.{put_item, delete_item}
 use Rattle.table_model.specs.Reads.{get_item}
 use Rattle.table_model.specs.Batches.{batch_write, batch_get}
@@ -127,6 +130,10 @@ put_action id v condition = record {
 
 abbrev pub transact : List TransactAction → Option (List ℕ) → TransactWrite
 transact actions token = record { actions = actions; token = token; consumed = None }
+
+-- what is used of the table
+abbrev pub used : ℕ → Consumed
+used halves = used_of tab halves
 
 -- ---- databases
 
@@ -248,6 +255,36 @@ pub record Worked : Type 0 where
   pub expired : (swept (with_expiry (number_of 150)) 151000000).tables ≡ expiring.tables
   pub forgotten : swept (with_expiry (number_of 150)) 157680151000000 ≡ with_expiry (number_of 150)
   pub textual : swept (with_expiry (text (codes "150"))) 151000000 ≡ with_expiry (text (codes "150"))
+  -- where it is asked, what was used is told: reads of five bytes and of none, and a write
+  pub used_by_read :
+      said (get_item filled (record (get (codes "a")) { capacity = true }))
+      ≡ answer.Read (Some (item (codes "a") (codes "1"))) (Some (used 2))
+  pub used_for_none : said (get_item filled (record (get (codes "c")) { consistent = false; capacity = true })) ≡ answer.Read None (Some (used 1))
+  pub used_by_write :
+      said (put_item filled (record (put (item (codes "a") (codes "9")) None) { capacity = true }))
+      ≡ answer.Written (Some (item (codes "a") (codes "1"))) (Some (used 2))
+  -- a refusal tells nothing
+  pub refused_untold :
+      said (put_item filled (record (put (item (codes "a") (codes "9")) (Some is_absent)) { capacity = true }))
+      ≡ answer.Refused (refusal.ConditionFailed None)
+  -- a write counts by the greater item
+  pub greater_before : halves_written (Some (item (codes "a") (replicate 1021 120))) (Some (item (codes "a") (codes "1"))) ≡ 4
+  pub greater_after : halves_written None (Some (item (codes "a") (replicate 1021 120))) ≡ 4
+  pub one_piece : halves_written (Some (item (codes "a") (replicate 1020 120))) None ≡ 2
+  -- each key and each write counts by itself
+  pub used_by_keys :
+      said (batch_get filled (record read_three { capacity = true }))
+      ≡ answer.BatchRead (record { table = tab; items = item (codes "b") (codes "2") ∷ item (codes "a") (codes "1") ∷ [] } ∷ []) [] (Some (used 3 ∷ []))
+  pub used_by_writes : said (batch_write made (record write_two { capacity = true })) ≡ answer.BatchWritten [] (Some (used 4 ∷ []))
+  -- tables come in the order of their names
+  pub added_up :
+      by_table (used_of (codes "b") 8 ∷ used_of (codes "a") 4 ∷ used_of (codes "b") 4 ∷ [])
+      ≡ used_of (codes "a") 4 ∷ used_of (codes "b") 12 ∷ []
+  -- what a transaction uses is told as it came, also where it was made before
+  pub used_by_transaction :
+      said (transact_write filled (record (transact three_puts None) { consumed = Some (used 12 ∷ []) }) 0) ≡ answer.TransactWritten (Some (used 12 ∷ []))
+  pub used_by_repeat :
+      repeated made (record (one_put (codes "1")) { consumed = Some (used 4 ∷ []) }) 0 kept_put ≡ (made, answer.TransactWritten (Some (used 4 ∷ [])))
   -- a table that is dropped takes its items along
   pub dropped :
       said (get_item (after (create_table (after (delete_table filled (record { table = tab }))) (record { schema = schema_of tab }) 0)) (get (codes "a")))

@@ -10,11 +10,13 @@ use Rattle.item_keys.specs.declared.key.Key.{Key}
 use Rattle.item_keys.specs.ItemKey.{key_in, key_alone}
 use Rattle.item_keys.specs.Row.{only}
 use Rattle.table_schema.specs.declared.keys.KeyNames.{KeyNames}
+use Rattle.table_request.specs.declared.consumed.Consumed.{Consumed}
 use Rattle.table_request.specs.declared.items.ReturnValues.{ReturnValues}
 use Rattle.table_request.specs.declared.items.ReturnValues.TheVariants as show
 use Rattle.table_request.specs.declared.items.PutItem.{PutItem}
 use Rattle.table_request.specs.declared.items.UpdateItem.{UpdateItem}
 use Rattle.table_request.specs.declared.items.DeleteItem.{DeleteItem}
+use Rattle.table_model.specs.declared.reply.Reply.{Reply}
 use Rattle.table_model.specs.declared.reply.Reply.TheVariants.{Written}
 use Rattle.table_model.specs.declared.refusal.Refusal.{Refusal}
 use Rattle.table_model.specs.declared.refusal.Refusal.TheVariants.{Invalid, ConditionFailed}
@@ -24,6 +26,7 @@ use Rattle.row_keys.specs.Keys.{row_key}
 use Rattle.row_keys.specs.Rows.{item_at}
 use Rattle.table_model.specs.Outcome.{Outcome, becomes, is_false, is_faulty, is_met, where_met, put_outcome, update_outcome, delete_outcome}
 use Rattle.table_model.specs.Database.{Database, Table, Effect, table_named, with_row, refused, in_table, at_key, unless}
+use Rattle.table_model.specs.Consumed.{where_asked, halves_written, used_of}
 
 -- ---- what is shown
 
@@ -44,6 +47,14 @@ shown show.AllOld update old new = old
 shown show.AllNew update old new = new
 shown show.UpdatedOld update old new = touched_in update old
 shown show.UpdatedNew update old new = touched_in update new
+
+-- what the write of an item uses
+abbrev pub used_by_write : Bool → List ℕ → Option Attributes → Option Attributes → Option Consumed
+used_by_write asked name old new = where_asked asked (used_of name (halves_written old new))
+
+-- what is told of a write that was made
+abbrev pub told_written : Bool → List ℕ → ReturnValues → Option Update → Option Attributes → Option Attributes → Reply
+told_written asked name show update old new = Written (shown show update old new) (used_by_write asked name old new)
 
 -- ---- a write at a key
 
@@ -69,11 +80,12 @@ put_fault fault = invalid.Evaluation fault
 abbrev pub shown_if : Bool → Option Attributes → Option Attributes
 shown_if asked old = if asked then old else None
 
--- what becomes of a table by the outcome of a write at a key; `lost` is what is shown where the condition is false
-abbrev pub written : Database → List ℕ → Table → Key → Option Attributes → (EvalFault → why.Invalid) → (Option Attributes → Option Attributes) → Outcome → Effect
-written db name table key lost fault show (becomes new) = (with_row db name table (row_key key) new, Written (show new) None)
-written db name table key lost fault show is_false = refused db (ConditionFailed lost)
-written db name table key lost fault show (is_faulty why) = refused db (Invalid (fault why))
+-- what becomes of a table by the outcome of a write at a key; `lost` is what is shown where the condition is false, and
+-- `told` what is told of a write that is made
+abbrev pub written : Database → List ℕ → Table → Key → Option Attributes → (EvalFault → why.Invalid) → (Option Attributes → Reply) → Outcome → Effect
+written db name table key lost fault told (becomes new) = (with_row db name table (row_key key) new, told new)
+written db name table key lost fault told is_false = refused db (ConditionFailed lost)
+written db name table key lost fault told (is_faulty why) = refused db (Invalid (fault why))
 
 -- the item of a table at a key
 abbrev pub old_at : Table → Key → Option Attributes
@@ -82,7 +94,7 @@ old_at table key = item_at table.rows (row_key key)
 abbrev pub put_at : Database → PutItem → Table → Key → Effect
 put_at db r table key =
     let old = old_at table key in
-    written db r.table table key (shown_if r.show_old old) put_fault (shown r.return_values None old)
+    written db r.table table key (shown_if r.show_old old) put_fault (told_written r.capacity r.table r.return_values None old)
     (where_met (is_met r.condition r.values old) (put_outcome table.schema r.item))
 
 abbrev pub put_item : Database → PutItem → Effect
@@ -93,7 +105,7 @@ put_item db r =
 abbrev pub update_at : Database → UpdateItem → Table → Key → Effect
 update_at db r table key =
     let old = old_at table key in
-    written db r.table table key (shown_if r.show_old old) invalid.Evaluation (shown r.return_values r.update old)
+    written db r.table table key (shown_if r.show_old old) invalid.Evaluation (told_written r.capacity r.table r.return_values r.update old)
     (where_met (is_met r.condition r.values old) (update_outcome table.schema r.update r.values r.key old))
 
 abbrev pub update_item : Database → UpdateItem → Effect
@@ -105,7 +117,7 @@ update_item db r =
 abbrev pub delete_at : Database → DeleteItem → Table → Key → Effect
 delete_at db r table key =
     let old = old_at table key in
-    written db r.table table key (shown_if r.show_old old) invalid.Evaluation (shown r.return_values None old)
+    written db r.table table key (shown_if r.show_old old) invalid.Evaluation (told_written r.capacity r.table r.return_values None old)
     (where_met (is_met r.condition r.values old) delete_outcome)
 
 abbrev pub delete_item : Database → DeleteItem → Effect

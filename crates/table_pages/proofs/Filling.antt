@@ -5,9 +5,11 @@ use Rattle.std.proofs.Common.{◌≡◌, ℕ, Bool, true, false, List, [], ◌�
 use Rattle.std.proofs.lemmas.Bool.{cond-true, cond-false}
 use Rattle.std.proofs.lemmas.List.{append-nil, append_assoc, map-append, length-append, length-map}
 use Rattle.std.proofs.lemmas.List.Elements.{filter-append}
-use Rattle.std.proofs.lemmas.List.Sums.{length-filter, count_by-le-length, sum_by-append}
+use Rattle.std.proofs.lemmas.List.Sums.{length-filter, count_by-le-length, sum_by-append, sum_by-cons}
 use Rattle.std.proofs.Math.Seq.{take-append_seam}
 use Rattle.attr_value.specs.Tree.{Attributes}
+use Rattle.attr_value.specs.Sizes.{item_size}
+use Rattle.capacity.specs.Units.{counted}
 use Rattle.item_keys.specs.Row.{only}
 use Rattle.paging.specs.declared.page.Judged.{Judged}
 use Rattle.paging.specs.Page.{page_bytes, bytes_of, is_full, IsPage}
@@ -17,12 +19,12 @@ use Rattle.row_keys.specs.declared.position.Position.{Position}
 use Rattle.row_keys.specs.Rows.{Entries, position}
 use Rattle.table_request.specs.declared.pages.PageRequest.{PageRequest}
 use Rattle.table_schema.specs.declared.schema.Schema.{Schema}
-use Rattle.table_model.specs.declared.reply.Page.{Page}
 use Rattle.table_model.specs.Outcome.{is_met}
-use Rattle.table_model.specs.Pages.{Source, judged, row_view, shown_rows, counts_alone, page_items, last_of, is_start_name, page_last, page_of}
+use Rattle.table_model.specs.Pages.{Source, judged, row_view, shown_rows, counts_alone, page_items, last_of, is_start_name, page_last, bytes_read}
 use Rattle.page_ranges.specs.Least.{least_at}
 use Rattle.table_pages.specs.Sources.{seen}
-use Rattle.table_pages.specs.Filled.{entry_seen, IsFilling, IsFilled}
+use Rattle.table_pages.specs.declared.fill.Filled.{Filled}
+use Rattle.table_pages.specs.Filled.{entry_seen, filled_of, IsFilling, IsFilled}
 
 last_added : (rows : Entries) (e : Position × Attributes) → last_of (rows ++ e ∷ []) ≡ Some e.1
 last_added [] e = refl
@@ -75,7 +77,7 @@ module _ (schema : Schema) (source : Source) (r : PageRequest) where
         ap (λ (shown : List Attributes). Some shown)
         (sym (map-append (λ (entry : Position × Attributes). row_view schema source r entry.1) (shown_rows r rows) ((at, item) ∷ [])))
 
-    module _ (room newer : Room) (page : Page) (is : IsFilling schema source r rows room page) (takes : Takes room newer (judged r item)) where
+    module _ (room newer : Room) (filled : Filled) (is : IsFilling schema source r rows room filled) (takes : Takes room newer (judged r item)) where
       room_more : newer ≡ room_after r.limit (judged_all (rows ++ (at, item) ∷ []))
       room_more = takes r.limit (judged_all rows) is.room_is ∙ ap (room_after r.limit) (sym (judged_more rows (at, item)))
 
@@ -87,42 +89,52 @@ module _ (schema : Schema) (source : Source) (r : PageRequest) where
           ∙ (λ i. if (stops ∙ ap has_stopped room_more ∙ stopped_where_full r.limit (judged_all (rows ++ (at, item) ∷ []))) i
           then option_map (only (is_start_name schema source)) (sym (last_added rows (at, item)) i) else None)
 
-      scanned_more : page.scanned + 1 ≡ length (rows ++ (at, item) ∷ [])
-      scanned_more = ap (λ (p : Page). p.scanned + 1) is.page_is ∙ sym (length-append rows ((at, item) ∷ []))
+      scanned_more : filled.page.scanned + 1 ≡ length (rows ++ (at, item) ∷ [])
+      scanned_more = ap (λ (f : Filled). f.page.scanned + 1) is.page_is ∙ sym (length-append rows ((at, item) ∷ []))
+
+      bytes_more : (bytes : ℕ) → bytes ≡ counted (filled.bytes + counted (item_size item)) → bytes ≡ bytes_read (rows ++ (at, item) ∷ [])
+      bytes_more bytes more =
+          let before : filled.bytes ≡ bytes_read rows = ap (λ (f : Filled). f.bytes) is.page_is in
+          let size : Position × Attributes → ℕ = λ entry. item_size entry.1 in
+          let sum = sum_by-append size rows ((at, item) ∷ []) in
+          let one = sum_by-cons size (at, item) [] in
+          omega (arith, more, before, sum, one)
 
       -- a row that passes the filter
-      pub added_shown : (full : Bool) (last : Option Attributes) (items : Option (List Attributes)) → full ≡ has_stopped newer
+      pub added_shown : (full : Bool) (last : Option Attributes) (items : Option (List Attributes)) (bytes : ℕ) → full ≡ has_stopped newer
           → last ≡ (if full then Some (only (is_start_name schema source) item) else None) → is_met r.filter r.values (Some item) ≡ true
-          → items ≡ option_map (λ shown. shown ++ row_view schema source r item ∷ []) page.items
+          → items ≡ option_map (λ shown. shown ++ row_view schema source r item ∷ []) filled.page.items
+          → bytes ≡ counted (filled.bytes + counted (item_size item))
           → IsFilling schema source r (rows ++ (at, item) ∷ []) newer
-          (record { count = page.count + 1; scanned = page.scanned + 1; items = items; last = last })
-      added_shown full last items stops is_last met is_items =
-          let count : page.count + 1 ≡ length (shown_rows r (rows ++ (at, item) ∷ [])) =
-          ap (λ (p : Page). p.count + 1) is.page_is ∙ sym (length-append (shown_rows r rows) ((at, item) ∷ []))
+          (record { page = record { count = filled.page.count + 1; scanned = filled.page.scanned + 1; items = items; last = last }; bytes = bytes })
+      added_shown full last items bytes stops is_last met is_items more =
+          let count : filled.page.count + 1 ≡ length (shown_rows r (rows ++ (at, item) ∷ [])) =
+          ap (λ (f : Filled). f.page.count + 1) is.page_is ∙ sym (length-append (shown_rows r rows) ((at, item) ∷ []))
           ∙ ap length (sym (passed met)) in
           let shown : items ≡ page_items schema source r (rows ++ (at, item) ∷ []) =
-          is_items ∙ ap (λ (p : Page). option_map (λ (shown : List Attributes). shown ++ row_view schema source r item ∷ []) p.items) is.page_is
+          is_items ∙ ap (λ (f : Filled). option_map (λ (shown : List Attributes). shown ++ row_view schema source r item ∷ []) f.page.items) is.page_is
           ∙ one_shown (counts_alone r.select)
           ∙ ap (λ (rows : Entries). if counts_alone r.select then None else Some (map (λ entry. row_view schema source r entry.1) rows)) (sym (passed met)) in
           let end = last_more full last stops is_last in record {
             room_is = room_more;
-            page_is = λ i. record { count = count i; scanned = scanned_more i; items = shown i; last = end i };
+            page_is = λ i. record { page = record { count = count i; scanned = scanned_more i; items = shown i; last = end i }; bytes = bytes_more bytes more i };
           }
 
       -- a row that does not
-      pub added_counted : (full : Bool) (last : Option Attributes) → full ≡ has_stopped newer
+      pub added_counted : (full : Bool) (last : Option Attributes) (bytes : ℕ) → full ≡ has_stopped newer
           → last ≡ (if full then Some (only (is_start_name schema source) item) else None) → is_met r.filter r.values (Some item) ≡ false
+          → bytes ≡ counted (filled.bytes + counted (item_size item))
           → IsFilling schema source r (rows ++ (at, item) ∷ []) newer
-          (record { count = page.count; scanned = page.scanned + 1; items = page.items; last = last })
-      added_counted full last stops is_last met =
-          let count : page.count ≡ length (shown_rows r (rows ++ (at, item) ∷ [])) =
-          ap (λ (p : Page). p.count) is.page_is ∙ ap length (sym (left_out met)) in
-          let shown : page.items ≡ page_items schema source r (rows ++ (at, item) ∷ []) =
-          ap (λ (p : Page). p.items) is.page_is
+          (record { page = record { count = filled.page.count; scanned = filled.page.scanned + 1; items = filled.page.items; last = last }; bytes = bytes })
+      added_counted full last bytes stops is_last met more =
+          let count : filled.page.count ≡ length (shown_rows r (rows ++ (at, item) ∷ [])) =
+          ap (λ (f : Filled). f.page.count) is.page_is ∙ ap length (sym (left_out met)) in
+          let shown : filled.page.items ≡ page_items schema source r (rows ++ (at, item) ∷ []) =
+          ap (λ (f : Filled). f.page.items) is.page_is
           ∙ ap (λ (rows : Entries). if counts_alone r.select then None else Some (map (λ entry. row_view schema source r entry.1) rows)) (sym (left_out met)) in
           let end = last_more full last stops is_last in record {
             room_is = room_more;
-            page_is = λ i. record { count = count i; scanned = scanned_more i; items = shown i; last = end i };
+            page_is = λ i. record { page = record { count = count i; scanned = scanned_more i; items = shown i; last = end i }; bytes = bytes_more bytes more i };
           }
 
   -- no more rows pass than were looked at
@@ -131,32 +143,32 @@ module _ (schema : Schema) (source : Source) (r : PageRequest) where
       let test : Position × Attributes → Bool = λ entry. is_met r.filter r.values (Some entry.1) in
       omega (arith, length-filter test rows, count_by-le-length test rows)
 
-  module _ (rows : Entries) (room : Room) (page : Page) (is : IsFilling schema source r rows room page) where
-    pub scanned_is : page.scanned ≡ length rows
-    scanned_is = ap (λ (p : Page). p.scanned) is.page_is
+  module _ (rows : Entries) (room : Room) (filled : Filled) (is : IsFilling schema source r rows room filled) where
+    pub scanned_is : filled.page.scanned ≡ length rows
+    scanned_is = ap (λ (f : Filled). f.page.scanned) is.page_is
 
-    pub count_within : page.count ≤ page.scanned
-    count_within = omega (arith, scanned_is, ap (λ (p : Page). p.count) is.page_is, fewer_shown rows)
+    pub count_within : filled.page.count ≤ filled.page.scanned
+    count_within = omega (arith, scanned_is, ap (λ (f : Filled). f.page.count) is.page_is, fewer_shown rows)
 
     not_full : has_stopped room ≡ false → is_full r.limit (judged_all rows) ≡ false
     not_full going = sym (stopped_where_full r.limit (judged_all rows)) ∙ ap has_stopped (sym is.room_is) ∙ going
 
     -- the rows ended before the page
-    pub at_end : (all : Entries) → all ≡ rows → has_stopped room ≡ false → IsFilled schema source r all page
+    pub at_end : (all : Entries) → all ≡ rows → has_stopped room ≡ false → IsFilled schema source r all filled
     at_end all same going =
-        subst (λ (these : Entries). IsFilled schema source r these page) (sym same)
+        subst (λ (these : Entries). IsFilled schema source r these filled) (sym same)
         (record {
           count = length rows;
           is_page = subst (IsPage r.limit (judged_all rows)) (length-map rows (λ (entry : Position × Attributes). judged r entry.1))
               (whole_page r.limit (judged_all rows) (not_full going));
-          page_is = is.page_is ∙ ap (page_of schema source r) (sym (taken rows));
+          page_is = is.page_is ∙ ap (filled_of schema source r) (sym (taken rows));
         })
       where
         taken : (these : Entries) → take (length these) these ≡ these
         taken these = ap (take (length these)) (sym (append-nil these)) ∙ take-append_seam these []
 
     -- the page ended with this row
-    pub at_stop : (e : Position × Attributes) (rest all : Entries) (newer : Room) (new : Page) → has_stopped room ≡ false
+    pub at_stop : (e : Position × Attributes) (rest all : Entries) (newer : Room) (new : Filled) → has_stopped room ≡ false
         → IsFilling schema source r (rows ++ e ∷ []) newer new → has_stopped newer ≡ true → all ≡ (rows ++ e ∷ []) ++ rest
         → IsFilled schema source r all new
     at_stop e rest all newer new going with_row stops same =
@@ -170,7 +182,7 @@ module _ (schema : Schema) (source : Source) (r : PageRequest) where
               (subst (IsPage r.limit ((judged_all rows ++ judged r e.1 ∷ []) ++ judged_all rest))
               (ap length (sym (judged_more rows e)) ∙ length-map (rows ++ e ∷ []) (λ (entry : Position × Attributes). judged r entry.1))
               (page_with r.limit (judged_all rows) (judged r e.1) (judged_all rest) (not_full going) full));
-          page_is = with_row.page_is ∙ ap (page_of schema source r) (sym (take-append_seam (rows ++ e ∷ []) rest));
+          page_is = with_row.page_is ∙ ap (filled_of schema source r) (sym (take-append_seam (rows ++ e ∷ []) rest));
         })
       where
         full : is_full r.limit (judged_all rows ++ judged r e.1 ∷ []) ≡ true
@@ -182,34 +194,34 @@ module _ (schema : Schema) (source : Source) (r : PageRequest) where
 
 module _ {K : Type 0} (schema : Schema) (source : Source) (r : PageRequest) where
   -- the page was told of the rows up to those that are left
-  pub record Along (rows left : List (K × Attributes)) (room : Room) (page : Page) : Type 0 where
+  pub record Along (rows left : List (K × Attributes)) (room : Room) (filled : Filled) : Type 0 where
     pub told : List (K × Attributes)
     pub parts : rows ≡ told ++ left
-    pub filling : (place : K → Position) → IsFilling schema source r (map (entry_seen place schema source) told) room page
+    pub filling : (place : K → Position) → IsFilling schema source r (map (entry_seen place schema source) told) room filled
 
-  module _ {rows left : List (K × Attributes)} {room : Room} {page : Page} (along : Along rows left room page) where
+  module _ {rows left : List (K × Attributes)} {room : Room} {filled : Filled} (along : Along rows left room filled) where
     somewhere : K → Position
     somewhere place = position (least_at 0) (least_at 0)
 
-    pub along_scanned : page.scanned ≡ length along.told
+    pub along_scanned : filled.page.scanned ≡ length along.told
     along_scanned =
-        scanned_is schema source r _ room page (along.filling somewhere) ∙ length-map along.told (entry_seen somewhere schema source)
+        scanned_is schema source r _ room filled (along.filling somewhere) ∙ length-map along.told (entry_seen somewhere schema source)
 
-    pub along_count : page.count ≤ page.scanned
-    along_count = count_within schema source r _ room page (along.filling somewhere)
+    pub along_count : filled.page.count ≤ filled.page.scanned
+    along_count = count_within schema source r _ room filled (along.filling somewhere)
 
     -- one row more may be counted
-    pub along_few : (row : K × Attributes) (rest : List (K × Attributes)) → left ≡ row ∷ rest → length rows < 2 ^ 64 → page.scanned + 1 < 2 ^ 64
+    pub along_few : (row : K × Attributes) (rest : List (K × Attributes)) → left ≡ row ∷ rest → length rows < 2 ^ 64 → filled.page.scanned + 1 < 2 ^ 64
     along_few row rest next few =
         omega (arith, along_scanned, ap length along.parts, length-append along.told left, ap length next)
 
-    pub along_end : left ≡ [] → has_stopped room ≡ false → (place : K → Position) → IsFilled schema source r (map (entry_seen place schema source) rows) page
+    pub along_end : left ≡ [] → has_stopped room ≡ false → (place : K → Position) → IsFilled schema source r (map (entry_seen place schema source) rows) filled
     along_end none going place =
-        at_end schema source r _ room page (along.filling place) _
+        at_end schema source r _ room filled (along.filling place) _
         (ap (map (entry_seen place schema source)) (along.parts ∙ ap (λ rest. along.told ++ rest) none ∙ append-nil along.told)) going
 
-    module _ (row : K × Attributes) (rest : List (K × Attributes)) (next : left ≡ row ∷ rest) (newer : Room) (new : Page)
-        (more : (rows : Entries) (at : Position) → IsFilling schema source r rows room page
+    module _ (row : K × Attributes) (rest : List (K × Attributes)) (next : left ≡ row ∷ rest) (newer : Room) (new : Filled)
+        (more : (rows : Entries) (at : Position) → IsFilling schema source r rows room filled
         → IsFilling schema source r (rows ++ (at, seen schema source row.1) ∷ []) newer new) where
       parts_more : rows ≡ (along.told ++ row ∷ []) ++ rest
       parts_more = along.parts ∙ ap (λ rows. along.told ++ rows) next ∙ sym (append_assoc along.told (row ∷ []) rest)
@@ -229,7 +241,7 @@ module _ {K : Type 0} (schema : Schema) (source : Source) (r : PageRequest) wher
       pub along_stop : has_stopped room ≡ false → has_stopped newer ≡ true → (place : K → Position)
           → IsFilled schema source r (map (entry_seen place schema source) rows) new
       along_stop going stops place =
-          at_stop schema source r (map (entry_seen place schema source) along.told) room page (along.filling place)
+          at_stop schema source r (map (entry_seen place schema source) along.told) room filled (along.filling place)
           (entry_seen place schema source row) (map (entry_seen place schema source) rest) _ newer new going
           (more (map (entry_seen place schema source) along.told) (place row.0) (along.filling place)) stops
           (ap (map (entry_seen place schema source)) parts_more

@@ -40,9 +40,9 @@ use Rattle.table_schema.specs.declared.schema.Schema.{Schema}
 use Rattle.table_request.specs.declared.pages.PageRequest.{PageRequest}
 use Rattle.table_request.specs.declared.pages.Query.{Query}
 use Rattle.table_request.specs.declared.pages.Scan.{Scan}
-use Rattle.table_model.specs.declared.reply.Page.{Page}
+use Rattle.table_pages.specs.declared.fill.Filled.{Filled}
 use Rattle.table_model.specs.Database.{Table}
-use Rattle.table_model.specs.Pages.{Source, whole_table, local_index, global_index, source_keys, source_entries, queried, scanned, is_in_segment, judged, page_of}
+use Rattle.table_model.specs.Pages.{Source, whole_table, local_index, global_index, source_keys, source_entries, queried, scanned, is_in_segment, judged}
 use Rattle.page_ranges.specs.declared.span.Span.{Span}
 use Rattle.page_ranges.specs.declared.positions.PositionSpan.{PositionSpan}
 use Rattle.page_ranges.specs.Span.{low_end, high_end, is_inside, stands_inside}
@@ -50,7 +50,7 @@ use Rattle.page_ranges.specs.AtKeys.{key_if, IsAtKey, AreAtKeys}
 use Rattle.table_pages.specs.declared.source.Source as code
 use Rattle.table_pages.specs.declared.source.Source.TheVariants as read
 use Rattle.table_pages.specs.Sources.{source_in, IsNumber, seen}
-use Rattle.table_pages.specs.Filled.{entry_seen, IsFilled, IsStart, rows_in, positions_in, HasSegment}
+use Rattle.table_pages.specs.Filled.{entry_seen, filled_of, IsFilled, IsStart, rows_in, positions_in, HasSegment}
 use Rattle.table_pages.proofs.Walked.{filter_same, filter_made, after_moved}
 use Rattle.table_pages.proofs.Entries.{all_to, table_of, entries_at_keys}
 
@@ -116,7 +116,7 @@ start_twice (Some at) is = λ i. Some (position (sym is i) at.item)
 
 -- what fills a page from a walk over a table's rows fills it from the rows that it reads
 pub table_filled :
-    (schema found : Schema) (rows range : Rows) (r : PageRequest) (span : Span) (forward : Bool) (start : Option Position) (after : Option RowKey) (page : Page)
+    (schema found : Schema) (rows range : Rows) (r : PageRequest) (span : Span) (forward : Bool) (start : Option Position) (after : Option RowKey) (page : Filled)
     → found ≡ schema → after ≡ option_map (λ at. at.item) start → range ≡ entries_between row_order (low_end span.low) (high_end span.high) rows
     → IsStart whole_table start
     → ((place : RowKey → Position) → IsFilled found whole_table r (map (entry_seen place found whole_table) (rows_after row_order forward after range)) page)
@@ -141,7 +141,7 @@ table_filled schema found rows range r span forward start after page same_schema
 -- the same of an index
 pub index_filled :
     (schema found : Schema) (rows : Rows) (range : Entries) (r : PageRequest) (source : Source) (keys : KeyNames) (ends : PositionSpan) (forward : Bool)
-    (start : Option Position) (page : Page) → found ≡ schema
+    (start : Option Position) (page : Filled) → found ≡ schema
     → range ≡ entries_between position_order (low_end ends.low) (high_end ends.high) (index_of schema keys rows)
     → ((number : ℕ) → AreSeen schema rows number source keys)
     → ((place : Position → Position) → IsFilled found source r (map (entry_seen place found source) (rows_after position_order forward start range)) page)
@@ -163,7 +163,7 @@ positions_are table source ends span forward start same = λ i.
     rows_after position_order forward start (filter (λ entry. same entry.0 i) (source_entries table source))
 
 -- a limit of no row has a page without rows
-pub none_filled : (schema : Schema) (source : Source) (r : PageRequest) (rows : Entries) (page : Page) → r.limit ≡ Some 0 → page ≡ page_of schema source r []
+pub none_filled : (schema : Schema) (source : Source) (r : PageRequest) (rows : Entries) (page : Filled) → r.limit ≡ Some 0 → page ≡ filled_of schema source r []
     → IsFilled schema source r rows page
 none_filled schema source r rows page none is = record {
   count = 0;
@@ -172,7 +172,7 @@ none_filled schema source r rows page none is = record {
     shortest = λ k less. absurd (omega arith);
     ends = inl (λ i. is_full (none i) (take-append_seam [] (map (λ entry. judged r entry.1) rows) i));
   };
-  page_is = is ∙ ap (page_of schema source r) (sym (take-append_seam [] rows));
+  page_is = is ∙ ap (filled_of schema source r) (sym (take-append_seam [] rows));
 }
 
 is_zero : (limit : Option ℕ) → option_eq nat_eq limit (Some 0) ≡ true → limit ≡ Some 0
@@ -180,8 +180,8 @@ is_zero None is = absurd (cc)
 is_zero (Some n) is = ap (λ (m : ℕ). Some m) (eqb-true n 0 is)
 
 -- the same by the test
-pub none_at_zero : (schema : Schema) (source : Source) (r : PageRequest) (rows : Entries) (page : Page) → true ≡ option_eq nat_eq r.limit (Some 0)
-    → page ≡ page_of schema source r [] → IsFilled schema source r rows page
+pub none_at_zero : (schema : Schema) (source : Source) (r : PageRequest) (rows : Entries) (page : Filled) → true ≡ option_eq nat_eq r.limit (Some 0)
+    → page ≡ filled_of schema source r [] → IsFilled schema source r rows page
 none_at_zero schema source r rows page zero is = none_filled schema source r rows page (is_zero r.limit (sym zero)) is
 
 -- ---- the index of a number

@@ -14,15 +14,15 @@ use Rattle.table_request.specs.declared.pages.PageRequest.{PageRequest}
 use Rattle.table_request.specs.declared.pages.Query.{Query}
 use Rattle.table_request.specs.declared.pages.Scan.{Scan}
 use Rattle.table_rows.specs.View.{TableView}
-use Rattle.table_model.specs.declared.reply.Page.{Page}
 use Rattle.table_model.specs.declared.reply.Reply.{Reply}
 use Rattle.table_model.specs.declared.reply.Reply.TheVariants as answer
 use Rattle.table_model.specs.declared.refusal.Refusal.{Refusal}
 use Rattle.table_model.specs.declared.refusal.Refusal.TheVariants.{Invalid}
 use Rattle.table_model.specs.declared.refusal.Invalid.TheVariants as invalid
 use Rattle.table_model.specs.Database.{Database, Table, first}
-use Rattle.table_model.specs.Pages.{Source, source_of, source_keys, source_entries, named_key, unprojected, reading_refusal, projection_refusal, start_of, is_in_partition, is_in_segment, queried, scanned, IsPageOf, IsRefusedOr, IsUnless, IsQueriedIn, IsInRange, IsQueriedFrom, IsScannedFrom, IsFrom, IsInTable, IsQuery, IsScan}
+use Rattle.table_model.specs.Pages.{Source, source_of, source_keys, source_entries, named_key, unprojected, reading_refusal, projection_refusal, start_of, is_in_partition, is_in_segment, queried, scanned, used_by_page, IsPageOf, IsRefusedOr, IsUnless, IsQueriedIn, IsInRange, IsQueriedFrom, IsScannedFrom, IsFrom, IsInTable, IsQuery, IsScan}
 use Rattle.table_items.specs.Effects.{HasTable}
+use Rattle.table_pages.specs.declared.fill.Filled.{Filled}
 use Rattle.table_pages.specs.Asked.{IsQueryOf, IsScanOf}
 use Rattle.table_pages.specs.Filled.{IsFilled}
 
@@ -38,13 +38,13 @@ module _ (reply : Reply) (P : Type 0) where
   unless_some (Some other) why is told = let same : other ≡ why = cc in told ∙ ap answer.Refused (sym same)
 
 -- a page that is filled with these rows is their page
-pub page_is : (schema : Schema) (source : Source) (r : PageRequest) (forward : Bool) (start : Option Position) (entries : Entries) (page : Page)
-    → IsFilled schema source r (rows_after position_order forward start entries) page
-    → IsPageOf schema source r forward start entries (answer.Page page None)
-page_is schema source r forward start entries page filled = record {
-  count = filled.count;
-  is_page = filled.is_page;
-  reply_is = ap (λ (p : Page). answer.Page p None) filled.page_is;
+pub page_is : (schema : Schema) (source : Source) (r : PageRequest) (forward : Bool) (start : Option Position) (entries : Entries) (filled : Filled) (reply : Reply)
+    → IsFilled schema source r (rows_after position_order forward start entries) filled
+    → reply ≡ answer.Page filled.page (used_by_page r filled.bytes) → IsPageOf schema source r forward start entries reply
+page_is schema source r forward start entries filled reply is told = record {
+  count = is.count;
+  is_page = is.is_page;
+  reply_is = told ∙ ap (λ (f : Filled). answer.Page f.page (used_by_page r f.bytes)) is.page_is;
 }
 
 -- ---- a Query

@@ -13,11 +13,11 @@ use Rattle.page_ranges.specs.Span.{is_inside, stands_inside}
 use Rattle.table_request.specs.declared.pages.PageRequest.{PageRequest}
 use Rattle.table_request.specs.declared.pages.Segment.{Segment}
 use Rattle.table_schema.specs.declared.schema.Schema.{Schema}
-use Rattle.table_model.specs.declared.reply.Page.{Page}
 use Rattle.table_model.specs.Database.{Table}
-use Rattle.table_model.specs.Pages.{Source, whole_table, source_entries, judged, page_of, is_in_segment}
+use Rattle.table_model.specs.Pages.{Source, whole_table, source_entries, judged, page_of, bytes_read, is_in_segment}
 use Rattle.std.specs.Option.{option_copied}
 use Rattle.table_items.specs.Effects.{table_at}
+use Rattle.table_pages.specs.declared.fill.Filled.{Filled}
 use Rattle.table_pages.specs.declared.page.Reading.{Reading}
 use Rattle.table_pages.specs.declared.row.Sight.{Sight}
 use Rattle.table_pages.specs.declared.row.Seen.{Seen}
@@ -33,16 +33,20 @@ item_of (Kept item) = item
 abbrev pub entry_seen : {K : Type 0} → (K → Position) → Schema → Source → K × Attributes → Position × Attributes
 entry_seen place schema source row = (place row.0, seen schema source row.1)
 
+-- the page of these rows, and their bytes
+abbrev pub filled_of : Schema → Source → PageRequest → Entries → Filled
+filled_of schema source r rows = record { page = page_of schema source r rows; bytes = bytes_read rows }
+
 -- the page was told of these rows, and has room for so many more
-pub record IsFilling (schema : Schema) (source : Source) (r : PageRequest) (rows : Entries) (room : Room) (page : Page) : Type 0 where
+pub record IsFilling (schema : Schema) (source : Source) (r : PageRequest) (rows : Entries) (room : Room) (filled : Filled) : Type 0 where
   pub room_is : room ≡ room_after r.limit (map (λ entry. judged r entry.1) rows)
-  pub page_is : page ≡ page_of schema source r rows
+  pub page_is : filled ≡ filled_of schema source r rows
 
 -- the page is that of these rows
-pub record IsFilled (schema : Schema) (source : Source) (r : PageRequest) (rows : Entries) (page : Page) : Type 0 where
+pub record IsFilled (schema : Schema) (source : Source) (r : PageRequest) (rows : Entries) (filled : Filled) : Type 0 where
   pub count : ℕ
   pub is_page : IsPage r.limit (map (λ entry. judged r entry.1) rows) count
-  pub page_is : page ≡ page_of schema source r (take count rows)
+  pub page_is : filled ≡ filled_of schema source r (take count rows)
 
 -- the rows at keys in a range, as a page meets them that begins behind a position
 abbrev pub rows_in : Table → Source → Span → Bool → Option Position → Entries
@@ -62,29 +66,29 @@ IsStart source start = ⊤
 -- ---- what inner steps say
 
 -- from what a page was told it goes on to the same with this item
-abbrev pub IsAdded : Sight → Attributes → Room → Page → Room → Page → Type 0
+abbrev pub IsAdded : Sight → Attributes → Room → Filled → Room → Filled → Type 0
 IsAdded sight item old_room old new_room new =
     (rows : Entries) (at : Position) → IsFilling sight.schema.now (source_in sight.source) sight.page.now rows old_room old
     → IsFilling sight.schema.now (source_in sight.source) sight.page.now (rows ++ (at, seen sight.schema.now (source_in sight.source) item) ∷ [])
     new_room new
 
 -- the page is that of the rows of a walk, at whatever positions they stand
-abbrev pub FillsPage : {K : Type 0} → Sight → List (K × Attributes) → Page → Type 0
-FillsPage {K} sight rows page =
+abbrev pub FillsPage : {K : Type 0} → Sight → List (K × Attributes) → Filled → Type 0
+FillsPage {K} sight rows filled =
     (place : K → Position) → IsFilled sight.schema.now (source_in sight.source) sight.page.now
-    (map (entry_seen place sight.schema.now (source_in sight.source)) rows) page
+    (map (entry_seen place sight.schema.now (source_in sight.source)) rows) filled
 
 -- the page is that of the rows that are read at keys in a range, whatever the table's number
-abbrev pub IsPageIn : Reading → Source → Span → Page → Type 0
-IsPageIn reading source span page =
+abbrev pub IsPageIn : Reading → Source → Span → Filled → Type 0
+IsPageIn reading source span filled =
     (number : ℕ) → IsFilled reading.rows.now.schema source reading.request.now
-    (rows_in (table_at number reading.rows.now) source span reading.forward (option_copied reading.start)) page
+    (rows_in (table_at number reading.rows.now) source span reading.forward (option_copied reading.start)) filled
 
 -- the same at positions in a range
-abbrev pub IsPageBetween : Reading → Source → PositionSpan → Page → Type 0
-IsPageBetween reading source ends page =
+abbrev pub IsPageBetween : Reading → Source → PositionSpan → Filled → Type 0
+IsPageBetween reading source ends filled =
     (number : ℕ) → IsFilled reading.rows.now.schema source reading.request.now
-    (positions_in (table_at number reading.rows.now) source ends reading.forward (option_copied reading.start)) page
+    (positions_in (table_at number reading.rows.now) source ends reading.forward (option_copied reading.start)) filled
 
 -- inside are the keys at the places of a segment, or all
 abbrev pub HasSegment : Option Segment → Span → Type 0

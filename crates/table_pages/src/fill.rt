@@ -5,22 +5,57 @@ ghost use Rattle.std.specs.Option.{option_copied, ForSome};
 ghost use Rattle.paging.specs.Room.{has_stopped};
 ghost use Rattle.paging.specs.Rows.{rows_after};
 ghost use Rattle.table_schema.specs.declared.schema.Schema.{Schema as AnySchema};
-ghost use Rattle.table_model.specs.Pages.{page_of};
+ghost use Rattle.table_model.specs.declared.reply.Reply.TheVariants as answer;
+ghost use Rattle.table_model.specs.Pages.{page_of, used_by_page};
 ghost use Rattle.table_model.specs.Pages.{Source as AnySource};
-ghost use Rattle.table_pages.specs.Filled.{IsAdded, FillsPage};
+ghost use Rattle.table_pages.specs.Filled.{filled_of, IsAdded, FillsPage};
 
 use crate::row::Sight;
 use attr_value::SharedItem;
 use base_types::Seq;
+use capacity::read_halves;
 use paging::{PageState, Steps, Walk};
 use std::alloc::{AllocError as NoMemory, Global};
 use std::sync::ledger::Ledger;
-use table_items::is_met;
-use table_model::Page;
-use table_request::{PageRequest, Select};
+use table_items::{is_met, read_mode};
+use table_model::{Page, Reply};
+use table_request::{Consumed, PageRequest, Select};
+
+/// A page, and the bytes of the rows that it looked at.
+#[derive(Drop)]
+pub(crate) struct Filled {
+    pub(crate) page: Page,
+    /// Whether the rows pass the filter or not, or the last `u64` where they have more.
+    pub(crate) bytes: u64,
+}
+
+impl Filled {
+    /// What is told of the page, with what it used where that is told.
+    pub(crate) fn told(self, request: &PageRequest) -> Result<Reply, NoMemory>
+        ensures { IfOk result (λ reply. reply ≡ answer.Page self.page (used_by_page request.now self.bytes)) }
+    {
+        let consumed = used(request, self.bytes)?;
+        Ok(Reply::Page {
+            page: self.page,
+            consumed,
+        })
+    }
+}
+
+/// What a page of so many bytes uses, where that is told.
+fn used(request: &PageRequest, bytes: u64) -> Result<Option<Consumed>, NoMemory>
+    ensures { IfOk result (λ used. used ≡ used_by_page request.now bytes) }
+{
+    if !request.capacity {
+        return Ok(None);
+    }
+    let table = request.table.try_clone()?;
+    let halves = read_halves(bytes, read_mode(request.consistent));
+    Ok(Some(Consumed { table, halves }))
+}
 
 /// A page without rows.
-pub(crate) fn empty_page(alloc: Global, request: &PageRequest) -> Page
+fn empty_page(alloc: Global, request: &PageRequest) -> Page
     ensures { (schema : AnySchema) (source : AnySource) → result ≡ page_of schema source request.now [] }
 {
     let items = if matches!(request.select, Some(Select::Count)) {
@@ -36,31 +71,43 @@ pub(crate) fn empty_page(alloc: Global, request: &PageRequest) -> Page
     }
 }
 
+/// A page without rows, which have no bytes.
+pub(crate) fn nothing_filled(alloc: Global, request: &PageRequest) -> Filled
+    ensures { (schema : AnySchema) (source : AnySource) → result ≡ filled_of schema source request.now [] }
+{
+    Filled {
+        page: empty_page(alloc, request),
+        bytes: 0,
+    }
+}
+
 /// Tells a page of its next row, and answers whether it is full.
 fn add_row(
     alloc: Global,
     sight: &Sight<'_>,
     item: &SharedItem,
     state: &mut PageState,
-    page: &mut Page,
+    filled: &mut Filled,
 ) -> Result<bool, NoMemory>
     requires going { has_stopped state.old ≡ false }
-    requires few { page.old.scanned + 1 < 2 ^ 64 }
-    requires fewer { page.old.count ≤ page.old.scanned }
-    ensures added { IfOk result (λ _. IsAdded sight.now item.now state.old page.old state.new page.new) }
+    requires few { filled.old.page.scanned + 1 < 2 ^ 64 }
+    requires fewer { filled.old.page.count ≤ filled.old.page.scanned }
+    ensures added { IfOk result (λ _. IsAdded sight.now item.now state.old filled.old state.new filled.new) }
     ensures full { IfOk result (λ full. full ≡ has_stopped state.new) }
-    ensures scanned { IfOk result (λ _. page.new.scanned ≡ page.old.scanned + 1) }
+    ensures scanned { IfOk result (λ _. filled.new.page.scanned ≡ filled.old.page.scanned + 1) }
 {
     let row = sight.see(alloc, item)?;
     let filter = sight.page.filter.as_ref();
     let passes = is_met(filter, &sight.page.values, Some(row.item()));
-    let is_full = state.offer(row.item().size(), passes).is_stop();
+    let bytes = row.item().size();
+    let is_full = state.offer(bytes, passes).is_stop();
     let last = sight.last_key(alloc, row.item(), is_full)?;
-    page.last = last;
-    page.scanned += 1;
+    filled.page.last = last;
+    filled.page.scanned += 1;
+    filled.bytes = filled.bytes.saturating_add(bytes);
     if passes {
-        page.count += 1;
-        sight.add_shown(alloc, row, &mut page.items)?;
+        filled.page.count += 1;
+        sight.add_shown(alloc, row, &mut filled.page.items)?;
     }
     Ok(is_full)
 }
@@ -76,20 +123,20 @@ pub(crate) fn fill<W: Walk<Row = SharedItem>, L: Ledger>(
     after: Option<&W::Place>,
     forward: bool,
     steps: &mut Steps<L>,
-) -> Result<Page, NoMemory>
+) -> Result<Filled, NoMemory>
     requires { ForSome sight.now.page.now.limit (λ most. 1 ≤ most) }
     ensures page { IfOk result (FillsPage sight.now
         (rows_after W.Place.cmp forward (option_copied after.entry) (W.listed rows.now))) }
-    ensures cost { IfOk result (λ page. steps.new ≤ steps.old + page.scanned + 1) }
+    ensures cost { IfOk result (λ filled. steps.new ≤ steps.old + filled.page.scanned + 1) }
 {
     let mut state = PageState::start(sight.page.limit);
-    let mut page = empty_page(alloc, sight.page);
+    let mut filled = nothing_filled(alloc, sight.page);
     let mut cursor = after;
     while let Some((place, item)) = rows.next(cursor, forward, steps) {
         cursor = Some(place);
-        if add_row(alloc, sight, item, &mut state, &mut page)? {
-            return Ok(page);
+        if add_row(alloc, sight, item, &mut state, &mut filled)? {
+            return Ok(filled);
         }
     }
-    Ok(page)
+    Ok(filled)
 }

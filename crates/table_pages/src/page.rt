@@ -6,7 +6,7 @@ ghost use Rattle.table_model.specs.Pages.{whole_table};
 ghost use Rattle.table_pages.specs.Sources.{source_in, HasNumber, IsNumber};
 ghost use Rattle.table_pages.specs.Filled.{IsPageIn, IsPageBetween, IsStart};
 
-use crate::fill::{empty_page, fill};
+use crate::fill::{Filled, fill, nothing_filled};
 use crate::row::Sight;
 use crate::source::Source;
 use page_ranges::{PositionSpan, Span, from_low, up_to_high};
@@ -14,7 +14,6 @@ use paging::Steps;
 use row_keys::{Position, RowKey};
 use std::alloc::{AllocError as NoMemory, Global};
 use std::sync::ledger::Ledger;
-use table_model::Page;
 use table_request::PageRequest;
 use table_rows::TableRows;
 
@@ -45,28 +44,28 @@ impl Reading<'_> {
         alloc: Global,
         span: Span,
         steps: &mut Steps<L>,
-    ) -> Result<Page, NoMemory>
+    ) -> Result<Filled, NoMemory>
         requires idle { self.now.rows.now.pending ≡ [] }
         requires number { HasNumber self.now.rows.now.schema self.now.source }
         requires start { IsStart (source_in self.now.source) (option_copied self.now.start) }
         ensures page { IfOk result (IsPageIn self.now (source_in self.now.source) span) }
-        ensures cost { IfOk result (λ page. steps.new ≤ steps.old + page.scanned + 1) }
+        ensures cost { IfOk result (λ filled. steps.new ≤ steps.old + filled.page.scanned + 1) }
     {
         if self.request.limit == Some(0) {
             drop(span);
-            return Ok(empty_page(alloc, self.request));
+            return Ok(nothing_filled(alloc, self.request));
         }
         match self.source {
             Source::Table => {
-                let page = self.table_page(alloc, &span, steps);
+                let filled = self.table_page(alloc, &span, steps);
                 drop(span);
-                page
+                filled
             }
             Source::Local(number, _) | Source::Global(number, _) => {
                 let ends = span.positions(alloc)?;
-                let page = self.index_page(alloc, number, &ends, steps);
+                let filled = self.index_page(alloc, number, &ends, steps);
                 drop(ends);
-                page
+                filled
             }
         }
     }
@@ -77,12 +76,12 @@ impl Reading<'_> {
         alloc: Global,
         span: &Span,
         steps: &mut Steps<L>,
-    ) -> Result<Page, NoMemory>
+    ) -> Result<Filled, NoMemory>
         requires idle { self.now.rows.now.pending ≡ [] }
         requires limit { ForSome self.now.request.now.limit (λ most. 1 ≤ most) }
         requires start { IsStart whole_table (option_copied self.now.start) }
         ensures page { IfOk result (IsPageIn self.now whole_table span.now) }
-        ensures cost { IfOk result (λ page. steps.new ≤ steps.old + page.scanned + 1) }
+        ensures cost { IfOk result (λ filled. steps.new ≤ steps.old + filled.page.scanned + 1) }
     {
         let low = from_low(span.low.as_ref());
         let high = up_to_high(span.high.as_ref());
@@ -103,18 +102,18 @@ impl Reading<'_> {
         number: usize,
         ends: &PositionSpan,
         steps: &mut Steps<L>,
-    ) -> Result<Page, NoMemory>
+    ) -> Result<Filled, NoMemory>
         requires idle { self.now.rows.now.pending ≡ [] }
         requires number { IsNumber self.now.rows.now.schema number self.now.source }
         requires limit { ForSome self.now.request.now.limit (λ most. 1 ≤ most) }
         ensures page { IfOk result (IsPageBetween self.now (source_in self.now.source) ends.now) }
-        ensures cost { IfOk result (λ page. steps.new ≤ steps.old + page.scanned + 1) }
+        ensures cost { IfOk result (λ filled. steps.new ≤ steps.old + filled.page.scanned + 1) }
     {
         let low = from_low(ends.low.as_ref());
         let high = up_to_high(ends.high.as_ref());
         // There is an index of this number.
         let Some(range) = self.rows.index_rows(number, low, high) else {
-            return Ok(empty_page(alloc, self.request));
+            return Ok(nothing_filled(alloc, self.request));
         };
         let sight = Sight {
             schema: self.rows.schema(),

@@ -50,11 +50,8 @@ fn page_of<'a, L: Ledger>(
         start,
         forward: request.forward,
     };
-    let page = reading.page_in(alloc, span, steps)?;
-    Ok(Reply::Page {
-        page,
-        consumed: None,
-    })
+    let filled = reading.page_in(alloc, span, steps)?;
+    filled.told(&request.page)
 }
 
 /// A Query of a source whose key condition has this range.

@@ -56,11 +56,8 @@ fn page_of<'a, L: Ledger>(
         start,
         forward: true,
     };
-    let page = reading.page_in(alloc, span, steps)?;
-    Ok(Reply::Page {
-        page,
-        consumed: None,
-    })
+    let filled = reading.page_in(alloc, span, steps)?;
+    filled.told(&request.page)
 }
 
 /// A Scan of a source.

@@ -1,6 +1,6 @@
 //! Requests on many items at one point, all or nothing.
 
-use crate::capacity::Consumed;
+use crate::consumed::Consumed;
 use attr_value::{Item, Value};
 use base_types::{Seq, Text};
 use expr_parse::Update;

@@ -6,9 +6,9 @@ ghost use Rattle.std.specs.BTreeMap.Range.{entries_between};
 ghost use Rattle.std.specs.List.Sorted.{IsStrictlySortedBy};
 ghost use Rattle.std.specs.Map.{keys_of};
 ghost use Rattle.std.specs.Range.Bound.{bound_map};
-ghost use Rattle.row_keys.specs.Keys.{row_order, position_order};
-ghost use Rattle.row_keys.specs.Rows.{item_at, index_of, index_keys};
-ghost use Rattle.table_rows.specs.View.{is_pending, committed};
+ghost use Rattle.row_keys.specs.Keys.{row_order};
+ghost use Rattle.row_keys.specs.Rows.{item_at, index_keys};
+ghost use Rattle.table_rows.specs.View.{is_pending, committed, index_between};
 ghost use Rattle.table_rows.specs.Quiet.{expired_rows};
 
 use crate::index_range::IndexRange;
@@ -152,8 +152,7 @@ impl TableRows {
         requires { self.now.pending ≡ [] }
         ensures none { IfNone result (slice_get (index_keys self.now.schema) index ≡ None) }
         ensures rows { IfSome result (λ rows. IfSome (slice_get (index_keys self.now.schema) index) (λ keys.
-            rows ≡ entries_between position_order (bound_map (λ end. end.now) low.entry) (bound_map (λ end. end.now) high.entry)
-            (index_of self.now.schema keys self.now.rows))) }
+            rows ≡ index_between self.now keys low.entry high.entry)) }
     {
         self.rows.index_rows(index, low, high)
     }

@@ -1,9 +1,10 @@
+-- Which fault of a schema is told: the first in their order.
 use Rattle.std.specs.Prelude.{ℕ, ◌<◌}
 use Rattle.table_schema.specs.declared.stated.StatedSchema.{StatedSchema}
 use Rattle.table_schema.specs.declared.fault.SchemaFault.{SchemaFault}
 use Rattle.table_schema.specs.declared.fault.SchemaFault.TheVariants.{BadName, BadKeySchema, BadDefinition, DefinitionMismatch, BadIndexName, BadIndexKey, BadProjection, TooManyIndexes}
-use Rattle.table_schema.specs.declared.fault.SchemaEnd.{SchemaEnd}
-use Rattle.table_schema.specs.declared.fault.SchemaEnd.TheVariants.{Fault, NoMemory}
+use Rattle.base_types.specs.declared.end.End.{End}
+use Rattle.base_types.specs.declared.end.End.TheVariants.{Fault, NoMemory}
 use Rattle.table_schema.specs.Rule.{IsFreeOf}
 
 -- the fault's number: faults are answered in this order
@@ -23,6 +24,6 @@ IsFirstFault stated fault =
     (¬ (IsFreeOf fault stated)) × ((lesser : SchemaFault) → number_of lesser < number_of fault → IsFreeOf lesser stated)
 
 -- what is said of the fault, where it is one
-abbrev pub IfFault : SchemaEnd → (SchemaFault → Type 0) → Type 0
+abbrev pub IfFault : End SchemaFault → (SchemaFault → Type 0) → Type 0
 IfFault (Fault fault) P = P fault
 IfFault NoMemory P = Unit {0}

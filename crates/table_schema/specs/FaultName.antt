@@ -1,3 +1,4 @@
+-- The names of faults.
 use Rattle.std.specs.Prelude.{ℕ, List, codes}
 use Rattle.table_schema.specs.declared.fault.SchemaFault.{SchemaFault}
 use Rattle.table_schema.specs.declared.fault.SchemaFault.TheVariants.{BadName, BadKeySchema, BadDefinition, DefinitionMismatch, BadIndexName, BadIndexKey, BadProjection, TooManyIndexes}

@@ -1,3 +1,4 @@
+-- The indexes of a schema, one after another, as the code sees them.
 use Rattle.std.specs.Prelude.{List}
 use Rattle.table_schema.specs.declared.indexes.IndexView.{IndexView}
 use Rattle.table_schema.specs.declared.indexes.Indexes.{Indexes}

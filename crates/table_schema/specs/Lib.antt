@@ -1,3 +1,5 @@
+-- The definitions in reading order: names and kinds; keys and indexes as they are stated; the rules of a schema, and the
+-- fault of one that breaks one; what a schema shows; and the names in its keys.
 pub mod Name
 pub mod NameSet
 pub mod Kind

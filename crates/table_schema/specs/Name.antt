@@ -1,3 +1,4 @@
+-- What tables, indexes and key attributes may be called.
 use Rattle.std.specs.Prelude.{◌≡◌, ℕ, ◌≤◌, ◌⊎◌, List, length, All}
 use Rattle.std.specs.Char.{IsAsciiAlphanumeric}
 

@@ -1,7 +1,7 @@
 ghost use Rattle.std.specs.Prelude.{◌≡◌, Some};
 ghost use Rattle.table_schema.specs.FaultName.{name_of};
 
-use std::alloc::AllocError as NoMemory;
+use base_types::End;
 use std::error::Error;
 use std::fmt;
 
@@ -57,21 +57,4 @@ impl fmt::Display for SchemaFault {
 impl Error for SchemaFault {}
 
 /// Why there is no schema.
-#[derive(Debug, PartialEq, Eq, Drop)]
-pub enum SchemaEnd {
-    /// What is stated breaks this rule.
-    Fault(SchemaFault),
-    /// Memory was refused.
-    NoMemory,
-}
-
-impl From<NoMemory> for SchemaEnd {
-    ghost use Rattle.std.specs.Prelude.{◌≡◌};
-    ghost use Rattle.table_schema.specs.declared.fault.SchemaEnd.{SchemaEnd};
-
-    ghost from_gives = { λ refused end. end ≡ SchemaEnd.NoMemory };
-
-    fn from(_refused: NoMemory) -> SchemaEnd {
-        SchemaEnd::NoMemory
-    }
-}
+pub type SchemaEnd = End<SchemaFault>;

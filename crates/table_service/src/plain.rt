@@ -44,7 +44,7 @@ impl<R> Service<R> for PlainService {
         }
         match read(alloc, message) {
             Ok(request) => serve(alloc, database, request, moment),
-            Err(RequestEnd::Refused(refusal)) => refuse(alloc, &refusal),
+            Err(RequestEnd::Fault(refusal)) => refuse(alloc, &refusal),
             Err(RequestEnd::NoMemory) => memory_error(),
         }
     }

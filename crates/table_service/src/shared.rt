@@ -110,7 +110,7 @@ impl<R: Wait> Service<R> for TableService {
         pass.tick(moment);
         match read_in_turn(&self.large_bodies, rt, alloc, message) {
             Ok(request) => serve(&self.store, rt, alloc, pass, request),
-            Err(RequestEnd::Refused(refusal)) => refuse(alloc, &refusal),
+            Err(RequestEnd::Fault(refusal)) => refuse(alloc, &refusal),
             Err(RequestEnd::NoMemory) => memory_error(),
         }
     }

@@ -8,6 +8,10 @@ use Rattle.item_keys.specs.declared.fault.KeyFault.{KeyFault}
 use Rattle.item_keys.specs.declared.key.Key.{Key}
 use Rattle.item_keys.specs.ItemKey.{key_alone}
 use Rattle.row_keys.specs.declared.row_key.RowKey.{RowKey}
+use Rattle.capacity.specs.declared.halves.Mode.TheVariants.{Transact}
+use Rattle.capacity.specs.Units.{read_halves}
+use Rattle.table_request.specs.Usage.{by_table}
+use Rattle.table_request.specs.declared.consumed.Consumed.{Consumed}
 use Rattle.table_request.specs.declared.transactions.TransactRead.{TransactRead}
 use Rattle.table_model.specs.declared.reply.Reply.{Reply}
 use Rattle.table_model.specs.declared.reply.Reply.TheVariants as answer
@@ -17,13 +21,14 @@ use Rattle.table_model.specs.declared.refusal.Invalid.TheVariants as invalid
 use Rattle.table_model.specs.Database.{Database, Table, Effect, table_named, unless, first, where_true}
 use Rattle.table_model.specs.Batches.{missing, missing_if, key_refusal, place_if}
 use Rattle.table_model.specs.Reads.{view}
-use Rattle.table_model.specs.Transactions.{Target, has_repeat, read_key, read_target, read_target_if, read_item, read_view}
+use Rattle.table_model.specs.Consumed.{where_asked, bytes_of, used_of}
+use Rattle.table_model.specs.Transactions.{Target, has_repeat, read_key, read_target, read_target_if, read_item, read_view, used_by_read}
 use Rattle.table_items.specs.Outcomes.{row_key_if}
 use Rattle.numbered_tables.specs.declared.table.NumberedTable.{NumberedTable}
 use Rattle.numbered_tables.specs.Tables.{Kept, database_in}
 use Rattle.numbered_tables.proofs.Kept.{at, absent, there, known}
 use Rattle.transact_reads.specs.declared.found.FoundRead.{FoundRead}
-use Rattle.transact_reads.specs.Found.{database_of, target_of, shown_of, refusal_at, IsFound, AreFound}
+use Rattle.transact_reads.specs.Found.{database_of, target_of, shown_of, used_by, refusal_at, IsFound, AreFound}
 use Rattle.transact_reads.specs.Reads.{IsAnswered, found_reply}
 use Rattle.transact_reads.proofs.Firsts.{refused_here, either_first}
 
@@ -89,6 +94,7 @@ fit es found is key =
       ap (refusal_in read) table ∙ place.0,
       target,
       (λ i. option_map (view read.projection) (read_item (table i) (target i))),
+      (λ i. used_of read.table (read_halves Transact (bytes_of (read_item (table i) (target i))))),
     )
 
 -- ---- all reads
@@ -98,6 +104,7 @@ pub record IsSoFar (db : Database) (reads rest : List TransactRead) (found : Lis
   pub refusal : first (map (refusal_at db) rest) ≡ first (map (refusal_at db) reads)
   pub targets : map target_of found ++ filter_map (read_target db) rest ≡ filter_map (read_target db) reads
   pub views : map shown_of found ++ map (read_view db) rest ≡ map (read_view db) reads
+  pub used : map used_by found ++ map (used_by_read db) rest ≡ map (used_by_read db) reads
 
 pub one_refused : (db : Database) (reads rest others : List TransactRead) (found : List FoundRead) (read : TransactRead) (refusal : Refusal)
     → IsSoFar db reads rest found → rest ≡ read ∷ others → IsFound db read (Err refusal) → AreFound db reads (Err refusal)
@@ -106,36 +113,43 @@ one_refused db reads rest others found read refusal so_far is one =
 
 -- ---- the reply
 
-module _ (es : Kept) (reads : List TransactRead) where
+module _ (es : Kept) (reads : List TransactRead) (capacity : Bool) where
   abbrev missing_at : TransactRead → Option Refusal
   missing_at read = missing (database_of es) read.table
 
   abbrev unfit_at : TransactRead → Option Refusal
   unfit_at read = option_and_then key_refusal (read_key (database_of es) read)
 
-  -- the effect by what is found of tables, keys and targets, and by what is shown
-  abbrev effect_by : Database → Option Refusal → Option Refusal → List Target → List (Option Attributes) → Effect
-  effect_by db m k ts views =
-      unless db (first (m ∷ k ∷ where_true (has_repeat ts) (Invalid invalid.Twice) ∷ [])) (db, answer.TransactRead views None)
+  -- the effect by what is found of tables, keys and targets, and by what is shown and used
+  abbrev effect_by : Database → Option Refusal → Option Refusal → List Target → List (Option Attributes) → List Consumed → Effect
+  effect_by db m k ts views used =
+      unless db (first (m ∷ k ∷ where_true (has_repeat ts) (Invalid invalid.Twice) ∷ []))
+      (db, answer.TransactRead views (where_asked capacity (by_table used)))
 
   -- a key is unfit
   pub answered_unfit : (refusal : Refusal) → first (map missing_at reads) ≡ None → AreFound (database_of es) reads (Err refusal)
-      → IsAnswered es reads (answer.Refused refusal)
+      → IsAnswered es reads capacity (answer.Refused refusal)
   answered_unfit refusal h are = λ tokens made.
       let db : Database = database_in es tokens made in
       let k : first (map unfit_at reads) ≡ Some refusal = sym (either_first missing_at unfit_at reads h) ∙ are in
-      (λ i. effect_by db (h i) (k i) (filter_map (read_target (database_of es)) reads) (map (read_view (database_of es)) reads))
+      (λ i. effect_by db (h i) (k i) (filter_map (read_target (database_of es)) reads) (map (read_view (database_of es)) reads)
+      (map (used_by_read (database_of es)) reads))
 
   -- all are found
   pub answered_found : (found : List FoundRead) (reply : Reply) → first (map missing_at reads) ≡ None → AreFound (database_of es) reads (Ok found)
-      → reply ≡ found_reply found → IsAnswered es reads reply
+      → reply ≡ found_reply capacity found → IsAnswered es reads capacity reply
   answered_found found reply h are said = λ tokens made.
       let db : Database = database_in es tokens made in
       let k : first (map unfit_at reads) ≡ None = sym (either_first missing_at unfit_at reads h) ∙ are.0 in
-      (λ i. effect_by db (h i) (k i) (are.1 i) (are.2 i)) ∙ go db (has_repeat (map target_of found)) ∙ ap (λ (r : Reply). (db, r)) (sym said)
+      (λ i. effect_by db (h i) (k i) (are.1 i) (are.2 i) (are.3 i)) ∙ go db (has_repeat (map target_of found)) ∙ ap (λ (r : Reply). (db, r)) (sym said)
     where
       go : (db : Database) (b : Bool)
-          → unless db (first (None ∷ None ∷ where_true b (Invalid invalid.Twice) ∷ [])) (db, answer.TransactRead (map shown_of found) None)
-          ≡ (db, cond b (answer.Refused (Invalid invalid.Twice)) (answer.TransactRead (map shown_of found) None))
+          → unless db (first (None ∷ None ∷ where_true b (Invalid invalid.Twice) ∷ []))
+          (db, answer.TransactRead (map shown_of found) (where_asked capacity (by_table (map used_by found))))
+          ≡ (
+            db,
+            cond b (answer.Refused (Invalid invalid.Twice))
+                (answer.TransactRead (map shown_of found) (where_asked capacity (by_table (map used_by found)))),
+          )
       go db true = refl
       go db false = refl

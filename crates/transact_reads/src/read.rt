@@ -3,7 +3,7 @@
 ghost use Rattle.std.specs.Prelude.{◌≡◌, IfOk};
 ghost use Rattle.transact_reads.specs.Reads.{IsTransactGet, IsAnswered, found_reply};
 
-use crate::found::{FoundRead, find_all, missing_table, views};
+use crate::found::{FoundRead, find_all, missing_table, used_if, views};
 use crate::targets::has_repeat;
 use base_types::{Seq, Text};
 use numbered_tables::NumberedTable;
@@ -22,8 +22,8 @@ pub fn transact_get(
 ) -> Result<Reply, NoMemory>
     ensures { IfOk result (IsTransactGet tables.now.entries request) }
 {
-    let reads = request.reads;
-    let reply = answer(tables, alloc, reads.as_slice());
+    let TransactGet { reads, capacity } = request;
+    let reply = answer(tables, alloc, reads.as_slice(), capacity);
     drop(reads);
     reply
 }
@@ -33,21 +33,22 @@ fn answer(
     tables: &BTreeMap<Text, NumberedTable>,
     alloc: Global,
     reads: &[TransactRead],
+    capacity: bool,
 ) -> Result<Reply, NoMemory>
-    ensures { IfOk result (IsAnswered tables.now.entries reads.now) }
+    ensures { IfOk result (IsAnswered tables.now.entries reads.now capacity) }
 {
     if let Some(refusal) = missing_table(tables, reads)? {
         return Ok(Reply::Refused(refusal));
     }
     match find_all(tables, alloc, reads)? {
-        Ok(found) => shown(alloc, &found),
+        Ok(found) => shown(alloc, &found, capacity),
         Err(refusal) => Ok(Reply::Refused(refusal)),
     }
 }
 
 /// The reply to reads whose tables are there and whose keys are fit.
-fn shown(alloc: Global, found: &Seq<FoundRead<'_>>) -> Result<Reply, NoMemory>
-    ensures { IfOk result (λ reply. reply ≡ found_reply found.now) }
+fn shown(alloc: Global, found: &Seq<FoundRead<'_>>, capacity: bool) -> Result<Reply, NoMemory>
+    ensures { IfOk result (λ reply. reply ≡ found_reply capacity found.now) }
 {
     let found = found.as_slice();
     if has_repeat(alloc, found)? {
@@ -55,6 +56,6 @@ fn shown(alloc: Global, found: &Seq<FoundRead<'_>>) -> Result<Reply, NoMemory>
     }
     Ok(Reply::TransactRead {
         shown: views(alloc, found)?,
-        consumed: None,
+        consumed: used_if(capacity, alloc, found)?,
     })
 }

@@ -10,10 +10,10 @@ use Rattle.std.proofs.lemmas.Cmp.{nat_list_cmp_total}
 use Rattle.client_tokens.specs.declared.kept.Kept.{Kept as KeptToken}
 use Rattle.client_tokens.specs.TokenMap.{purged}
 use Rattle.client_tokens.proofs.TokenMaps.{same_tokens, tied}
+use Rattle.table_request.specs.declared.consumed.Consumed.{Consumed}
 use Rattle.table_request.specs.declared.transactions.TransactAction.{TransactAction}
 use Rattle.table_request.specs.declared.transactions.TransactWrite.{TransactWrite}
 use Rattle.table_model.specs.declared.action.NumberedAction.{NumberedAction}
-use Rattle.table_model.specs.declared.reply.Reply.{Reply}
 use Rattle.table_model.specs.declared.reply.Reply.TheVariants as answer
 use Rattle.table_model.specs.declared.refusal.Reason.{Reason}
 use Rattle.table_model.specs.declared.refusal.Refusal.{Refusal}
@@ -27,7 +27,7 @@ use Rattle.transact_writes.specs.declared.aimed.Aimed.{Aimed}
 use Rattle.transact_writes.specs.Judged.{IsInOrder}
 use Rattle.transact_writes.specs.Aimed.{database_of, action_in, IsTarget, AreFit, IsChecked}
 use Rattle.transact_writes.specs.Verdicts.{AreJudged}
-use Rattle.transact_writes.specs.Writes.{Tokens, repeat_reply, IsKept, request_of, IsAnswered, IsTransactWrite}
+use Rattle.transact_writes.specs.Writes.{Tokens, Ending, told, repeat_ending, IsKept, request_of, IsAnswered, IsTransactWrite}
 use Rattle.transact_writes.proofs.Made.{all_made, changed_once}
 use Rattle.transact_writes.proofs.Checks.{targets_are}
 
@@ -61,10 +61,10 @@ are_accepted db actions = list_all (λ action. is_accepted (outcome_of db action
 -- where all actions are accepted
 transacted_made : (db : Database) (r : TransactWrite) (moment : ℕ) → are_accepted db r.actions ≡ true
     → transacted db r moment
-    ≡ (with_token (made_all db r.actions (map (outcome_of db) r.actions)) r.token moment (numbered_all db r.actions), answer.TransactWritten None)
+    ≡ (with_token (made_all db r.actions (map (outcome_of db) r.actions)) r.token moment (numbered_all db r.actions), answer.TransactWritten r.consumed)
 transacted_made db r moment accepted =
     cond-true (are_accepted db r.actions)
-    (with_token (made_all db r.actions (map (outcome_of db) r.actions)) r.token moment (numbered_all db r.actions), answer.TransactWritten None)
+    (with_token (made_all db r.actions (map (outcome_of db) r.actions)) r.token moment (numbered_all db r.actions), answer.TransactWritten r.consumed)
     (refused db (Cancelled (map (reason_of db) r.actions))) accepted
 
 -- and where one is not
@@ -72,7 +72,7 @@ transacted_not : (db : Database) (r : TransactWrite) (moment : ℕ) → are_acce
     → transacted db r moment ≡ refused db (Cancelled (map (reason_of db) r.actions))
 transacted_not db r moment accepted =
     cond-false (are_accepted db r.actions)
-    (with_token (made_all db r.actions (map (outcome_of db) r.actions)) r.token moment (numbered_all db r.actions), answer.TransactWritten None)
+    (with_token (made_all db r.actions (map (outcome_of db) r.actions)) r.token moment (numbered_all db r.actions), answer.TransactWritten r.consumed)
     (refused db (Cancelled (map (reason_of db) r.actions))) accepted
 
 made_database : (old new : Kept) (tokens : Tokens) (made : ℕ) (aimed : List Aimed) (changes : List TableChange) → AreFit (database_of old) aimed
@@ -85,25 +85,25 @@ made_database old new tokens made aimed changes fit judged changed =
     ∙ ap (changed_all db) (sym judged.1) ∙ sym (changed tokens made)
 
 -- what is made by a call, whatever the token
-pub made_with : (old new : Kept) (tokens : Tokens) (made moment : ℕ) (aimed : List Aimed) (token : Option (List ℕ)) (changes : List TableChange)
+pub made_with : (consumed : Option (List Consumed)) (old new : Kept) (tokens : Tokens) (made moment : ℕ) (aimed : List Aimed) (token : Option (List ℕ)) (changes : List TableChange)
     → AreFit (database_of old) aimed → AreJudged (database_of old) (map action_in aimed) (Ok changes) → IsChanged old changes new
-    → transacted (database_in old tokens made) (request_of (map action_in aimed) token) moment
-    ≡ (with_token (database_in new tokens made) token moment (map (λ aimed. aimed.action) aimed), answer.TransactWritten None)
-made_with old new tokens made moment aimed token changes fit judged changed =
+    → transacted (database_in old tokens made) (request_of (map action_in aimed) token consumed) moment
+    ≡ (with_token (database_in new tokens made) token moment (map (λ aimed. aimed.action) aimed), answer.TransactWritten consumed)
+made_with consumed old new tokens made moment aimed token changes fit judged changed =
     let db : Database = database_in old tokens made in
-    transacted_made db (request_of (map action_in aimed) token) moment judged.0
+    transacted_made db (request_of (map action_in aimed) token consumed) moment judged.0
     ∙ (λ i. (
       with_token (made_database old new tokens made aimed changes fit judged changed i) token moment (numbered_are (database_of old) aimed fit.targets i),
-      answer.TransactWritten None,
+      answer.TransactWritten consumed,
     ))
 
-pub not_made : (old : Kept) (tokens : Tokens) (made moment : ℕ) (aimed : List Aimed) (token : Option (List ℕ)) (reasons : List Reason)
+pub not_made : (consumed : Option (List Consumed)) (old : Kept) (tokens : Tokens) (made moment : ℕ) (aimed : List Aimed) (token : Option (List ℕ)) (reasons : List Reason)
     → AreJudged (database_of old) (map action_in aimed) (Err reasons)
-    → transacted (database_in old tokens made) (request_of (map action_in aimed) token) moment
+    → transacted (database_in old tokens made) (request_of (map action_in aimed) token consumed) moment
     ≡ (database_in old tokens made, answer.Refused (Cancelled reasons))
-not_made old tokens made moment aimed token reasons judged =
+not_made consumed old tokens made moment aimed token reasons judged =
     let db : Database = database_in old tokens made in
-    transacted_not db (request_of (map action_in aimed) token) moment judged.0
+    transacted_not db (request_of (map action_in aimed) token consumed) moment judged.0
     ∙ ap (λ (why : List Reason). refused db (Cancelled why)) (sym judged.1)
 
 -- ---- tokens
@@ -124,39 +124,40 @@ put_back tokens token kept none =
 -- a token that is kept
 pub kept_before : (old : Kept) (tokens : Tokens) (aimed : List Aimed) (token : List ℕ) (moment : ℕ) (kept : KeptToken (List NumberedAction))
     → AllByRecursion (IsTarget (database_of old)) aimed → get tokens token ≡ Some kept
-    → IsAnswered old tokens (map action_in aimed) (Some token) moment old tokens (repeat_reply kept (map (λ aimed. aimed.action) aimed))
+    → IsAnswered old tokens (map action_in aimed) (Some token) moment old tokens (repeat_ending kept (map (λ aimed. aimed.action) aimed))
 kept_before old tokens aimed token moment kept targets found =
-    λ made.
+    λ consumed made.
     let db : Database = database_in old tokens made in
-    let r = request_of (map action_in aimed) (Some token) in
+    let r = request_of (map action_in aimed) (Some token) consumed in
     ap (repeated db r moment) found
-    ∙ (λ i. cond (pointwise same_action kept.actions (numbered_are (database_of old) aimed targets i)) (db, answer.TransactWritten None) (refused db Mismatch))
-    ∙ either (pointwise same_action kept.actions (map (λ aimed. aimed.action) aimed)) db
+    ∙ (λ i. cond (pointwise same_action kept.actions (numbered_are (database_of old) aimed targets i)) (db, answer.TransactWritten consumed)
+    (refused db Mismatch))
+    ∙ either (pointwise same_action kept.actions (map (λ aimed. aimed.action) aimed)) consumed db
   where
-    either : (b : Bool) (db : Database)
-        → cond b (db, answer.TransactWritten None) (refused db Mismatch) ≡ (db, cond b (answer.TransactWritten None) (answer.Refused Mismatch))
-    either true db = refl
-    either false db = refl
+    either : (b : Bool) (consumed : Option (List Consumed)) (db : Database)
+        → cond b (db, answer.TransactWritten consumed) (refused db Mismatch) ≡ (db, told consumed (cond b (Ok tt) (Err Mismatch)))
+    either true consumed db = refl
+    either false consumed db = refl
 
 -- a token that is not
-pub kept_now : (old new : Kept) (tokens kept : Tokens) (aimed : List Aimed) (token : List ℕ) (moment : ℕ) (changes : List TableChange) (reply : Reply)
+pub kept_now : (old new : Kept) (tokens kept : Tokens) (aimed : List Aimed) (token : List ℕ) (moment : ℕ) (changes : List TableChange) (ending : Ending)
     → AreFit (database_of old) aimed → AreJudged (database_of old) (map action_in aimed) (Ok changes) → get tokens token ≡ None
-    → IsKept old tokens token (map (λ aimed. aimed.action) aimed) changes moment new kept reply
-    → IsAnswered old tokens (map action_in aimed) (Some token) moment new kept reply
-kept_now old new tokens kept aimed token moment changes reply fit judged none done =
-    λ made.
+    → IsKept old tokens token (map (λ aimed. aimed.action) aimed) changes moment new kept ending
+    → IsAnswered old tokens (map action_in aimed) (Some token) moment new kept ending
+kept_now old new tokens kept aimed token moment changes ending fit judged none done =
+    λ consumed made.
     let db : Database = database_in old tokens made in
-    ap (repeated db (request_of (map action_in aimed) (Some token)) moment) none
-    ∙ made_with old new tokens made moment aimed (Some token) changes fit judged done.0
-    ∙ (λ i. (database_in new (sym done.1 i) made, sym done.2 i))
+    ap (repeated db (request_of (map action_in aimed) (Some token) consumed) moment) none
+    ∙ made_with consumed old new tokens made moment aimed (Some token) changes fit judged done.0
+    ∙ (λ i. (database_in new (sym done.1 i) made, told consumed (sym done.2 i)))
 
 pub not_kept : (old : Kept) (tokens : Tokens) (aimed : List Aimed) (token : List ℕ) (moment : ℕ) (reasons : List Reason)
     → AreJudged (database_of old) (map action_in aimed) (Err reasons) → get tokens token ≡ None
-    → IsAnswered old tokens (map action_in aimed) (Some token) moment old tokens (answer.Refused (Cancelled reasons))
+    → IsAnswered old tokens (map action_in aimed) (Some token) moment old tokens (Err (Cancelled reasons))
 not_kept old tokens aimed token moment reasons judged none =
-    λ made.
-    ap (repeated (database_in old tokens made) (request_of (map action_in aimed) (Some token)) moment) none
-    ∙ not_made old tokens made moment aimed (Some token) reasons judged
+    λ consumed made.
+    ap (repeated (database_in old tokens made) (request_of (map action_in aimed) (Some token) consumed) moment) none
+    ∙ not_made consumed old tokens made moment aimed (Some token) reasons judged
 
 -- ---- the whole
 
@@ -169,17 +170,17 @@ all_refused old tokens request moment why is =
     let living : Database = database_in old (purged tokens moment) made in
     ap (λ o. unless db o (repeated living request moment (kept_of living request.token))) is
 
-pub all_answered : (old new : Kept) (tokens kept : Tokens) (request : TransactWrite) (moment : ℕ) (aimed : List Aimed) (reply : Reply)
+pub all_answered : (old new : Kept) (tokens kept : Tokens) (request : TransactWrite) (moment : ℕ) (aimed : List Aimed) (ending : Ending)
     → IsChecked (database_of old) request.actions (Ok aimed)
-    → IsAnswered old (purged tokens moment) (map action_in aimed) request.token moment new kept reply
-    → IsTransactWrite old tokens request moment new kept reply
-all_answered old new tokens kept request moment aimed reply checked answered =
+    → IsAnswered old (purged tokens moment) (map action_in aimed) request.token moment new kept ending
+    → IsTransactWrite old tokens request moment new kept (told request.consumed ending)
+all_answered old new tokens kept request moment aimed ending checked answered =
     λ made.
     let db : Database = database_in old tokens made in
     let living : Database = database_in old (purged tokens moment) made in
     ap (λ o. unless db o (repeated living request moment (kept_of living request.token))) checked.0
-    ∙ ap (λ actions. repeated living (request_of actions request.token) moment (kept_of living request.token)) (sym checked.1)
-    ∙ answered made
+    ∙ ap (λ actions. repeated living (request_of actions request.token request.consumed) moment (kept_of living request.token)) (sym checked.1)
+    ∙ answered request.consumed made
 
 -- ---- a token that is kept, and given up again
 

@@ -6,7 +6,7 @@ ghost use Rattle.std.specs.Cmp.Lexicographic.{pointwise};
 ghost use Rattle.table_model.specs.Transactions.{same_action};
 ghost use Rattle.numbered_tables.specs.Changes.{has_repeat};
 ghost use Rattle.numbered_tables.specs.Tables.{AreIdle};
-ghost use Rattle.transact_writes.specs.Writes.{repeat_reply, IsKept};
+ghost use Rattle.transact_writes.specs.Writes.{repeat_ending, IsKept};
 
 use crate::aimed::Aimed;
 use base_types::{Seq, Text};
@@ -14,7 +14,7 @@ use client_tokens::{Kept, Tokens};
 use numbered_tables::{NumberedTable, TableChange, change_all};
 use std::alloc::{AllocError as NoMemory, Global};
 use std::collections::BTreeMap;
-use table_model::{NumberedAction, Refusal, Reply};
+use table_model::{NumberedAction, Refusal};
 
 /// Whether these are the actions that were kept, each in every part.
 fn are_same(kept: &[NumberedAction], aimed: &[Aimed]) -> bool
@@ -30,14 +30,14 @@ fn are_same(kept: &[NumberedAction], aimed: &[Aimed]) -> bool
     }
 }
 
-/// The reply to actions whose token is kept: they were made before, or others were.
-pub(crate) fn repeated(kept: &Kept<Seq<NumberedAction>>, aimed: &[Aimed]) -> Reply
-    ensures { result ≡ repeat_reply kept.now (map (λ aimed. aimed.action) aimed.now) }
+/// What becomes of actions whose token is kept: they were made before, or others were.
+pub(crate) fn repeated(kept: &Kept<Seq<NumberedAction>>, aimed: &[Aimed]) -> Result<(), Refusal>
+    ensures { result ≡ repeat_ending kept.now (map (λ aimed. aimed.action) aimed.now) }
 {
     if are_same(kept.actions.as_slice(), aimed) {
-        Reply::TransactWritten { consumed: None }
+        Ok(())
     } else {
-        Reply::Refused(Refusal::Mismatch)
+        Err(Refusal::Mismatch)
     }
 }
 
@@ -50,7 +50,7 @@ pub(crate) fn keep(
     actions: Seq<NumberedAction>,
     changes: Seq<TableChange>,
     moment: u64,
-) -> Result<Reply, NoMemory>
+) -> Result<Result<(), Refusal>, NoMemory>
     requires idle { AreIdle tables.old.entries }
     requires apart { has_repeat changes ≡ false }
     requires absent { get tokens.old token ≡ None }
@@ -67,7 +67,7 @@ pub(crate) fn keep(
     };
     tokens.keep(name, kept)?;
     match change_all(tables, alloc, changes) {
-        Ok(()) => Ok(Reply::TransactWritten { consumed: None }),
+        Ok(()) => Ok(Ok(())),
         Err(refused) => {
             tokens.free(token.as_str());
             Err(refused)

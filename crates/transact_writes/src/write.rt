@@ -3,7 +3,7 @@
 ghost use Rattle.std.specs.Prelude.{◌≡◌, Some, map, IfOk, OnErr};
 ghost use Rattle.numbered_tables.specs.Tables.{AreIdle};
 ghost use Rattle.transact_writes.specs.Aimed.{database_of, action_in, AreFit};
-ghost use Rattle.transact_writes.specs.Writes.{IsTransactWrite, IsMade, IsAnswered, AreSameOrPurged};
+ghost use Rattle.transact_writes.specs.Writes.{IsTransactWrite, IsMade, IsAnswered, AreSameOrPurged, told};
 
 use crate::aim::checked;
 use crate::aimed::Aimed;
@@ -15,14 +15,14 @@ use numbered_tables::{NumberedTable, change_all};
 use std::alloc::{AllocError as NoMemory, Global};
 use std::collections::BTreeMap;
 use table_model::{NumberedAction, Refusal, Reply};
-use table_request::TransactWrite;
+use table_request::{Consumed, TransactWrite};
 
 /// Makes actions without a token, all or none. Where memory is refused nothing changes.
 fn made(
     tables: &mut BTreeMap<Text, NumberedTable>,
     alloc: Global,
     aimed: Seq<Aimed>,
-) -> Result<Reply, NoMemory>
+) -> Result<Result<(), Refusal>, NoMemory>
     requires idle { AreIdle tables.old.entries }
     requires fit { AreFit (database_of tables.old.entries) aimed }
     ensures idle { AreIdle tables.new.entries }
@@ -32,9 +32,9 @@ fn made(
     match judge_all(tables, alloc, aimed)? {
         Ok(changes) => {
             change_all(tables, alloc, changes)?;
-            Ok(Reply::TransactWritten { consumed: None })
+            Ok(Ok(()))
         }
-        Err(reasons) => Ok(Reply::Refused(Refusal::Cancelled(reasons))),
+        Err(reasons) => Ok(Err(Refusal::Cancelled(reasons))),
     }
 }
 
@@ -46,7 +46,7 @@ fn made_once(
     aimed: Seq<Aimed>,
     token: Text,
     moment: u64,
-) -> Result<Reply, NoMemory>
+) -> Result<Result<(), Refusal>, NoMemory>
     requires idle { AreIdle tables.old.entries }
     requires fit { AreFit (database_of tables.old.entries) aimed }
     ensures idle { AreIdle tables.new.entries }
@@ -60,7 +60,7 @@ fn made_once(
     let Copied { judgement, actions } = judge_all_kept(tables, alloc, aimed)?;
     match judgement {
         Ok(changes) => keep(tables, tokens, alloc, token, actions, changes, moment),
-        Err(reasons) => Ok(Reply::Refused(Refusal::Cancelled(reasons))),
+        Err(reasons) => Ok(Err(Refusal::Cancelled(reasons))),
     }
 }
 
@@ -72,7 +72,7 @@ fn answered(
     aimed: Seq<Aimed>,
     token: Option<Text>,
     moment: u64,
-) -> Result<Reply, NoMemory>
+) -> Result<Result<(), Refusal>, NoMemory>
     requires idle { AreIdle tables.old.entries }
     requires fit { AreFit (database_of tables.old.entries) aimed }
     ensures idle { AreIdle tables.new.entries }
@@ -83,6 +83,19 @@ fn answered(
     match token {
         Some(token) => made_once(tables, tokens, alloc, aimed, token, moment),
         None => made(tables, alloc, aimed),
+    }
+}
+
+/// What is told of actions that were made, or made before, or refused.
+fn told(done: Result<(), Refusal>, consumed: Option<Seq<Consumed>>) -> Reply
+    ensures { result ≡ told consumed done }
+{
+    match done {
+        Ok(()) => Reply::TransactWritten { consumed },
+        Err(refusal) => {
+            drop(consumed);
+            Reply::Refused(refusal)
+        }
     }
 }
 
@@ -109,12 +122,13 @@ pub fn transact_write(
     let TransactWrite {
         actions,
         token,
-        consumed: _,
+        consumed,
     } = request;
     match checked(tables, alloc, actions)? {
         Ok(aimed) => {
             tokens.purge(moment);
-            answered(tables, tokens, alloc, aimed, token, moment)
+            let done = answered(tables, tokens, alloc, aimed, token, moment)?;
+            Ok(told(done, consumed))
         }
         Err(refusal) => Ok(Reply::Refused(refusal)),
     }

@@ -50,6 +50,7 @@ module _ {K V A F D Q B : Type 0} (n : ℕ) (stamp : Stamp) (x : A) where
       → (m ≡ Message.Prepare n stamp x) × (a ≡ Answer.Accepted)
   prepared_by moment (Message.Prepare j t b) a h = let p = accepted_only n stamp x j t b a h in (λ i. Message.Prepare (p.0 i) (p.1 i) (p.2 i), p.3)
   prepared_by moment (Message.Write action) a h = absurd (where_other n stamp x _ (Wrote action moment) (λ e. cc) h)
+  prepared_by moment (Message.Expire action) a h = absurd (where_other n stamp x _ (Wrote action moment) (λ e. cc) h)
   prepared_by moment (Message.Apply j key) a h = absurd (where_other n stamp x _ (Applied j key) (λ e. cc) h)
   prepared_by moment (Message.Release j key) a h = absurd (where_other n stamp x _ (Released j key) (λ e. cc) h)
   prepared_by moment (Message.Begin token actions) a h = absurd (begin_other n stamp x actions a h)

@@ -17,8 +17,8 @@ use Rattle.txn_core.specs.Service.{Service, IsServiceLawful}
 use Rattle.txn_core.specs.Effects.{Effect, Wrote, Prepared, Applied, Released, Finished, Forgot, Changed}
 use Rattle.txn_core.specs.State.{Pending, State, holder, last, action_on, touches, here}
 use Rattle.txn_core.specs.Runs.{May, IsReady, MayFinish, MayChange}
-use Rattle.txn_core.specs.Answers.{KeptToken, write_answer, outcome_answer, prepare_answer, is_holder, apply_answer, release_answer, begin_answer, decide_answer, done_answer, forget_answer}
-use Rattle.txn_core.specs.History.{is_written, is_accepted, is_applied, is_released, is_finished, is_forgotten, is_changed, where_so, begin_effect, decide_effect}
+use Rattle.txn_core.specs.Answers.{KeptToken, write_answer, expire_answer, outcome_answer, prepare_answer, is_holder, apply_answer, release_answer, begin_answer, decide_answer, done_answer, forget_answer}
+use Rattle.txn_core.specs.History.{is_written, is_expired, is_accepted, is_applied, is_released, is_finished, is_forgotten, is_changed, where_so, begin_effect, decide_effect}
 use Rattle.txn_core.specs.Legal.{IsClear, ruling_answer, IsRuled}
 use Rattle.txn_core.proofs.Basics.{none_some, some_is, held}
 use Rattle.txn_core.proofs.Invariant.{Good}
@@ -51,6 +51,16 @@ module _ {K V A F C D Q B : Type 0} (S : Service K V A F C D Q B) (law : IsServi
         record { there = is_there; unheld = unheld (w.spot (S.core.key_of a)).pend is_held; fits = subst (λ x. IsNew x) (sym is_out) tt }
     may_write a moment true None Unmet is_there is_held is_out = tt
     may_write a moment true None (Fails fault) is_there is_held is_out = tt
+
+    pub may_expire : (a : A) (moment : ℕ) (b : Bool) (h : Option ℕ) (over : Option V) (o : Outcome V F) → S.core.there w.catalog (S.core.key_of a) ≡ b → holder (w.spot (S.core.key_of a)).pend ≡ h → S.core.act w.catalog a (w.spot (S.core.key_of a)).row ≡ o → May S.core w (where_so (is_expired {K = K} {V = V} {A = A} {F = F} {B = B} (expire_answer b h over o)) (Wrote a moment))
+    may_expire a moment false h over o is_there is_held is_out = tt
+    may_expire a moment true (Some n) over o is_there is_held is_out = tt
+    may_expire a moment true None None o is_there is_held is_out = tt
+    may_expire a moment true None (Some old) (New None) is_there is_held is_out =
+        record { there = is_there; unheld = unheld (w.spot (S.core.key_of a)).pend is_held; fits = subst (λ x. IsNew x) (sym is_out) tt }
+    may_expire a moment true None (Some old) (New (Some v)) is_there is_held is_out = tt
+    may_expire a moment true None (Some old) Unmet is_there is_held is_out = tt
+    may_expire a moment true None (Some old) (Fails fault) is_there is_held is_out = tt
 
     pub may_prepare : (n : ℕ) (stamp : Stamp) (a : A) → n < w.ledger.next → stamp ≡ w.ledger.stamp n → action_on S.core w.ledger n (S.core.key_of a) ≡ Some a → (b : Bool) (h : Option ℕ) (o : Outcome V F) → S.core.there w.catalog (S.core.key_of a) ≡ b → holder (w.spot (S.core.key_of a)).pend ≡ h → S.core.act w.catalog a (w.spot (S.core.key_of a)).row ≡ o → May S.core w (where_so (is_accepted {K = K} {V = V} {A = A} {F = F} {B = B} (prepare_answer b h n (last (here S.core w (S.core.key_of a)) (w.spot (S.core.key_of a))) stamp (w.spot (S.core.key_of a)).row o)) (Prepared n stamp a))
     may_prepare n stamp a begun its_stamp its_action false h o is_there is_held is_out = tt

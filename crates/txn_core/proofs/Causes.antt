@@ -16,13 +16,13 @@ use Rattle.txn_core.specs.declared.ruling.Ruling.TheVariants.{Carries, Refuses}
 use Rattle.txn_core.specs.Service.{Service, IsServiceLawful}
 use Rattle.txn_core.specs.State.{holder, last, here, state_after}
 use Rattle.txn_core.specs.Serial.{serial, tables, shown}
-use Rattle.txn_core.specs.Answers.{KeptToken, get_answer, write_answer, outcome_answer, prepare_answer, is_holder, version_answer, begin_answer, has_record, decide_answer, recall_answer, page_answer, out_answer}
+use Rattle.txn_core.specs.Answers.{KeptToken, get_answer, write_answer, expire_answer, outcome_answer, prepare_answer, is_holder, version_answer, begin_answer, has_record, decide_answer, recall_answer, page_answer, out_answer}
 use Rattle.txn_core.specs.Effects.{Effect}
 use Rattle.txn_core.specs.Runs.{IsRun}
 use Rattle.txn_core.specs.History.{effect, effects, found_kept, reasons_of}
 use Rattle.index_feed.specs.Feed.{Out}
 use Rattle.txn_core.specs.Feeding.{change, has_sequence, rows_for}
-use Rattle.txn_core.specs.Legal.{ruling_answer, IsRuled, IsInTheWay, out_after, feeds_after, IsAnswer, IsLegal}
+use Rattle.txn_core.specs.Legal.{only_expired, ruling_answer, IsRuled, IsInTheWay, out_after, feeds_after, IsAnswer, IsLegal}
 use Rattle.txn_core.specs.Laws.{version_of, IsRealHolder, last_by}
 use Rattle.txn_core.proofs.LegalRuns.{legal_run}
 use Rattle.txn_core.proofs.SerialLaws.{rows_are_shown}
@@ -38,6 +38,15 @@ module _ {K V A F B : Type 0} where
   write_held true None row (New v) n e = absurd (cc)
   write_held true None row Unmet n e = absurd (cc)
   write_held true None row (Fails fault) n e = absurd (cc)
+
+  expire_held : (b : Bool) (h : Option ℕ) (over : Option V) (o : Outcome V F) (n : ℕ) → HeldIn (expire_answer b h over o) n → h ≡ Some n
+  expire_held false h over o n e = absurd (cc)
+  expire_held true (Some m) over o n e = cc
+  expire_held true None None o n e = absurd (cc)
+  expire_held true None (Some old) (New None) n e = absurd (cc)
+  expire_held true None (Some old) (New (Some v)) n e = absurd (cc)
+  expire_held true None (Some old) Unmet n e = absurd (cc)
+  expire_held true None (Some old) (Fails fault) n e = absurd (cc)
 
   outcome_held : (row : Option V) (o : Outcome V F) (n : ℕ) → HeldIn (outcome_answer row o) n → ⊥
   outcome_held row (New v) n e = cc
@@ -107,6 +116,10 @@ module _ {K V A F C D Q B : Type 0} (S : Service K V A F C D Q B) (law : IsServi
   real_holder es moment (Message.Write action) n is =
       let w = state_after S.core (effects es) in
       write_held (S.core.there w.catalog (S.core.key_of action)) (holder (w.spot (S.core.key_of action)).pend) (w.spot (S.core.key_of action)).row (S.core.act w.catalog action (w.spot (S.core.key_of action)).row) n (sym is)
+  real_holder es moment (Message.Expire action) n is =
+      let w = state_after S.core (effects es) in
+      let k = S.core.key_of action in
+      expire_held (S.core.there w.catalog k) (holder (w.spot k).pend) (only_expired S w.catalog k moment (w.spot k).row) (S.core.act w.catalog action (w.spot k).row) n (sym is)
   real_holder es moment (Message.Prepare m stamp action) n is =
       let w = state_after S.core (effects es) in
       prepare_held (S.core.there w.catalog (S.core.key_of action)) (holder (w.spot (S.core.key_of action)).pend) m (last (here S.core w (S.core.key_of action)) (w.spot (S.core.key_of action))) stamp (w.spot (S.core.key_of action)).row (S.core.act w.catalog action (w.spot (S.core.key_of action)).row) n (sym is)
@@ -157,6 +170,7 @@ module _ {K V A F C D Q B : Type 0} (S : Service K V A F C D Q B) (law : IsServi
   real_holder es moment (Message.ScanPage page) n is =
       let c = (state_after S.core (effects es)).catalog in
       page_other (S.serves c page) (S.page c (rows_for S es (S.page_cell page) (S.page_index page)) page) n (sym is)
+  real_holder es moment (Message.ExpiredKeys cell limit) n is = let h = is.1 in cc
   real_holder es moment (Message.Pendings cell) n is = is.1
   real_holder es moment (Message.PeekOut source) n is = out_other (out_after S es source) n (sym is.1)
   real_holder es moment (Message.ApplyIndex source sequence index row_key after) n is =

@@ -1,6 +1,7 @@
 -- A cell's own entries decide what it answers, and the cells' own entries together what a command is answered.
-use Rattle.std.proofs.Common.{◌≡◌, ◌⊎◌, inl, inr, ◌↔◌, ℕ, ◌<◌, ◌≤◌, true, ◌&&◌, nat_eq, nat_lt, List, [], ◌∷◌, ◌++◌, Option, None, Some, is_some, if◌then◌else◌, refl, sym, ap, ◌∙◌, subst, arith}
-use Rattle.std.specs.List.{list_all}
+use Rattle.std.proofs.Common.{◌≡◌, ◌⊎◌, inl, inr, ◌↔◌, ℕ, ◌<◌, ◌≤◌, true, ◌&&◌, nat_eq, nat_lt, Bool, not, map, filter, take, List, [], ◌∷◌, ◌++◌, Option, None, Some, is_some, if◌then◌else◌, refl, sym, ap, ◌∙◌, subst, arith}
+use Rattle.std.specs.List.{cons_option, list_all}
+use Rattle.std.specs.Option.{option_map}
 use Rattle.std.specs.Prelude.{slice_index_or}
 use Rattle.std.proofs.lemmas.Bool.{cond_both, cases_lt, eqb-false}
 use Rattle.txn_core.specs.declared.message.Message.{Message}
@@ -8,15 +9,15 @@ use Rattle.txn_core.specs.declared.answer.Answer.{Answer}
 use Rattle.txn_core.specs.declared.answer.HeldItem.{HeldItem}
 use Rattle.txn_core.specs.declared.entry.Entry.{Entry}
 use Rattle.index_feed.specs.declared.change.Change.{Change}
-use Rattle.index_feed.specs.Feed.{peek, served}
+use Rattle.index_feed.specs.Feed.{Each, Indexed, peek, served, at_keys}
 use Rattle.index_feed.proofs.Homes.{homes, items_alike, rows_alike}
 use Rattle.txn_core.specs.Indexing.{indexed}
 use Rattle.txn_core.specs.Feeding.{change, has_sequence, feed_events, feed_after, rows_for}
 use Rattle.txn_core.specs.Service.{Service, IsServiceLawful}
 use Rattle.txn_core.specs.State.{Pending, State, holder}
-use Rattle.txn_core.specs.Answers.{get_answer, write_answer, prepare_answer, apply_answer, release_answer, version_answer, begin_answer, has_record, decide_answer, done_answer, forget_answer, fate_answer, recall_answer, unfinished, page_answer, out_answer, feed_answer, ack_answer}
+use Rattle.txn_core.specs.Answers.{get_answer, write_answer, expire_answer, prepare_answer, apply_answer, release_answer, version_answer, begin_answer, has_record, decide_answer, done_answer, forget_answer, fate_answer, recall_answer, unfinished, page_answer, out_answer, feed_answer, ack_answer}
 use Rattle.txn_core.specs.History.{unless_over, found_kept, IsTimely}
-use Rattle.txn_core.specs.Legal.{state, IsInTheWay, ruling_answer, IsRuled, ArePendings, IsPendingList, page_after, out_after, feeds_after, IsAnswer, Allowed, sent_to, IsLegal}
+use Rattle.txn_core.specs.Legal.{state, in_order_of, only_expired, is_due, expired_keys, IsInTheWay, ruling_answer, IsRuled, ArePendings, IsPendingList, page_after, out_after, feeds_after, IsAnswer, Allowed, sent_to, IsLegal}
 use Rattle.txn_core.specs.Cells.{of_cell, of_pass, IsAlike, AreAlike, HaveSameEntries, IsFirstHolder, IsClearThere, IsRuledByCells}
 use Rattle.txn_core.proofs.Basics.{holder_is}
 use Rattle.txn_core.proofs.Prefix.{legal_before}
@@ -35,6 +36,20 @@ module _ {K V A F D Q B : Type 0} where
   timely_by_own (e ∷ es) pass moment h =
       cond_both (nat_eq e.pass pass) (e ∷ of_pass pass es) (of_pass pass es) (λ xs. IsTimely xs pass moment → IsTimely (e ∷ es) pass moment)
       (λ _ k. (k.0, timely_by_own es pass moment k.1)) (λ other k. (λ same. absurd (eqb-false e.pass pass other same), timely_by_own es pass moment k)) h
+
+-- two tests that say the same of all that stands at keys of a cell pick the same there
+picked_alike :
+    {K V C : Type 0} (I : Indexed K V C) (i : ℕ) (row : K → Option V) (p q : K × V → Bool)
+    → ((k : K) (v : V) → I.cell_of k ≡ i → p (k, v) ≡ q (k, v))
+    → (ks : List K) → Each (λ k. I.cell_of k ≡ i) ks → filter p (at_keys I row ks) ≡ filter q (at_keys I row ks)
+picked_alike I i row p q same [] homes = refl
+picked_alike {K = K} {V = V} I i row p q same (k ∷ ks) homes = by_row (row k) (picked_alike I i row p q same ks homes.1)
+  where
+    by_row :
+        (o : Option V) → filter p (at_keys I row ks) ≡ filter q (at_keys I row ks)
+        → filter p (cons_option (option_map (λ v. (k, v)) o) (at_keys I row ks)) ≡ filter q (cons_option (option_map (λ v. (k, v)) o) (at_keys I row ks))
+    by_row None rest = rest
+    by_row (Some v) rest = λ j. if same k v homes.0 j then (k, v) ∷ rest j else rest j
 
 module _ {K V A F C D Q B : Type 0} (S : Service K V A F C D Q B) where
   -- who holds an item, by what its cell holds
@@ -77,6 +92,17 @@ module _ {K V A F C D Q B : Type 0} (S : Service K V A F C D Q B) where
   rows_alike_in i es fs s None = items_alike (indexed S.core S.index) i (feed_after S es) (feed_after S fs) (homes (indexed S.core S.index) S.core.empty (feed_events S es)) s.feed
   rows_alike_in i es fs s (Some g) = rows_alike (indexed S.core S.index) i g (feed_after S es) (feed_after S fs) (homes (indexed S.core S.index) S.core.empty (feed_events S es)) s.feed
 
+  -- the expired items of a cell go by what it holds of them
+  expired_alike : (es fs : List (Entry K V A F D Q B)) (cell moment : ℕ) → IsAlike S cell es fs → expired_keys S es cell moment ≡ expired_keys S fs cell moment
+  expired_alike es fs cell moment s =
+      let I = indexed S.core S.index in
+      let f = feed_after S es in
+      ap (λ xs. map (λ x. x.0) (in_order_of (λ x. S.core.table x.0) xs))
+      (picked_alike I cell f.row (λ x. is_due S (state S es) moment x) (λ x. is_due S (state S fs) moment x)
+      (λ k v home j. S.core.expired (s.catalog j) k v moment && not (is_some (s.items k home j).pend))
+      (f.keys cell) ((homes I S.core.empty (feed_events S es)).keys cell)
+      ∙ ap (λ xs. filter (λ x. is_due S (state S fs) moment x) xs) (rows_alike_in cell es fs s None))
+
   page_alike : (es fs : List (Entry K V A F D Q B)) (page : Q) → IsAlike S (S.page_cell page) es fs → page_after S es page ≡ page_after S fs page
   page_alike es fs page s =
       λ j. page_answer (S.serves (s.catalog j) page) (S.page (s.catalog j) (rows_alike_in (S.page_cell page) es fs s (S.page_index page) j) page)
@@ -93,6 +119,11 @@ module _ {K V A F C D Q B : Type 0} (S : Service K V A F C D Q B) where
   alike_answer es fs moment (Message.Get key) a s is = is ∙ (λ j. get_answer (S.core.there (s.catalog j) key) (s.items key refl j).row)
   alike_answer es fs moment (Message.Write action) a s is =
       is ∙ (λ j. let x = s.items (S.core.key_of action) refl j in write_answer (S.core.there (s.catalog j) (S.core.key_of action)) (holder x.pend) x.row (S.core.act (s.catalog j) action x.row))
+  alike_answer es fs moment (Message.Expire action) a s is =
+      is ∙ (λ j.
+      let k = S.core.key_of action in
+      let x = s.items k refl j in
+      expire_answer (S.core.there (s.catalog j) k) (holder x.pend) (only_expired S (s.catalog j) k moment x.row) (S.core.act (s.catalog j) action x.row))
   alike_answer es fs moment (Message.Prepare n stamp action) a s is =
       is ∙ (λ j.
       let x = s.items (S.core.key_of action) refl j in
@@ -114,6 +145,7 @@ module _ {K V A F C D Q B : Type 0} (S : Service K V A F C D Q B) where
   alike_answer es fs moment (Message.Ask question) a s is = is ∙ (λ j. Answer.Told (S.tell (s.catalog j) question))
   alike_answer es fs moment (Message.QueryPage page) a s is = is ∙ page_alike es fs page s
   alike_answer es fs moment (Message.ScanPage page) a s is = is ∙ page_alike es fs page s
+  alike_answer es fs moment (Message.ExpiredKeys cell limit) a s is = (is.0, is.1 ∙ ap (λ ks. Answer.ExpiredList (take limit ks)) (expired_alike es fs cell moment s))
   alike_answer es fs moment (Message.Pendings cell) a s is = (is.0, pendings_alike es fs cell s a is.1)
   alike_answer es fs moment (Message.PeekOut source) a s is = (is.0, is.1 ∙ ap (λ o. out_answer S.core.cell_of o) (out_alike es fs source s))
   alike_answer es fs moment (Message.ApplyIndex source sequence index row_key after) a s is =

@@ -20,7 +20,7 @@ pub use Rattle.txn_core.proofs.SerialLaws.{waiting_is, holds_the_tables, rows_ar
 pub use Rattle.txn_core.proofs.Points.{point_forward, history_forward}
 -- the laws of reads, of refusals and of tokens, of legal histories
 pub use Rattle.txn_core.proofs.Causes.{real_holder, late_stamp, get_is_shown, read_at_one_point}
-pub use Rattle.txn_core.proofs.Writes.{catalog_is_serial, writes_are_serial}
+pub use Rattle.txn_core.proofs.Writes.{catalog_is_serial, writes_are_serial, expirations_are_serial}
 pub use Rattle.txn_core.proofs.Removals.{removals_leave_none, removals_are_single}
 pub use Rattle.txn_core.proofs.Moves.{others_leave_the_order, first_decision_stands, moved_is_real}
 pub use Rattle.txn_core.proofs.TokenLife.{drawn_once, later_begins}

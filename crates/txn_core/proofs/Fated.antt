@@ -120,6 +120,7 @@ module _ {K V A F C D Q B : Type 0} (S : Service K V A F C D Q B) (law : IsServi
     gone_by : (moment : ℕ) (m : Message K V A F D Q) (a : Answer K V A F B) → (step S.core w (effect_of moment m a)).ledger.gone n ≡ true → (w.ledger.gone n ≡ true) ⊎ ((m ≡ Message.Forget n) × (is_forgotten a ≡ true))
     gone_by moment (Message.Forget m) a h = elim (gone_forget m (is_forgotten a) h) [ inl old ↦ inl old | inr now ↦ inr (ap (λ k. Message.Forget k) now.0, now.1) ]
     gone_by moment (Message.Write action) a h = inl (sym (gone_where _ (Wrote action moment) refl) ∙ h)
+    gone_by moment (Message.Expire action) a h = inl (sym (gone_where _ (Wrote action moment) refl) ∙ h)
     gone_by moment (Message.Prepare m stamp action) a h = inl (sym (gone_where _ (Prepared m stamp action) refl) ∙ h)
     gone_by moment (Message.Apply m key) a h = inl (sym (gone_where _ (Applied m key) refl) ∙ h)
     gone_by moment (Message.Release m key) a h = inl (sym (gone_where _ (Released m key) refl) ∙ h)

@@ -17,14 +17,14 @@ use Rattle.txn_core.specs.Runs.{May, IsRun, MayFinish}
 use Rattle.txn_core.specs.Serial.{begun_actions}
 use Rattle.txn_core.specs.Answers.{KeptToken, is_holder, begin_answer, has_record, decide_answer}
 use Rattle.txn_core.specs.History.{is_accepted, is_applied, is_finished, is_forgotten, is_begun, tells_commit, tells_cancel, where_so, begin_effect, decide_effect, effect_of, effect, effects, Had, begins, commits, cancels, finishes, forgets, found_kept}
-use Rattle.txn_core.specs.Legal.{IsAnswer, accepts, applies, releases, HasGround, Allowed, Follows, IsLegal}
+use Rattle.txn_core.specs.Legal.{only_expired, IsAnswer, accepts, applies, releases, HasGround, Allowed, Follows, IsLegal}
 use Rattle.txn_core.proofs.Basics.{true_false, at_split, some_of}
 use Rattle.txn_core.proofs.Invariant.{Good}
 use Rattle.txn_core.proofs.Ends.{find_passes}
 use Rattle.txn_core.proofs.Kept.{good, action_alike}
 use Rattle.txn_core.proofs.Readings.{actions_read, stamp_read}
 use Rattle.txn_core.proofs.Grows.{Grows, grows}
-use Rattle.txn_core.proofs.Bridge.{all_found, where_true, may_write, may_prepare, may_apply, may_release, may_begin, may_decide, may_done, may_forget, may_command}
+use Rattle.txn_core.proofs.Bridge.{all_found, where_true, may_write, may_expire, may_prepare, may_apply, may_release, may_begin, may_decide, may_done, may_forget, may_command}
 
 module _ {K V A F C D Q B : Type 0} (S : Service K V A F C D Q B) (law : IsServiceLawful S) where
   -- what the words of a history say of the state
@@ -129,6 +129,11 @@ module _ {K V A F C D Q B : Type 0} (S : Service K V A F C D Q B) (law : IsServi
         let w = state_after S.core (effects es) in
         subst (λ x. May S.core w (effect_of {Q = Q} moment (Message.Write action) x)) (sym is)
         (may_write S law w action moment (S.core.there w.catalog (S.core.key_of action)) (holder (w.spot (S.core.key_of action)).pend) (S.core.act w.catalog action (w.spot (S.core.key_of action)).row) refl refl refl)
+    may_follow pass moment (Message.Expire action) a is allowed =
+        let w = state_after S.core (effects es) in
+        let k = S.core.key_of action in
+        subst (λ x. May S.core w (effect_of {Q = Q} moment (Message.Expire action) x)) (sym is)
+        (may_expire S law w action moment (S.core.there w.catalog k) (holder (w.spot k).pend) (only_expired S w.catalog k moment (w.spot k).row) (S.core.act w.catalog action (w.spot k).row) refl refl refl)
     may_follow pass moment (Message.Prepare n stamp action) a is allowed =
         let w = state_after S.core (effects es) in
         subst (λ x. May S.core w (effect_of {Q = Q} moment (Message.Prepare n stamp action) x)) (sym is)
@@ -166,6 +171,7 @@ module _ {K V A F C D Q B : Type 0} (S : Service K V A F C D Q B) (law : IsServi
     may_follow pass moment (Message.Ask question) a is allowed = tt
     may_follow pass moment (Message.QueryPage page) a is allowed = tt
     may_follow pass moment (Message.ScanPage page) a is allowed = tt
+    may_follow pass moment (Message.ExpiredKeys cell limit) a is allowed = tt
     may_follow pass moment (Message.Pendings cell) a is allowed = tt
     may_follow pass moment (Message.PeekOut source) a is allowed = tt
     may_follow pass moment (Message.ApplyIndex source sequence index row_key after) a is allowed = tt

@@ -224,6 +224,7 @@ module _ {K V A F C D Q B : Type 0} (S : Service K V A F C D Q B) (law : IsServi
   -- what went to another cell changes nothing of this one
   away_entry : (i moment : ℕ) (m : Message K V A F D Q) (a : Answer K V A F B) → reaches (sent_to S m) i ≡ false → IsAway S.core law.core i (effect_of moment m a)
   away_entry i moment (Message.Write action) a e = away_where S.core law.core i _ (Wrote action moment) (reach_other (S.core.cell_of (S.core.key_of action)) i e)
+  away_entry i moment (Message.Expire action) a e = away_where S.core law.core i _ (Wrote action moment) (reach_other (S.core.cell_of (S.core.key_of action)) i e)
   away_entry i moment (Message.Prepare n stamp action) a e = away_where S.core law.core i _ (Prepared n stamp action) (reach_other (S.core.cell_of (S.core.key_of action)) i e)
   away_entry i moment (Message.Apply n key) a e = away_where S.core law.core i _ (Applied n key) (reach_other (S.core.cell_of key) i e)
   away_entry i moment (Message.Release n key) a e = away_where S.core law.core i _ (Released n key) (reach_other (S.core.cell_of key) i e)
@@ -248,6 +249,7 @@ module _ {K V A F C D Q B : Type 0} (S : Service K V A F C D Q B) (law : IsServi
     -- what went to another cell changes nothing of the control cell
     same_control : (moment : ℕ) (m : Message K V A F D Q) (a : Answer K V A F B) → reaches (sent_to S m) S.control ≡ false → ((step S.core u (effect_of moment m a)).ledger ≡ u.ledger) × ((t : List ℕ) (old : Option (KeptToken A)) → kept_after moment m a t old ≡ old) × ((n : ℕ) (older : List (Reason V F)) → reasons_in n m a older ≡ older)
     same_control moment (Message.Write action) a e = (ledger_where _ (Wrote action moment) refl, λ t old. refl, λ n older. refl)
+    same_control moment (Message.Expire action) a e = (ledger_where _ (Wrote action moment) refl, λ t old. refl, λ n older. refl)
     same_control moment (Message.Prepare n stamp action) a e = (ledger_where _ (Prepared n stamp action) refl, λ t old. refl, λ n older. refl)
     same_control moment (Message.Apply n key) a e = (ledger_where _ (Applied n key) refl, λ t old. refl, λ n older. refl)
     same_control moment (Message.Release n key) a e = (ledger_where _ (Released n key) refl, λ t old. refl, λ n older. refl)

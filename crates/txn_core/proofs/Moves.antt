@@ -13,7 +13,7 @@ use Rattle.txn_core.specs.Effects.{Effect, Wrote, Prepared, Applied, Released, F
 use Rattle.txn_core.specs.State.{Spot, State, holder, at, here, step, state_after, spot_prepared, spot_released}
 use Rattle.txn_core.specs.Serial.{serial}
 use Rattle.txn_core.specs.Answers.{has_record, decide_answer}
-use Rattle.txn_core.specs.History.{is_first, tells_commit, is_written, is_applied, where_so, begin_effect, decide_effect, effect_of, effects, Had, commits, cancels}
+use Rattle.txn_core.specs.History.{is_first, tells_commit, is_written, is_expired, is_applied, where_so, begin_effect, decide_effect, effect_of, effects, Had, commits, cancels}
 use Rattle.txn_core.specs.Legal.{IsAnswer, IsLegal}
 use Rattle.txn_core.specs.Laws.{version_of, enters_order, changes_cell}
 use Rattle.txn_core.proofs.Basics.{at_split}
@@ -41,6 +41,7 @@ module _ {K V A F D Q B : Type 0} where
     where
       by_message : (m : Message K V A F D Q) (a : Answer K V A F B) → enters_order m a ≡ false → serial (effect_of e.moment m a ∷ effects es) ≡ serial (effects es)
       by_message (Message.Write action) a no' = ap (λ b. serial (where_so b (Wrote action e.moment) ∷ effects es)) no'
+      by_message (Message.Expire action) a no' = ap (λ b. serial (where_so b (Wrote action e.moment) ∷ effects es)) no'
       by_message (Message.Command d) a no' = ap (λ b. serial (where_so b (Changed d e.moment) ∷ effects es)) no'
       by_message (Message.Decide n commit reasons) a no' = serial_decide n a (effects es) no'
       by_message (Message.Begin token actions) a no' = serial_begin actions a (effects es)
@@ -111,6 +112,7 @@ module _ {K V A F C D Q B : Type 0} (S : Service K V A F C D Q B) (law : IsServi
 
     version_entry : (moment : ℕ) (m : Message K V A F D Q) (a : Answer K V A F B) → changes_cell S (S.core.cell_of q) m a ≡ false → version_of S.core (step S.core w (effect_of moment m a)) q ≡ version_of S.core w q
     version_entry moment (Message.Write action) a other = version_unless (S.core.cell_of (S.core.key_of action)) (is_written a) (Wrote action moment) (λ away. away) other
+    version_entry moment (Message.Expire action) a other = version_unless (S.core.cell_of (S.core.key_of action)) (is_expired a) (Wrote action moment) (λ away. away) other
     version_entry moment (Message.Apply n key) a other = version_unless (S.core.cell_of key) (is_applied a) (Applied n key) (λ away. away) other
     version_entry moment (Message.Command d) a other = ap (λ b. version_of S.core (step S.core w (where_so b (Changed d moment))) q) other
     version_entry moment (Message.Prepare n stamp action) a other =

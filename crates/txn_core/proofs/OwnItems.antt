@@ -11,7 +11,7 @@ use Rattle.txn_core.specs.Effects.{Effect, Wrote, Prepared, Applied, Released, F
 use Rattle.txn_core.specs.State.{Spot, State, holder, here, spot_wrote, spot_prepared, spot_applied, spot_released, state_after, step}
 use Rattle.txn_core.specs.Runs.{May}
 use Rattle.txn_core.specs.Serial.{waiting, point_by as point_where}
-use Rattle.txn_core.specs.History.{is_written, is_applied, where_so, begin_effect, decide_effect, effect_of, effects}
+use Rattle.txn_core.specs.History.{is_written, is_expired, is_applied, where_so, begin_effect, decide_effect, effect_of, effects}
 use Rattle.txn_core.specs.Legal.{IsAnswer}
 use Rattle.txn_core.specs.Laws.{sets_item, changes_item, PointsPassOwn, ReadHoldersAreReal, MovedItemIsReal}
 use Rattle.index_feed.proofs.Kept.{some_none}
@@ -23,16 +23,22 @@ use Rattle.txn_core.proofs.Causes.{version_is}
 
 module _ {K V A F C D Q B : Type 0} (S : Service K V A F C D Q B) (law : IsServiceLawful S) where
   module _ (w : State K V A C) (q : K) where
-    -- who puts an item in place leaves it unheld
-    set_unheld : Good S.core w → (moment : ℕ) (m : Message K V A F D Q) (a : Answer K V A F B) → May S.core w (effect_of moment m a) → sets_item S q m a ≡ true
-        → ((step S.core w (effect_of moment m a)).spot q).pend ≡ None
-    set_unheld g moment (Message.Write action) a may h =
+    -- a write of an item that comes to pass leaves it unheld
+    wrote_unheld : Good S.core w → (moment : ℕ) (action : A) (b : Bool) → May S.core w (where_so b (Wrote action moment)) → (S.core.same (S.core.key_of action) q && b) ≡ true
+        → ((step S.core w (where_so b (Wrote action moment))).spot q).pend ≡ None
+    wrote_unheld g moment action b may h =
         let x = S.core.key_of action in
-        let p = and_parts (S.core.same x q) (is_written a) h in
+        let p = and_parts (S.core.same x q) b h in
         let may' = subst (λ b. May S.core w (where_so b (Wrote action moment))) p.1 may in
         (λ j. ((step S.core w (where_so (p.1 j) (Wrote action moment))).spot q).pend)
         ∙ (λ j. (if p.0 j then spot_wrote S.core w.catalog (here S.core w x) action moment (w.spot q) else w.spot q).pend)
         ∙ sym (ap (λ (s : Spot V). s.pend) (g.alike x q p.0)) ∙ may'.unheld
+
+    -- who puts an item in place leaves it unheld
+    set_unheld : Good S.core w → (moment : ℕ) (m : Message K V A F D Q) (a : Answer K V A F B) → May S.core w (effect_of moment m a) → sets_item S q m a ≡ true
+        → ((step S.core w (effect_of moment m a)).spot q).pend ≡ None
+    set_unheld g moment (Message.Write action) a may h = wrote_unheld g moment action (is_written a) may h
+    set_unheld g moment (Message.Expire action) a may h = wrote_unheld g moment action (is_expired a) may h
     set_unheld g moment (Message.Apply n key) a may h =
         let p = and_parts (S.core.same key q) (is_applied a) h in
         (λ j. ((step S.core w (where_so (p.1 j) (Applied n key))).spot q).pend)
@@ -53,6 +59,11 @@ module _ {K V A F C D Q B : Type 0} (S : Service K V A F C D Q B) (law : IsServi
     version_if true e h = h refl
     version_if false e h = refl
 
+    version_wrote : (moment : ℕ) (action : A) (b : Bool) → (S.core.same (S.core.key_of action) q && b) ≡ false → ((step S.core w (where_so b (Wrote action moment))).spot q).version ≡ (w.spot q).version
+    version_wrote moment action b other =
+        let x = S.core.key_of action in
+        version_if b (Wrote action moment) (version_unless (S.core.same x q) b (spot_wrote S.core w.catalog (here S.core w x) action moment (w.spot q)) other)
+
     version_decide : (n : ℕ) (a : Answer K V A F B) → ((step S.core w (decide_effect {D = D} n a)).spot q).version ≡ (w.spot q).version
     version_decide n (Answer.Decided Fate.Committed true) = refl
     version_decide n (Answer.Decided Fate.Cancelled true) = refl
@@ -64,9 +75,8 @@ module _ {K V A F C D Q B : Type 0} (S : Service K V A F C D Q B) (law : IsServi
 
     version_left : (moment : ℕ) (m : Message K V A F D Q) (a : Answer K V A F B) → changes_item S q m a ≡ false
         → ((step S.core w (effect_of moment m a)).spot q).version ≡ (w.spot q).version
-    version_left moment (Message.Write action) a other =
-        let x = S.core.key_of action in
-        version_if (is_written a) (Wrote action moment) (version_unless (S.core.same x q) (is_written a) (spot_wrote S.core w.catalog (here S.core w x) action moment (w.spot q)) other)
+    version_left moment (Message.Write action) a other = version_wrote moment action (is_written a) other
+    version_left moment (Message.Expire action) a other = version_wrote moment action (is_expired a) other
     version_left moment (Message.Apply n key) a other =
         version_if (is_applied a) (Applied n key) (version_unless (S.core.same key q) (is_applied a) (spot_applied (here S.core w key) n (w.spot q)) other)
     version_left moment (Message.Command d) a other = ap (λ b. ((step S.core w (where_so b (Changed d moment))).spot q).version) other

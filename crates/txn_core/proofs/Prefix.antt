@@ -101,11 +101,13 @@ module _ {K V A F C D Q B : Type 0} (S : Service K V A F C D Q B) (law : IsServi
   allowed_more pass (Message.Ack source sequence) h = had_more (feeds S source sequence) e es h
   allowed_more pass (Message.QueryPage page) h = h
   allowed_more pass (Message.ScanPage page) h = h
+  allowed_more pass (Message.ExpiredKeys cell limit) h = h
   allowed_more pass (Message.Pendings cell) h = h
   allowed_more pass (Message.PeekOut source) h = h
   allowed_more pass (Message.Begin token actions) h = h
   allowed_more pass (Message.Get key) h = h
   allowed_more pass (Message.Write action) h = h
+  allowed_more pass (Message.Expire action) h = h
   allowed_more pass (Message.ReadVersion key) h = h
   allowed_more pass (Message.FateOf n) h = h
   allowed_more pass (Message.Recall n) h = h

@@ -138,6 +138,7 @@ module _ {K V A F C D Q B : Type 0} (S : Service K V A F C D Q B) (law : IsServi
       let w = state_after S.core (effects es) in
       spares_command w (good S.core law.core (effects es) (legal_run S law es legal)) d moment a (S.refuses d w.catalog) refl is
   spares_entry es legal moment (Message.Write action) a is = spares_where (state_after S.core (effects es)) _ (Wrote action moment) tt
+  spares_entry es legal moment (Message.Expire action) a is = spares_where (state_after S.core (effects es)) _ (Wrote action moment) tt
   spares_entry es legal moment (Message.Prepare n stamp action) a is = spares_where (state_after S.core (effects es)) _ (Prepared n stamp action) tt
   spares_entry es legal moment (Message.Apply n key) a is = spares_where (state_after S.core (effects es)) _ (Applied n key) tt
   spares_entry es legal moment (Message.Release n key) a is = spares_where (state_after S.core (effects es)) _ (Released n key) tt

@@ -11,7 +11,7 @@ use Rattle.txn_core.specs.Indexing.{indexed}
 use Rattle.txn_core.specs.Service.{Service}
 use Rattle.txn_core.specs.Effects.{Effect, Wrote, Prepared, Applied, Released, Finished, Forgot, Changed}
 use Rattle.txn_core.specs.State.{State, state_after}
-use Rattle.txn_core.specs.History.{is_written, is_applied, is_changed, where_so, begin_effect, decide_effect, effects}
+use Rattle.txn_core.specs.History.{is_written, is_expired, is_applied, is_changed, where_so, begin_effect, decide_effect, effects}
 use Rattle.txn_core.specs.Feeding.{change, item_event, event_of, feed_after}
 use Rattle.txn_core.specs.Indexes.{IsRestOf, queues, OthersQueueNothing}
 
@@ -45,6 +45,7 @@ module _ {K V A F C D Q B : Type 0} (S : Service K V A F C D Q B) where
 
     rest_message : (moment : ℕ) (m : Message K V A F D Q) (a : Answer K V A F B) → queues S m a ≡ false → IsRest (event_of S w moment m a)
     rest_message moment (Message.Write action) a no' = rest_unless (is_written a) (Wrote action moment) no'
+    rest_message moment (Message.Expire action) a no' = rest_unless (is_expired a) (Wrote action moment) no'
     rest_message moment (Message.Apply n key) a no' = rest_unless (is_applied a) (Applied n key) no'
     rest_message moment (Message.Command d) a no' = rest_unless (is_changed a) (Changed d moment) no'
     rest_message moment (Message.Prepare n stamp action) a no' = rest_where _ (Prepared n stamp action) refl

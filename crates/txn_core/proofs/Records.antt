@@ -71,6 +71,7 @@ module _ {K V A F C D Q B : Type 0} (S : Service K V A F C D Q B) where
     -- a fate is set by a Decide alone
     fates_stay : (moment : ℕ) (m : Message K V A F D Q) (a : Answer K V A F B) → ((n : ℕ) (commit : Bool) (reasons : List (Reason V F)) → m ≡ Message.Decide n commit reasons → ⊥) → (step S.core w (effect_of moment m a)).ledger.fate ≡ w.ledger.fate
     fates_stay moment (Message.Write action) a other = left_where (λ l. l.fate) _ (Wrote action moment) refl
+    fates_stay moment (Message.Expire action) a other = left_where (λ l. l.fate) _ (Wrote action moment) refl
     fates_stay moment (Message.Prepare n stamp action) a other = left_where (λ l. l.fate) _ (Prepared n stamp action) refl
     fates_stay moment (Message.Apply n key) a other = left_where (λ l. l.fate) _ (Applied n key) refl
     fates_stay moment (Message.Release n key) a other = left_where (λ l. l.fate) _ (Released n key) refl
@@ -96,6 +97,7 @@ module _ {K V A F C D Q B : Type 0} (S : Service K V A F C D Q B) where
           draws w.ledger.next m e.0 lt (cases_lt n w.ledger.next)
       by_answer _ is lt = inl lt
   drawn_by es moment (Message.Write action) a is n lt = inl (subst (λ x. n < x) (left_where (state_after S.core (effects es)) (λ l. l.next) _ (Wrote action moment) refl) lt)
+  drawn_by es moment (Message.Expire action) a is n lt = inl (subst (λ x. n < x) (left_where (state_after S.core (effects es)) (λ l. l.next) _ (Wrote action moment) refl) lt)
   drawn_by es moment (Message.Prepare k stamp action) a is n lt = inl (subst (λ x. n < x) (left_where (state_after S.core (effects es)) (λ l. l.next) _ (Prepared k stamp action) refl) lt)
   drawn_by es moment (Message.Apply k key) a is n lt = inl (subst (λ x. n < x) (left_where (state_after S.core (effects es)) (λ l. l.next) _ (Applied k key) refl) lt)
   drawn_by es moment (Message.Release k key) a is n lt = inl (subst (λ x. n < x) (left_where (state_after S.core (effects es)) (λ l. l.next) _ (Released k key) refl) lt)
@@ -157,6 +159,7 @@ module _ {K V A F C D Q B : Type 0} (S : Service K V A F C D Q B) where
       by_message : (m : Message K V A F D Q) → ((token : Option (List ℕ)) (actions : List A) → m ≡ Message.Begin token actions → P actions) → P (begun_actions (effect_of moment m a ∷ xs) n)
       by_message (Message.Begin token actions) new = begin actions (new token actions refl) a
       by_message (Message.Write action) new = where_it _ (Wrote action moment) refl
+      by_message (Message.Expire action) new = where_it _ (Wrote action moment) refl
       by_message (Message.Prepare k stamp action) new = where_it _ (Prepared k stamp action) refl
       by_message (Message.Apply k key) new = where_it _ (Applied k key) refl
       by_message (Message.Release k key) new = where_it _ (Released k key) refl

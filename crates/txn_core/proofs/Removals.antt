@@ -1,5 +1,5 @@
 -- What the write of a removal leaves.
-use Rattle.std.proofs.Common.{◌≡◌, ℕ, true, Option, None, ◌∷◌, if◌then◌else◌, ap, ◌∙◌}
+use Rattle.std.proofs.Common.{◌≡◌, true, Option, None, ◌∷◌, if◌then◌else◌, ap, ◌∙◌}
 use Rattle.txn_core.specs.Protocol.{after}
 use Rattle.txn_core.specs.Service.{Service, IsServiceLawful}
 use Rattle.txn_core.specs.State.{step, spot_wrote, here}

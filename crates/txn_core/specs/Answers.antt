@@ -49,6 +49,17 @@ module _ {K V A F B : Type 0} where
   write_answer true None row Unmet = Answer.CondFalse row
   write_answer true None row (Fails fault) = Answer.Invalid fault
 
+  -- an expiration, by whether the table is there, who holds the item, the item where it is expired, and what its action makes
+  -- of it
+  abbrev pub expire_answer : Bool → Option ℕ → Option V → Outcome V F → Answer K V A F B
+  expire_answer false holding over outcome = Answer.Stale
+  expire_answer true (Some n) over outcome = Answer.Held n
+  expire_answer true None None outcome = Answer.Kept
+  expire_answer true None (Some old) (New None) = Answer.Expired old
+  expire_answer true None (Some old) (New (Some v)) = Answer.Kept
+  expire_answer true None (Some old) Unmet = Answer.Kept
+  expire_answer true None (Some old) (Fails fault) = Answer.Kept
+
   abbrev pub outcome_answer : Option V → Outcome V F → Answer K V A F B
   outcome_answer row (New v) = Answer.Accepted
   outcome_answer row Unmet = Answer.CondFalse row

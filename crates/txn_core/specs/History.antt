@@ -16,6 +16,10 @@ module _ {K V A F B : Type 0} where
   is_written (Answer.Written old new) = true
   is_written _ = false
 
+  abbrev pub is_expired : Answer K V A F B → Bool
+  is_expired (Answer.Expired old) = true
+  is_expired _ = false
+
   abbrev pub is_accepted : Answer K V A F B → Bool
   is_accepted Answer.Accepted = true
   is_accepted _ = false
@@ -90,6 +94,8 @@ module _ {K V A F D Q B : Type 0} where
   -- what an entry changes, by its moment, its message and its answer
   abbrev pub effect_of : ℕ → Message K V A F D Q → Answer K V A F B → Effect K A D
   effect_of moment (Message.Write action) a = where_so (is_written a) (Wrote action moment)
+  -- an expiration writes its action, which removes the item
+  effect_of moment (Message.Expire action) a = where_so (is_expired a) (Wrote action moment)
   effect_of moment (Message.Prepare n stamp action) a = where_so (is_accepted a) (Prepared n stamp action)
   effect_of moment (Message.Apply n key) a = where_so (is_applied a) (Applied n key)
   effect_of moment (Message.Release n key) a = where_so (is_released a) (Released n key)

@@ -8,7 +8,7 @@ use Rattle.txn_core.specs.declared.answer.Answer.{Answer}
 use Rattle.txn_core.specs.Indexing.{indexed}
 use Rattle.txn_core.specs.Service.{Service, Asked, Reply, Event, History}
 use Rattle.txn_core.specs.Serial.{waiting}
-use Rattle.txn_core.specs.History.{is_written, is_applied, is_changed, effects, Had}
+use Rattle.txn_core.specs.History.{is_written, is_expired, is_applied, is_changed, effects, Had}
 use Rattle.txn_core.specs.Feeding.{feed_after, rows_for}
 use Rattle.txn_core.specs.Legal.{feeds, IsAnswer, IsLegal}
 use Rattle.txn_core.specs.Laws.{catalog_by, item_by, shown_by, enters_order}
@@ -103,6 +103,7 @@ module _ {K V A F C D Q B : Type 0} (S : Service K V A F C D Q B) where
   -- the entry sets an item or changes the catalog, so that changes may be queued
   abbrev pub queues : Asked S → Reply S → Bool
   queues (Message.Write action) a = is_written a
+  queues (Message.Expire action) a = is_expired a
   queues (Message.Apply n key) a = is_applied a
   queues (Message.Command d) a = is_changed a
   queues _ a = false

@@ -11,7 +11,7 @@ use Rattle.txn_core.specs.Service.{Service, Asked, Reply, Event, History}
 use Rattle.txn_core.specs.Effects.{Effect, Wrote, Commits}
 use Rattle.txn_core.specs.State.{Pending, State, holder, last, on_item, here, state_after}
 use Rattle.txn_core.specs.Serial.{Change, Single, begun_stamp, begun_actions, decisions, serial, standings, once_whole, catalog_of, tables, waiting, shown, point, IsStampOrder}
-use Rattle.txn_core.specs.History.{is_written, is_applied, is_changed, is_first, tells_commit, effect, effects, Had, begins, commits, cancels, finishes, finds_no_table, IsTimely, is_over}
+use Rattle.txn_core.specs.History.{is_written, is_expired, is_applied, is_changed, is_first, tells_commit, effect, effects, Had, begins, commits, cancels, finishes, finds_no_table, IsTimely, is_over}
 use Rattle.std.specs.List.{list_any}
 use Rattle.txn_core.specs.Tokens.{draws, cancels_first, first_done, LivesOn, Names}
 use Rattle.txn_core.specs.Legal.{state, IsInTheWay, IsAnswer, Allowed, sent_to, Follows, IsLegal}
@@ -39,11 +39,12 @@ pub record ActsAsAccepted {K V A F C D : Type 0} (P : Protocol K V A F C D) (es 
 abbrev pub version_of : {K V A F C D : Type 0} → Protocol K V A F C D → State K V A C → K → ℕ
 version_of P w q = if is_some (w.spot q).row then (w.spot q).version else (here P w q).gone
 
--- the entry puts something into the one order: a write that was accepted, a commit that decided, or a command that was
--- carried out
+-- the entry puts something into the one order: a write that was accepted, an expiration, a commit that decided, or a command
+-- that was carried out
 module _ {K V A F D Q B : Type 0} where
   abbrev pub enters_order : Message K V A F D Q → Answer K V A F B → Bool
   enters_order (Message.Write action) a = is_written a
+  enters_order (Message.Expire action) a = is_expired a
   enters_order (Message.Decide n commit reasons) a = is_first a && tells_commit a
   enters_order (Message.Command d) a = is_changed a
   enters_order _ a = false
@@ -130,6 +131,7 @@ module _ {K V A F C D Q B : Type 0} (S : Service K V A F C D Q B) where
   -- the number holds the message's item, or an item of the command's table; a Prepare is held by another alone
   abbrev pub IsRealHolder : History S → Asked S → ℕ → Type 0
   IsRealHolder es (Message.Write action) n = holder_by es (S.core.key_of action) ≡ Some n
+  IsRealHolder es (Message.Expire action) n = holder_by es (S.core.key_of action) ≡ Some n
   IsRealHolder es (Message.Prepare m stamp action) n = (holder_by es (S.core.key_of action) ≡ Some n) × (n ≢ m)
   IsRealHolder es (Message.Command d) n = IsInTheWay S (state S es) d n
   IsRealHolder es _ n = ⊥
@@ -152,6 +154,27 @@ module _ {K V A F C D Q B : Type 0} (S : Service K V A F C D Q B) where
   WritesAreSerial =
       (es : History S) → IsLegal S es → (moment : ℕ) (action : A) (a : Reply S)
       → IsAnswer S es moment (Message.Write action) a → IsSerialWrite es action a
+
+  -- an expiration's answer is what the tables before it say: it found their item, which was expired, and its action removes
+  -- it; there is no item that is expired and that its action would remove; the table is not there; or its item is held
+  abbrev pub IsSerialExpiration : History S → ℕ → A → Reply S → Type 0
+  IsSerialExpiration es moment action (Answer.Expired old) =
+      (item_by es (S.core.key_of action) ≡ Some old)
+      × (S.core.expired (catalog_by es) (S.core.key_of action) old moment ≡ true)
+      × (S.core.act (catalog_by es) action (Some old) ≡ New None)
+  IsSerialExpiration es moment action Answer.Kept =
+      (v : V) → item_by es (S.core.key_of action) ≡ Some v
+      → S.core.expired (catalog_by es) (S.core.key_of action) v moment ≡ true
+      → S.core.act (catalog_by es) action (Some v) ≢ New None
+  IsSerialExpiration es moment action Answer.Stale = S.core.there (catalog_by es) (S.core.key_of action) ≡ false
+  IsSerialExpiration es moment action (Answer.Held n) = IsRealHolder es (Message.Expire action) n
+  IsSerialExpiration es moment action _ = ⊥
+
+  -- [Expired]: an expiration is answered by the tables of the one order before it
+  abbrev pub ExpirationsAreSerial : Type 0
+  ExpirationsAreSerial =
+      (es : History S) → IsLegal S es → (moment : ℕ) (action : A) (a : Reply S)
+      → IsAnswer S es moment (Message.Expire action) a → IsSerialExpiration es moment action a
 
   -- the catalog that the cells hold is that of the one order
   abbrev pub CatalogIsSerial : Type 0
@@ -179,9 +202,10 @@ module _ {K V A F C D Q B : Type 0} (S : Service K V A F C D Q B) where
       (es : History S) → IsLegal S es → (moment : ℕ) (key : K) (v : Option V)
       → IsAnswer S es moment (Message.Get key) (Answer.Row v) → v ≡ shown_by es key
 
-  -- the entry puts an item in place: an accepted Write of it, or its Apply
+  -- the entry puts an item in place, or removes it: an accepted Write of it, its expiration, or its Apply
   abbrev pub sets_item : K → Asked S → Reply S → Bool
   sets_item q (Message.Write action) a = S.core.same (S.core.key_of action) q && is_written a
+  sets_item q (Message.Expire action) a = S.core.same (S.core.key_of action) q && is_expired a
   sets_item q (Message.Apply n key) a = S.core.same key q && is_applied a
   sets_item q _ a = false
 
@@ -294,6 +318,7 @@ module _ {K V A F C D Q B : Type 0} (S : Service K V A F C D Q B) where
   -- the entry changes an item of the cell, or the catalog
   abbrev pub changes_cell : ℕ → Asked S → Reply S → Bool
   changes_cell i (Message.Write action) a = nat_eq (S.core.cell_of (S.core.key_of action)) i && is_written a
+  changes_cell i (Message.Expire action) a = nat_eq (S.core.cell_of (S.core.key_of action)) i && is_expired a
   changes_cell i (Message.Apply n key) a = nat_eq (S.core.cell_of key) i && is_applied a
   changes_cell i (Message.Command d) a = is_changed a
   changes_cell i _ a = false

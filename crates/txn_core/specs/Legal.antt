@@ -1,5 +1,5 @@
 -- Legal histories: each entry has the answer that its cell gives, and nobody sends what the protocol forbids.
-use Rattle.std.specs.Prelude.{◌≡◌, ◌≢◌, ◌⊎◌, ℕ, ◌<◌, ◌≤◌, Bool, true, false, ◌&&◌, nat_eq, List, [], ◌∷◌, length, All, Any, AllPairs, Option, None, Some}
+use Rattle.std.specs.Prelude.{◌≡◌, ◌≢◌, ◌⊎◌, ℕ, ◌<◌, ◌≤◌, Bool, true, false, ◌&&◌, nat_eq, nat_le, if◌then◌else◌, List, [], ◌∷◌, length, map, filter, take, not, All, Any, AllPairs, Option, None, Some, is_some}
 use Rattle.std.specs.List.{list_any, list_all}
 use Rattle.txn_core.specs.declared.reason.Reason.{Reason}
 use Rattle.txn_core.specs.declared.message.Message.{Message}
@@ -12,12 +12,22 @@ use Rattle.txn_core.specs.declared.ruling.Ruling.TheVariants.{Carries, Refuses}
 use Rattle.txn_core.specs.Service.{Service, Asked, Reply, Event, History}
 use Rattle.txn_core.specs.State.{State, holder, last, IsAmong, here, state_after}
 use Rattle.txn_core.specs.Serial.{begun_stamp, begun_actions}
-use Rattle.txn_core.specs.Answers.{get_answer, write_answer, prepare_answer, apply_answer, release_answer, version_answer, begin_answer, has_record, decide_answer, done_answer, forget_answer, fate_answer, recall_answer, unfinished, page_answer, out_answer, feed_answer, ack_answer}
+use Rattle.txn_core.specs.Answers.{get_answer, write_answer, expire_answer, prepare_answer, apply_answer, release_answer, version_answer, begin_answer, has_record, decide_answer, done_answer, forget_answer, fate_answer, recall_answer, unfinished, page_answer, out_answer, feed_answer, ack_answer}
 use Rattle.index_feed.specs.declared.change.Change.{Change}
 use Rattle.index_feed.specs.Feed.{Out, is_fed, out}
 use Rattle.txn_core.specs.Indexing.{indexed}
 use Rattle.txn_core.specs.Feeding.{change, has_sequence, feed_after, rows_for}
 use Rattle.txn_core.specs.History.{is_accepted, reason_of, effects, Had, begins, commits, cancels, finishes, forgets, finds_no_table, is_own_begin, reasons_of, IsTimely, found_kept}
+
+-- put before the first whose number is not less
+abbrev pub placed_by : {X : Type 0} → (X → ℕ) → X → List X → List X
+placed_by number x [] = x ∷ []
+placed_by number x (y ∷ ys) = if nat_le (number x) (number y) then x ∷ (y ∷ ys) else y ∷ placed_by number x ys
+
+-- these in the order of their numbers, those of one number as they stand
+abbrev pub in_order_of : {X : Type 0} → (X → ℕ) → List X → List X
+in_order_of number [] = []
+in_order_of number (x ∷ xs) = placed_by number x (in_order_of number xs)
 
 module _ {K V A F C D Q B : Type 0} (S : Service K V A F C D Q B) where
   -- the state after these entries
@@ -37,6 +47,15 @@ module _ {K V A F C D Q B : Type 0} (S : Service K V A F C D Q B) where
   -- what an action does there
   abbrev pub outcome_in : State K V A C → A → Outcome V F
   outcome_in w a = S.core.act w.catalog a (w.spot (S.core.key_of a)).row
+
+  -- an item, where it is expired at a moment
+  abbrev pub only_expired : C → K → ℕ → Option V → Option V
+  only_expired c k moment None = None
+  only_expired c k moment (Some v) = if S.core.expired c k v moment then Some v else None
+
+  -- the item of a key with what it holds is expired at a moment, and no transaction holds it
+  abbrev pub is_due : State K V A C → ℕ → K × V → Bool
+  is_due w moment x = S.core.expired w.catalog x.0 x.1 moment && not (is_some (w.spot x.0).pend)
 
   -- the least number, in the first cell that has one, of those that hold an item of the command's table
   pub record IsInTheWay (w : State K V A C) (d : D) (n : ℕ) : Type 0 where
@@ -80,6 +99,14 @@ module _ {K V A F C D Q B : Type 0} (S : Service K V A F C D Q B) where
       let c = (state es).catalog in
       page_answer (S.serves c page) (S.page c (rows_for S es (S.page_cell page) (S.page_index page)) page)
 
+  -- the keys of those among these items that are expired and that no transaction holds, by the numbers of their tables
+  abbrev pub due_among : State K V A C → ℕ → List (K × V) → List K
+  due_among w moment rows = map (λ x. x.0) (in_order_of (λ x. S.core.table x.0) (filter (λ x. is_due w moment x) rows))
+
+  -- of a cell's items, which come in the order of keys
+  abbrev pub expired_keys : History S → ℕ → ℕ → List K
+  expired_keys es cell moment = due_among (state es) moment (rows_for S es cell None)
+
   -- the first change in a source's outbox
   abbrev pub out_after : History S → ℕ → Option (Out K V)
   out_after es source = out (indexed S.core S.index) (feed_after S es) source
@@ -96,6 +123,11 @@ module _ {K V A F C D Q B : Type 0} (S : Service K V A F C D Q B) where
       let w = state es in
       let k = S.core.key_of action in
       a ≡ write_answer (there_in w k) (holder_in w k) (w.spot k).row (outcome_in w action)
+  IsAnswer es moment (Message.Expire action) a =
+      let w = state es in
+      let k = S.core.key_of action in
+      let over = only_expired w.catalog k moment (w.spot k).row in
+      a ≡ expire_answer (there_in w k) (holder_in w k) over (outcome_in w action)
   IsAnswer es moment (Message.Prepare n stamp action) a =
       let w = state es in
       let k = S.core.key_of action in
@@ -123,6 +155,8 @@ module _ {K V A F C D Q B : Type 0} (S : Service K V A F C D Q B) where
   IsAnswer es moment (Message.Ask question) a = a ≡ Answer.Told (S.tell (state es).catalog question)
   IsAnswer es moment (Message.QueryPage page) a = a ≡ page_after es page
   IsAnswer es moment (Message.ScanPage page) a = a ≡ page_after es page
+  IsAnswer es moment (Message.ExpiredKeys cell limit) a =
+      (cell < S.control) × (a ≡ Answer.ExpiredList (take limit (expired_keys es cell moment)))
   IsAnswer es moment (Message.Pendings cell) a = (cell < S.control) × IsPendingList (state es) cell a
   IsAnswer es moment (Message.PeekOut source) a =
       (source < S.control) × (a ≡ out_answer S.core.cell_of (out_after es source))
@@ -222,12 +256,14 @@ module _ {K V A F C D Q B : Type 0} (S : Service K V A F C D Q B) where
   abbrev pub sent_to : Asked S → Option ℕ
   sent_to (Message.Get key) = Some (S.core.cell_of key)
   sent_to (Message.Write action) = Some (S.core.cell_of (S.core.key_of action))
+  sent_to (Message.Expire action) = Some (S.core.cell_of (S.core.key_of action))
   sent_to (Message.Prepare n stamp action) = Some (S.core.cell_of (S.core.key_of action))
   sent_to (Message.Apply n key) = Some (S.core.cell_of key)
   sent_to (Message.Release n key) = Some (S.core.cell_of key)
   sent_to (Message.ReadVersion key) = Some (S.core.cell_of key)
   sent_to (Message.QueryPage page) = Some (S.page_cell page)
   sent_to (Message.ScanPage page) = Some (S.page_cell page)
+  sent_to (Message.ExpiredKeys cell limit) = Some cell
   sent_to (Message.Pendings cell) = Some cell
   sent_to (Message.PeekOut source) = Some source
   sent_to (Message.ApplyIndex source sequence index row_key after) = Some (S.core.cell_of row_key)

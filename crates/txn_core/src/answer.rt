@@ -47,6 +47,13 @@ pub enum Answer<K, V, A, F, B> {
         /// Why.
         fault: F,
     },
+    /// An Expire: the item was there and expired, and is removed.
+    Expired {
+        /// The item before.
+        old: V,
+    },
+    /// An Expire: no expired item is there, or its action doesn't remove it.
+    Kept,
     /// A Prepare: the item is held for the transaction.
     Accepted,
     /// A Prepare: the item was changed at a stamp that isn't earlier.
@@ -74,6 +81,12 @@ pub enum Answer<K, V, A, F, B> {
     Part {
         /// The rows, and where to go on.
         told: B,
+    },
+    /// An ExpiredKeys: the keys of expired items, by the numbers of their tables, those of one table
+    /// in the order of keys.
+    ExpiredList {
+        /// The keys.
+        keys: Seq<K>,
     },
     /// A Pendings: the items of the cell that a transaction holds, each once.
     PendingList {

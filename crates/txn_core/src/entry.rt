@@ -1,12 +1,11 @@
 ghost use Rattle.std.specs.Prelude.{◌≡◌};
-ghost use Rattle.txn_core.specs.History.{begins, commits, cancels, finishes, forgets, finds_no_table, is_own_begin, effect, reasons_in};
+ghost use Rattle.txn_core.specs.History.{begins, commits, cancels, finishes, forgets, finds_no_table, is_own_begin, effect};
 ghost use Rattle.txn_core.specs.Replay.{tells, stamp_by, actions_by};
 
 use crate::answer::Answer;
 use crate::fact::Fact;
 use crate::fate::Fate;
 use crate::message::Message;
-use crate::reason::Reason;
 use crate::rules::Rules;
 use crate::stamp::Stamp;
 
@@ -144,24 +143,6 @@ impl<K, V, A, F, D, Q, B> Entry<K, V, A, F, D, Q, B> {
         match (&self.message, &self.answer) {
             (Message::Begin { actions, .. }, Answer::Begun { stamp, .. })
                 if stamp.number == number => { actions.as_slice() }
-            _ => older,
-        }
-    }
-
-    /// The reasons that the number's decision carried, where this is its first Decide, else the
-    /// older ones.
-    pub fn reasons_or<'a>(&'a self, number: u64, older: &'a [Reason<V, F>]) -> &'a [Reason<V, F>]
-        ensures { result.now ≡ reasons_in number self.now.message self.now.answer older.now }
-    {
-        match (&self.message, &self.answer) {
-            (
-                Message::Decide {
-                    number: decided,
-                    reasons,
-                    ..
-                },
-                Answer::Decided { first: true, .. },
-            ) if *decided == number => { reasons.as_slice() }
             _ => older,
         }
     }

@@ -7,7 +7,7 @@
 //! entries change in `specs/History.antt` and `specs/State.antt`, and the one order, with the
 //! tables that it makes, in `specs/Serial.antt`, with no word of cells.
 ghost use Rattle.std.specs.Prelude.{ℕ};
-ghost use Rattle.txn_core.specs.Laws.{RowsAreShown, ImagesAreTables, NumbersAreDecidedOnce, CommittedStandOnce, ActionsKeepTheirOutcome, HeldIsAccepted, FirstDecisionStands, OthersLeaveTheOrder, WritesAreSerial, CatalogIsSerial, RemovalsLeaveNone, RemovalsAreSingle, StampsRise, GetsAreShown, PointsNeverFall, PointsPassOwn, TokensDrawOnce, LaterBeginsName, TimeEndsLife, CancelEndsLife, StaleBeginsAreReal, RepeatsAreDone, ReadsAreAtOnePoint, HeldIsReal, LateIsReal, MovedIsReal, ReadHoldersAreReal, MovedItemIsReal, CancelsAreReal, BeginningsAllow, RulesAreAll};
+ghost use Rattle.txn_core.specs.Laws.{RowsAreShown, ImagesAreTables, NumbersAreDecidedOnce, CommittedStandOnce, ActionsKeepTheirOutcome, HeldIsAccepted, FirstDecisionStands, OthersLeaveTheOrder, WritesAreSerial, ExpirationsAreSerial, CatalogIsSerial, RemovalsLeaveNone, RemovalsAreSingle, StampsRise, GetsAreShown, PointsNeverFall, PointsPassOwn, TokensDrawOnce, LaterBeginsName, TimeEndsLife, CancelEndsLife, StaleBeginsAreReal, RepeatsAreDone, ReadsAreAtOnePoint, HeldIsReal, LateIsReal, MovedIsReal, ReadHoldersAreReal, MovedItemIsReal, CancelsAreReal, BeginningsAllow, RulesAreAll};
 
 use crate::rules::Rules;
 
@@ -22,8 +22,8 @@ pub fn rows_are_shown<R: Rules>()
 /// [One fate]. Each number is decided at most once: a later Decide doesn't decide. A committed one
 /// stands in the one order once and whole, no other one stands there, and at its commit each of its
 /// actions does to the tables what it was held for: that is what an accepted Prepare of it made. No
-/// message but an accepted Write, the Decide that commits and a command that is carried out changes
-/// the order or its tables, be it repeated or late.
+/// message but an accepted Write, an expiration, the Decide that commits and a command that is carried
+/// out changes the order or its tables, be it repeated or late.
 pub fn one_fate<R: Rules>()
     ensures once { (n : ℕ) → NumbersAreDecidedOnce (R.protocol n) }
     ensures whole { (n : ℕ) → CommittedStandOnce (R.protocol n) }
@@ -41,6 +41,13 @@ pub fn writes_are_serial<R: Rules>()
     ensures catalog { (n : ℕ) → CatalogIsSerial (R.protocol n) }
 {}
 
+/// [Expired]. An expiration is answered by the tables of the one order before it: it found their
+/// item, which was expired at its moment, and its action removes it; it was kept, since there is no
+/// such item; or it names why not.
+pub fn expirations_are_serial<R: Rules>()
+    ensures { (n : ℕ) → ExpirationsAreSerial (R.protocol n) }
+{}
+
 /// The write of an item's removal leaves the item absent, in its cell and in the tables, and stands
 /// in the one order as any other accepted write does.
 pub fn removals_leave_none<R: Rules>()
@@ -56,8 +63,8 @@ pub fn timestamp_order<R: Rules>()
 
 /// [Reads go forward]. A Get is what a reader is shown before its entry, and the point of the
 /// history at which an item is shown is never before the one at which an earlier reader was shown
-/// it. After an accepted Write of an item, or its Apply, that point is past the entry: who was
-/// answered so sees what it wrote.
+/// it. After an accepted Write of an item, its expiration, or its Apply, that point is past the entry:
+/// who was answered so sees what it wrote.
 pub fn reads_go_forward<R: Rules>()
     ensures shown { (n : ℕ) → GetsAreShown (R.protocol n) }
     ensures forward { (n : ℕ) → PointsNeverFall (R.protocol n) }

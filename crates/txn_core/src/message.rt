@@ -20,6 +20,11 @@ pub enum Message<K, V, A, F, D, Q> {
         /// What is done to its item.
         action: A,
     },
+    /// Carries out an action that removes its item, where the item is there and expired.
+    Expire {
+        /// What removes its item.
+        action: A,
+    },
     /// Holds the action's item for a transaction, where the action can be carried out.
     Prepare {
         /// The transaction's number.
@@ -57,6 +62,13 @@ pub enum Message<K, V, A, F, D, Q> {
     ScanPage {
         /// Which page: of which table and index, in which places, from where on.
         page: Q,
+    },
+    /// The keys of a partition's expired items that no transaction holds.
+    ExpiredKeys {
+        /// Which partition.
+        cell: u32,
+        /// How many keys at most.
+        limit: u32,
     },
     /// The items of a partition that a transaction holds.
     Pendings {

@@ -3,7 +3,7 @@
 ghost use Rattle.std.specs.Prelude.{◌≡◌, ℕ, reverse};
 ghost use Rattle.std.specs.List.{list_any};
 ghost use Rattle.txn_core.specs.Serial.{begun_stamp, begun_actions};
-ghost use Rattle.txn_core.specs.History.{effects, is_own_begin, reasons_of};
+ghost use Rattle.txn_core.specs.History.{effects, is_own_begin};
 ghost use Rattle.txn_core.specs.Legal.{accepts, applies, releases, feeds};
 ghost use Rattle.txn_core.specs.Replay.{tells, tells_on};
 
@@ -11,7 +11,6 @@ use crate::answer::Answer;
 use crate::entry::Event;
 use crate::fact::{Fact, ItemFact};
 use crate::message::Message;
-use crate::reason::Reason;
 use crate::rules::Rules;
 use crate::stamp::Stamp;
 
@@ -148,17 +147,6 @@ pub fn actions_of<R: Rules>(past: &[Event<R>], number: u64) -> &[R::Action]
     let mut found: &[R::Action] = &[];
     for entry in past {
         found = entry.actions_or(number, found);
-    }
-    found
-}
-
-/// The reasons that the number's decision carried.
-pub fn reasons_of<R: Rules>(past: &[Event<R>], number: u64) -> &[Reason<R::Value, R::Fault>]
-    ensures { result.now ≡ reasons_of (reverse past.now) number }
-{
-    let mut found: &[Reason<R::Value, R::Fault>] = &[];
-    for entry in past {
-        found = entry.reasons_or(number, found);
     }
     found
 }

@@ -6,7 +6,6 @@ use crate::outcome::Outcome;
 use crate::ruling::Ruling;
 use index_feed::Row;
 use std::alloc::{AllocError as NoMemory, Global};
-use std::cmp::Ordering;
 
 /// What the protocol needs to know of tables: which item a key stands for, where it lives, what
 /// actions do, and what the catalog answers.
@@ -39,20 +38,10 @@ pub trait Rules {
     fn is_same(left: &Self::Key, right: &Self::Key) -> bool
         ensures { (partitions : ℕ) → result ≡ (protocol partitions).core.same left.now right.now };
 
-    /// The order of keys.
-    fn compare(left: &Self::Key, right: &Self::Key) -> Ordering
-        ensures { (partitions : ℕ) → result ≡ (protocol partitions).index.cmp left.now right.now };
-
     /// The partition in which an item lives, or a row of an index.
     fn cell_of(partitions: u32, key: &Self::Key) -> u32
         requires { 1 ≤ partitions }
         ensures { result ≡ (protocol partitions).core.cell_of key.now };
-
-    /// The cell that comes after the partitions: that of the catalog's answers, of transactions and
-    /// of tokens.
-    fn control(partitions: u32) -> u32
-        requires { 1 ≤ partitions }
-        ensures { result ≡ (protocol partitions).control };
 
     /// The partition of a page of rows.
     fn page_cell(partitions: u32, page: &Self::Question) -> u32
@@ -70,7 +59,8 @@ pub trait Rules {
         action: &Self::Action,
         item: Option<&Self::Value>,
     ) -> Result<Outcome<Self::Value, Self::Fault>, NoMemory>
-        ensures { IfOk result (λ outcome. (partitions : ℕ) → outcome ≡ (protocol partitions).core.act catalog.now action.now (option_copied item.entry)) };
+        ensures { IfOk result (λ outcome. (partitions : ℕ) → outcome
+            ≡ (protocol partitions).core.act catalog.now action.now (option_copied item.entry)) };
 
     /// The action that removes an item, whatever it holds.
     fn removal(alloc: Global, key: &Self::Key) -> Result<Self::Action, NoMemory>
@@ -156,16 +146,6 @@ pub trait Rules {
     fn page_index(page: &Self::Question) -> Option<u64>
         ensures { (partitions : ℕ) → result ≡ (protocol partitions).page_index page.now };
 
-    /// What a page tells of the rows of its cell: the cell's items, or its rows of the page's index,
-    /// in the order of their keys.
-    fn page(
-        alloc: Global,
-        catalog: &Self::Catalog,
-        rows: &[(Self::Key, Self::Value)],
-        page: &Self::Question,
-    ) -> Result<Self::Told, NoMemory>
-        ensures { IfOk result (λ told. (partitions : ℕ) → told ≡ (protocol partitions).page catalog.now rows.now page.now) };
-
     /// The refusal of a command's name or number, which comes before all else.
     fn refuses(
         alloc: Global,
@@ -173,10 +153,6 @@ pub trait Rules {
         catalog: &Self::Catalog,
     ) -> Result<Option<Self::Told>, NoMemory>
         ensures { IfOk result (λ refusal. (partitions : ℕ) → refusal ≡ (protocol partitions).refuses command.now catalog.now) };
-
-    /// Whether an item is of the command's table.
-    fn concerns(command: &Self::Command, catalog: &Self::Catalog, key: &Self::Key) -> bool
-        ensures { (partitions : ℕ) → result ≡ (protocol partitions).concerns command.now catalog.now key.now };
 
     /// What becomes of a command that nothing stands in the way of, at its moment.
     fn rule(

@@ -1,15 +1,15 @@
 //! One round of reads.
 
 ghost use Rattle.std.specs.Prelude.{◌≡◌, [], ◌∷◌, ◌++◌, IfOk, IfErr, OnOk};
-ghost use Rattle.cluster.specs.Steps.{partitions_of};
+ghost use Rattle.cluster.specs.Steps.{IsAtRest, partitions_of};
 ghost use Rattle.cluster.specs.Counts.{CountsUntil};
 ghost use Rattle.txn_reader.specs.Reads.{IsRead, IsRound, StopsAfter};
 
 use crate::item_version::ItemVersion;
 use base_types::Seq;
-use cluster::{Cluster, StepError, TableWorld, ask};
+use cluster::{Caller, StepError, TableWorld};
 use partition::PageRules;
-use std::alloc::{AllocError as NoMemory, Global};
+use std::alloc::AllocError as NoMemory;
 use std::sync::Wait;
 use turnstile::Pass;
 use txn_core::{Answer, Message};
@@ -25,22 +25,19 @@ pub(crate) enum Round<V> {
 
 /// Reads the item of a key; none, where its table is gone.
 fn read<R: PageRules, T: Wait>(
-    cluster: &Cluster<R>,
-    rt: &T,
-    alloc: Global,
+    caller: &Caller<'_, R, T>,
     pass: &mut Pass<TableWorld<R>>,
     key: &R::Key,
 ) -> Result<Option<ItemVersion<R::Value>>, StepError>
 where
     R::Fault: Copy,
-    requires of { pass.old.turnstile ≡ cluster.now.id }
-    requires free { pass.old.turns ≡ [] }
-    ensures ok { IfOk result (λ read. IsRead (R.protocol (partitions_of cluster.now)) pass.old key.now read pass.new) }
-    ensures err { IfErr result (λ why. CountsUntil (R.protocol (partitions_of cluster.now)) pass.old [] why pass.new) }
+    requires rests { IsAtRest caller.now pass.old }
+    ensures ok { IfOk result (λ read. IsRead (R.protocol (partitions_of caller.now)) pass.old key.now read pass.new) }
+    ensures err { IfErr result (λ why. CountsUntil (R.protocol (partitions_of caller.now)) pass.old [] why pass.new) }
 {
-    let cell = cluster.cell_of(key);
-    let key = R::copy_of_key(alloc, key)?;
-    let answer = ask(cluster, rt, alloc, pass, cell, Message::ReadVersion { key })?;
+    let cell = caller.cell_of(key);
+    let key = R::copy_of_key(caller.alloc(), key)?;
+    let answer = caller.ask(pass, cell, Message::ReadVersion { key })?;
     match answer {
         Answer::Version {
             item,
@@ -66,22 +63,19 @@ fn keep<V: Drop>(found: &mut Seq<ItemVersion<V>>, version: ItemVersion<V>) -> Re
 
 /// Reads the items of all keys in order, up to one whose table is gone.
 pub(crate) fn read_round<R: PageRules, T: Wait>(
-    cluster: &Cluster<R>,
-    rt: &T,
-    alloc: Global,
+    caller: &Caller<'_, R, T>,
     pass: &mut Pass<TableWorld<R>>,
     keys: &[R::Key],
 ) -> Result<Round<R::Value>, StepError>
 where
     R::Fault: Copy,
-    requires of { pass.old.turnstile ≡ cluster.now.id }
-    requires free { pass.old.turns ≡ [] }
-    ensures ok { IfOk result (λ round. IsRound (R.protocol (partitions_of cluster.now)) pass.old keys.now round pass.new) }
-    ensures err { IfErr result (λ why. StopsAfter (R.protocol (partitions_of cluster.now)) [] pass.old keys.now why pass.new) }
+    requires rests { IsAtRest caller.now pass.old }
+    ensures ok { IfOk result (λ round. IsRound (R.protocol (partitions_of caller.now)) pass.old keys.now round pass.new) }
+    ensures err { IfErr result (λ why. StopsAfter (R.protocol (partitions_of caller.now)) [] pass.old keys.now why pass.new) }
 {
-    let mut found = Seq::with_capacity(alloc, keys.len())?;
+    let mut found = Seq::with_capacity(caller.alloc(), keys.len())?;
     for key in keys {
-        match read(cluster, rt, alloc, pass, key)? {
+        match read(caller, pass, key)? {
             Some(version) => keep(&mut found, version)?,
             None => return Ok(Round::NoTable(found.len())),
         }

@@ -40,10 +40,12 @@ module _ {K V A F C D Q B : Type 0} (S : Service K V A F C D Q B) where
       → ((page : Q) → m ≡ Message.ScanPage page → ⊥) → is_copied m ≡ true
   copied k (Message.Get key) yes' query scan = refl
   copied k (Message.Write action) yes' query scan = refl
+  copied k (Message.Expire action) yes' query scan = refl
   copied k (Message.Prepare n stamp action) yes' query scan = refl
   copied k (Message.Apply n key) yes' query scan = refl
   copied k (Message.Release n key) yes' query scan = refl
   copied k (Message.ReadVersion key) yes' query scan = refl
+  copied k (Message.ExpiredKeys cell limit) yes' query scan = refl
   copied k (Message.Pendings cell) yes' query scan = refl
   copied k (Message.PeekOut source) yes' query scan = refl
   copied k (Message.ApplyIndex source sequence index row_key after) yes' query scan = refl
@@ -54,21 +56,24 @@ module _ {K V A F C D Q B : Type 0} (S : Service K V A F C D Q B) where
 
   -- what is copied names an item, but for the messages of the feed and lists of held items
   pub about_item :
-      (m : Asked S) → is_copied m ≡ true → ((cell : ℕ) → m ≡ Message.Pendings cell → ⊥) → ((source : ℕ) → m ≡ Message.PeekOut source → ⊥)
+      (m : Asked S) → is_copied m ≡ true → ((cell : ℕ) → m ≡ Message.Pendings cell → ⊥) → ((cell limit : ℕ) → m ≡ Message.ExpiredKeys cell limit → ⊥)
+      → ((source : ℕ) → m ≡ Message.PeekOut source → ⊥)
       → ((source sequence index : ℕ) (key : K) (after : Option V) → m ≡ Message.ApplyIndex source sequence index key after → ⊥)
       → ((source sequence : ℕ) → m ≡ Message.Ack source sequence → ⊥) → is_about_item m ≡ true
-  about_item (Message.Get key) yes' pendings peek apply ack = refl
-  about_item (Message.Write action) yes' pendings peek apply ack = refl
-  about_item (Message.Prepare n stamp action) yes' pendings peek apply ack = refl
-  about_item (Message.Apply n key) yes' pendings peek apply ack = refl
-  about_item (Message.Release n key) yes' pendings peek apply ack = refl
-  about_item (Message.ReadVersion key) yes' pendings peek apply ack = refl
-  about_item (Message.Pendings cell) yes' pendings peek apply ack = absurd (pendings cell refl)
-  about_item (Message.PeekOut source) yes' pendings peek apply ack = absurd (peek source refl)
-  about_item (Message.ApplyIndex source sequence index row_key after) yes' pendings peek apply ack =
+  about_item (Message.Get key) yes' pendings expired peek apply ack = refl
+  about_item (Message.Write action) yes' pendings expired peek apply ack = refl
+  about_item (Message.Expire action) yes' pendings expired peek apply ack = refl
+  about_item (Message.Prepare n stamp action) yes' pendings expired peek apply ack = refl
+  about_item (Message.Apply n key) yes' pendings expired peek apply ack = refl
+  about_item (Message.Release n key) yes' pendings expired peek apply ack = refl
+  about_item (Message.ReadVersion key) yes' pendings expired peek apply ack = refl
+  about_item (Message.ExpiredKeys cell limit) yes' pendings expired peek apply ack = absurd (expired cell limit refl)
+  about_item (Message.Pendings cell) yes' pendings expired peek apply ack = absurd (pendings cell refl)
+  about_item (Message.PeekOut source) yes' pendings expired peek apply ack = absurd (peek source refl)
+  about_item (Message.ApplyIndex source sequence index row_key after) yes' pendings expired peek apply ack =
       absurd (apply source sequence index row_key after refl)
-  about_item (Message.Ack source sequence) yes' pendings peek apply ack = absurd (ack source sequence refl)
-  about_item _ yes' pendings peek apply ack = absurd (cc)
+  about_item (Message.Ack source sequence) yes' pendings expired peek apply ack = absurd (ack source sequence refl)
+  about_item _ yes' pendings expired peek apply ack = absurd (cc)
 
   -- what goes to the control cell is about transactions, but for questions
   pub of_ledger : (m : Asked S) → goes_to_control S m ≡ true → ((question : Q) → m ≡ Message.Ask question → ⊥) → is_of_ledger m ≡ true
@@ -126,6 +131,8 @@ module _ {K V A F C D Q B : Type 0} (S : Service K V A F C D Q B) where
   no_home law some (Message.Get key) one no' none es moment a is = none (S.core.cell_of key) refl (law.cell_below some key)
   no_home law some (Message.Write action) one no' none es moment a is =
       none (S.core.cell_of (S.core.key_of action)) refl (law.cell_below some (S.core.key_of action))
+  no_home law some (Message.Expire action) one no' none es moment a is =
+      none (S.core.cell_of (S.core.key_of action)) refl (law.cell_below some (S.core.key_of action))
   no_home law some (Message.Prepare n stamp action) one no' none es moment a is =
       none (S.core.cell_of (S.core.key_of action)) refl (law.cell_below some (S.core.key_of action))
   no_home law some (Message.Apply n key) one no' none es moment a is = none (S.core.cell_of key) refl (law.cell_below some key)
@@ -133,6 +140,7 @@ module _ {K V A F C D Q B : Type 0} (S : Service K V A F C D Q B) where
   no_home law some (Message.ReadVersion key) one no' none es moment a is = none (S.core.cell_of key) refl (law.cell_below some key)
   no_home law some (Message.QueryPage page) one no' none es moment a is = none (S.page_cell page) refl (law.page_below some page)
   no_home law some (Message.ScanPage page) one no' none es moment a is = none (S.page_cell page) refl (law.page_below some page)
+  no_home law some (Message.ExpiredKeys cell limit) one no' none es moment a is = none cell refl is.0
   no_home law some (Message.Pendings cell) one no' none es moment a is = none cell refl is.0
   no_home law some (Message.PeekOut source) one no' none es moment a is = none source refl is.0
   no_home law some (Message.ApplyIndex source sequence index row_key after) one no' none es moment a is =
@@ -161,12 +169,18 @@ module _ {K V A F C D Q B : Type 0} (S : Service K V A F C D Q B) where
   nothing_beside (Message.ApplyIndex source s index key after) other b = other source s index key after refl
   nothing_beside (Message.Get key) other b = true_false true refl b.unserved
   nothing_beside (Message.Write action) other b = true_false true refl b.unserved
+  nothing_beside (Message.Expire action) other b = true_false true refl b.unserved
   nothing_beside (Message.Prepare n stamp action) other b = true_false true refl b.unserved
   nothing_beside (Message.Apply n key) other b = true_false true refl b.unserved
   nothing_beside (Message.Release n key) other b = true_false true refl b.unserved
   nothing_beside (Message.ReadVersion key) other b = true_false true refl b.unserved
   nothing_beside (Message.QueryPage page) other b = true_false true refl b.unserved
   nothing_beside (Message.ScanPage page) other b = true_false true refl b.unserved
+  nothing_beside (Message.ExpiredKeys cell limit) other b =
+      let none = below_not cell S.control b.unserved in
+      let same = some_is cell b.to b.sent in
+      let below = b.below in
+      omega arith
   nothing_beside (Message.Pendings cell) other b =
       let none = below_not cell S.control b.unserved in
       let same = some_is cell b.to b.sent in

@@ -41,12 +41,14 @@ module _ {K V A F C D Q B : Type 0} (S : Service K V A F C D Q B) where
       → IsAnswer S es moment m b → a ≡ b
   one_answer es moment (Message.Get key) a b no' x y = x ∙ sym y
   one_answer es moment (Message.Write action) a b no' x y = x ∙ sym y
+  one_answer es moment (Message.Expire action) a b no' x y = x ∙ sym y
   one_answer es moment (Message.Prepare n stamp action) a b no' x y = x ∙ sym y
   one_answer es moment (Message.Apply n key) a b no' x y = x ∙ sym y
   one_answer es moment (Message.Release n key) a b no' x y = x ∙ sym y
   one_answer es moment (Message.ReadVersion key) a b no' x y = x ∙ sym y
   one_answer es moment (Message.QueryPage page) a b no' x y = x ∙ sym y
   one_answer es moment (Message.ScanPage page) a b no' x y = x ∙ sym y
+  one_answer es moment (Message.ExpiredKeys cell limit) a b no' x y = x.1 ∙ sym y.1
   one_answer es moment (Message.Pendings cell) a b no' x y = absurd (cc)
   one_answer es moment (Message.PeekOut source) a b no' x y = x.1 ∙ sym y.1
   one_answer es moment (Message.ApplyIndex source sequence index row_key after) a b no' x y = x ∙ sym y

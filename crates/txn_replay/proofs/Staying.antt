@@ -7,7 +7,7 @@ use Rattle.txn_core.specs.declared.fate.Fate.{Fate}
 use Rattle.txn_core.specs.Service.{Service, Asked, Reply, Event, History}
 use Rattle.txn_core.specs.Effects.{Effect, Wrote, Prepared, Applied, Released, Finished, Forgot}
 use Rattle.txn_core.specs.State.{State, step}
-use Rattle.txn_core.specs.History.{begin_effect, decide_effect, effect_of, is_accepted, is_applied, is_finished, is_forgotten, is_released, is_written, where_so}
+use Rattle.txn_core.specs.History.{begin_effect, decide_effect, effect_of, is_accepted, is_applied, is_finished, is_forgotten, is_released, is_written, is_expired, where_so}
 use Rattle.txn_core.specs.Replay.{is_command}
 use Rattle.txn_core.specs.Cells.{of_cell, reaches}
 
@@ -41,6 +41,7 @@ module _ {K V A F C D Q B : Type 0} (S : Service K V A F C D Q B) where
     pub catalog_stays :
         (moment : ℕ) (m : Asked S) (a : Reply S) → is_command m ≡ false → (step S.core w (effect_of moment m a)).catalog ≡ w.catalog
     catalog_stays moment (Message.Write action) a no' = where_stays (is_written a) (Wrote action moment) refl
+    catalog_stays moment (Message.Expire action) a no' = where_stays (is_expired a) (Wrote action moment) refl
     catalog_stays moment (Message.Prepare n stamp action) a no' = where_stays (is_accepted a) (Prepared n stamp action) refl
     catalog_stays moment (Message.Apply n key) a no' = where_stays (is_applied a) (Applied n key) refl
     catalog_stays moment (Message.Release n key) a no' = where_stays (is_released a) (Released n key) refl

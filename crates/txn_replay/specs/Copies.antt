@@ -6,6 +6,7 @@ use Rattle.txn_core.specs.declared.message.Message.{Message}
 abbrev pub is_about_item : {K V A F D Q : Type 0} → Message K V A F D Q → Bool
 is_about_item (Message.Get key) = true
 is_about_item (Message.Write action) = true
+is_about_item (Message.Expire action) = true
 is_about_item (Message.Prepare n stamp action) = true
 is_about_item (Message.Apply n key) = true
 is_about_item (Message.Release n key) = true
@@ -16,10 +17,12 @@ is_about_item _ = false
 abbrev pub is_copied : {K V A F D Q : Type 0} → Message K V A F D Q → Bool
 is_copied (Message.Get key) = true
 is_copied (Message.Write action) = true
+is_copied (Message.Expire action) = true
 is_copied (Message.Prepare n stamp action) = true
 is_copied (Message.Apply n key) = true
 is_copied (Message.Release n key) = true
 is_copied (Message.ReadVersion key) = true
+is_copied (Message.ExpiredKeys cell limit) = true
 is_copied (Message.Pendings cell) = true
 is_copied (Message.PeekOut source) = true
 is_copied (Message.ApplyIndex source sequence index row_key after) = true

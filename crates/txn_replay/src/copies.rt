@@ -54,6 +54,9 @@ fn copy_about_item<R: Rules>(alloc: Global, message: &Asked<R>) -> Result<Asked<
         Message::Write { action } => Ok(Message::Write {
             action: R::copy_of_action(alloc, action)?,
         }),
+        Message::Expire { action } => Ok(Message::Expire {
+            action: R::copy_of_action(alloc, action)?,
+        }),
         Message::Prepare {
             number,
             stamp,
@@ -84,6 +87,10 @@ pub(crate) fn copy_of<R: Rules>(alloc: Global, message: &Asked<R>) -> Result<Ask
     ensures { IfOk result (λ copy. copy ≡ message.now) }
 {
     match message {
+        Message::ExpiredKeys { cell, limit } => Ok(Message::ExpiredKeys {
+            cell: *cell,
+            limit: *limit,
+        }),
         Message::Pendings { cell } => Ok(Message::Pendings { cell: *cell }),
         Message::PeekOut { source } => Ok(Message::PeekOut { source: *source }),
         Message::ApplyIndex {

@@ -111,6 +111,25 @@ fn are_equal_lists<R: Rules>(left: &[HeldItem<R::Key>], right: &[HeldItem<R::Key
     other.is_empty()
 }
 
+/// Whether the keys are equal, one by one.
+fn are_equal_keys<R: Rules>(left: &[R::Key], right: &[R::Key]) -> bool
+    ensures { IsTrue result ↔ (left.now ≡ right.now) }
+{
+    let mut one = left;
+    let mut other = right;
+    while let Some((first, rest)) = one.split_first() {
+        let Some((second, others)) = other.split_first() else {
+            return false;
+        };
+        if !R::are_equal_keys(first, second) {
+            return false;
+        }
+        one = rest;
+        other = others;
+    }
+    other.is_empty()
+}
+
 /// Whether both are one answer about an item, with what it carries.
 fn are_equal_of_items<R: Rules>(left: &Reply<R>, right: &Reply<R>) -> bool
     ensures { IsTrue result ↔ ((answer_kind left.now ≡ 1) × (left.now ≡ right.now)) }
@@ -130,6 +149,9 @@ fn are_equal_of_items<R: Rules>(left: &Reply<R>, right: &Reply<R>) -> bool
         }
         (Answer::Invalid { fault }, Answer::Invalid { fault: other }) => {
             R::are_equal_faults(fault, other)
+        }
+        (Answer::Expired { old }, Answer::Expired { old: other }) => {
+            R::are_equal_values(old, other)
         }
         (Answer::Late { stamp }, Answer::Late { stamp: other }) => *stamp == *other,
         (
@@ -153,6 +175,9 @@ fn are_equal_of_cells<R: Rules>(left: &Reply<R>, right: &Reply<R>) -> bool
     ensures { IsTrue result ↔ ((answer_kind left.now ≡ 2) × (left.now ≡ right.now)) }
 {
     match (left, right) {
+        (Answer::ExpiredList { keys }, Answer::ExpiredList { keys: other }) => {
+            are_equal_keys::<R>(keys.as_slice(), other.as_slice())
+        }
         (Answer::PendingList { pendings }, Answer::PendingList { pendings: other }) => {
             are_equal_lists::<R>(pendings.as_slice(), other.as_slice())
         }
@@ -263,6 +288,7 @@ fn are_equal_words<R: Rules>(left: &Reply<R>, right: &Reply<R>) -> bool
 {
     match (left, right) {
         (Answer::Stale, Answer::Stale) => true,
+        (Answer::Kept, Answer::Kept) => true,
         (Answer::Accepted, Answer::Accepted) => true,
         (Answer::Applied, Answer::Applied) => true,
         (Answer::Released, Answer::Released) => true,

@@ -2,8 +2,8 @@
 
 ghost use Rattle.std.specs.Prelude.{◌≡◌};
 
+use base_types::End;
 use number38::NumberFault;
-use std::alloc::AllocError as NoMemory;
 
 /// What is wrong with an update of an item.
 #[derive(Clone, Copy, Debug, PartialEq, Eq)]
@@ -26,28 +26,12 @@ pub enum EvalFault {
 }
 
 /// Why an evaluation gave nothing.
-#[derive(Debug, PartialEq, Eq, Drop)]
-pub enum EvalEnd {
-    /// The update has this fault.
-    Fault(EvalFault),
-    /// Memory was refused.
-    NoMemory,
-}
-
-impl From<NoMemory> for EvalEnd {
-    ghost use Rattle.update_eval.specs.declared.fault.EvalEnd.{EvalEnd};
-
-    ghost from_gives = { λ refused end. end ≡ EvalEnd.NoMemory };
-
-    fn from(_refused: NoMemory) -> EvalEnd {
-        EvalEnd::NoMemory
-    }
-}
+pub type EvalEnd = End<EvalFault>;
 
 impl From<EvalFault> for EvalEnd {
-    ghost use Rattle.update_eval.specs.declared.fault.EvalEnd.{EvalEnd};
+    ghost use Rattle.base_types.specs.declared.end.End.{End};
 
-    ghost from_gives = { λ fault end. end ≡ EvalEnd.Fault fault };
+    ghost from_gives = { λ fault end. end ≡ End.Fault fault };
 
     fn from(fault: EvalFault) -> EvalEnd {
         EvalEnd::Fault(fault)

@@ -1,4 +1,3 @@
-use Rattle.std.proofs.Common.{refl}
 use Rattle.std.proofs.lemmas.Result.{err_from_is_err_and}
 use Rattle.serde_json.specs.View.{view, members_view}
 use Rattle.api_request.proofs.Told.{batch_refused, batch_stated, batch_empty}
@@ -15,8 +14,8 @@ pub returns-in_ok-tables-in-Some : goal.returns-in_ok-tables-in-Some
 returns-in_ok-tables-in-Some c = (
   batch_stated (view c.args.json.now) (members_view c.in-Some.members.now.entries) c.in_ok-tables-in-Some.tables c.in-Some.ensures
       c.in_ok-tables-in-Some.ensures,
-  refl,
+  c.asks_capacity.ensures,
 )
 
 pub returns-in-None : goal.returns-in-None
-returns-in-None c = (batch_empty (view c.args.json.now) c.new.result c.in-None.ensures c.new.ensures, refl)
+returns-in-None c = (batch_empty (view c.args.json.now) c.new.result c.in-None.ensures c.new.ensures, c.asks_capacity-in-None.ensures)

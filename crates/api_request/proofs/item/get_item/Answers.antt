@@ -1,4 +1,3 @@
-use Rattle.std.proofs.Common.{refl}
 use Rattle.std.proofs.lemmas.Result.{err_from_is_err_and}
 use Rattle.serde_json.specs.View.{view}
 use Rattle.request_parts.specs.Parts.{projection_asks, StatesProjected}
@@ -20,7 +19,7 @@ returns c =
         key = told.0.key;
         projection = told.0.projection;
         consistent = c.flag_at.ensures;
-        capacity = refl;
+        capacity = c.asks_capacity.ensures;
       },
       told.1,
     )

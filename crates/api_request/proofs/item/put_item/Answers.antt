@@ -1,4 +1,4 @@
-use Rattle.std.proofs.Common.{ap, refl, ◌∙◌}
+use Rattle.std.proofs.Common.{ap, ◌∙◌}
 use Rattle.std.proofs.lemmas.Result.{err_from_is_err_and}
 use Rattle.serde_json.specs.View.{view}
 use Rattle.api_form.specs.declared.name.Name.TheVariants as name
@@ -23,7 +23,7 @@ returns c =
         values = told.0.values;
         return_values = c.returns_named.ensures ∙ ap returns_named c.text_at.ensures;
         show_old = c.shows_old.ensures;
-        capacity = refl;
+        capacity = c.asks_capacity.ensures;
       },
       told.1,
     )

@@ -1,4 +1,4 @@
-use Rattle.std.proofs.Common.{◌≡◌, true, unwrap_or, subst, Ok, sym, ◌∙◌, rules}
+use Rattle.std.proofs.Common.{◌≡◌, true, unwrap_or, subst, sym, ◌∙◌, rules}
 use Rattle.std.proofs.lemmas.Result.{err_from_is_err_and}
 use Rattle.serde_json.specs.View.{view}
 use Rattle.api_form.specs.declared.name.Name.TheVariants as name

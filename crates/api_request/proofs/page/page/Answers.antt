@@ -43,7 +43,7 @@ returns c =
         limit = made.limit ∙ ap (λ (x : Rows). x.limit) c.in_ok-rows.ensures;
         start = made.start ∙ ap (λ (x : Rows). x.start) c.in_ok-rows.ensures;
         consistent = made.consistent ∙ ap (λ (x : Rows). x.consistent) c.in_ok-rows.ensures;
-        capacity = made.capacity;
+        capacity = made.capacity ∙ ap (λ (x : Rows). x.capacity) c.in_ok-rows.ensures;
       },
       told.1,
     )

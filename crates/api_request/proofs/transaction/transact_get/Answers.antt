@@ -1,4 +1,3 @@
-use Rattle.std.proofs.Common.{refl}
 use Rattle.std.proofs.lemmas.Result.{err_from_is_err_and}
 use Rattle.serde_json.specs.View.{view, items_view}
 use Rattle.api_request.proofs.Totals.{gets_refused, gets_stated}
@@ -11,4 +10,4 @@ returns-in_err-reads c =
     (gets_refused (view c.args.json.now) (items_view c.list_at.result.now) c.in_err-reads.field-0.0 c.list_at.ensures c.in_err-reads.ensures)
 
 pub returns : goal.returns
-returns c = (gets_stated (view c.args.json.now) (items_view c.list_at.result.now) c.in_ok-reads.reads c.list_at.ensures c.in_ok-reads.ensures, refl)
+returns c = (gets_stated (view c.args.json.now) (items_view c.list_at.result.now) c.in_ok-reads.reads c.list_at.ensures c.in_ok-reads.ensures, c.asks_capacity.ensures)

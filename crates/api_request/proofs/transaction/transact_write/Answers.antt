@@ -1,6 +1,7 @@
-use Rattle.std.proofs.Common.{refl, None}
+use Rattle.std.proofs.Common.{◌∙◌}
 use Rattle.std.proofs.lemmas.Result.{err_from_is_err_and}
 use Rattle.serde_json.specs.View.{view, items_view}
+use Rattle.api_request.specs.Transactions.{used_if}
 use Rattle.api_request.proofs.Totals.{write_refused, write_stated}
 use Rattle.api_request.proofs.transaction.transact_write.Goals as goal
 
@@ -13,5 +14,6 @@ returns-in_err-actions c =
 pub returns : goal.returns
 returns c =
     write_stated (view c.args.json.now) (items_view c.list_at.result.now)
-    (record { actions = c.in_ok-actions.actions; token = c.in_ok-token.token; consumed = None })
-    c.list_at.ensures c.in_ok-actions.ensures c.in_ok-token.ensures refl
+    (record { actions = c.in_ok-actions.actions; token = c.in_ok-token.token; consumed = c.in_ok-consumed.consumed })
+    c.list_at.ensures c.in_ok-actions.ensures c.in_ok-token.ensures
+    (c.in_ok-consumed.ensures ∙ (λ i. used_if (c.asks_capacity.ensures i) (c.as_slice.ensures i)))

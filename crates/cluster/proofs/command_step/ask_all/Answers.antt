@@ -35,5 +35,5 @@ pub returns-in-Ok-clause-ok : goal.returns-in-Ok-clause-ok
 returns-in-Ok-clause-ok g c =
     let m = Message.Command c.args.command.now in
     added (g.R.Rules.protocol (c.args.turnstile.now.id.slots - 1)) c.args.pass.now c.take_turns.new.pass c.count_all.new.pass c.leave_all.new.pass
-    c.take_turns.new.pass.turns None None m m c.in-Ok.answer refl refl c.requires.free c.in_ok-turns.ensures.pass c.count_all.ensures.pass
+    c.take_turns.new.pass.turns None None m m c.in-Ok.answer refl refl c.requires.rests.free c.in_ok-turns.ensures.pass c.count_all.ensures.pass
     c.leave_all.ensures c.in_ok-turns.ensures.trail c.count_all.ensures.ends c.facts-in-Ok.ensures.legal

@@ -43,5 +43,5 @@ returns-in-Ok-serve-clause-ok g c =
     let n = c.args.turnstile.now.id.slots in
     let S = g.R.Rules.protocol (n - 1) in
     added S c.args.pass.now c.enter.new.pass c.count.new.pass c.leave.new.pass (ticket c.args.cell c.in-Ok.turn.number ∷ []) (Some c.in-Ok.turn.cell)
-    (Some c.args.cell) c.of-asked.result.value c.args.message c.in-Ok-serve.answer (ap Some c.in-Ok.ensures.turn.0) c.of-asked.ensures c.requires.free
+    (Some c.args.cell) c.of-asked.result.value c.args.message c.in-Ok-serve.answer (ap Some c.in-Ok.ensures.turn.0) c.of-asked.ensures c.requires.rests.free
     c.in-Ok.ensures.pass c.count.ensures.pass c.leave.ensures c.in-Ok.ensures.trail c.count.ensures.ends c.facts-in-Ok-serve.ensures.legal

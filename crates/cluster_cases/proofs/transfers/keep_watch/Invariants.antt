@@ -1,8 +1,5 @@
-use Rattle.std.proofs.Common.{◌≡◌, []}
+use Rattle.cluster.specs.Steps.{IsAtRest}
 use Rattle.cluster_cases.proofs.transfers.keep_watch.Given as goal
 
 abbrev pub invariant-loop-turn : goal.invariant-loop-turn
-invariant-loop-turn g l = record {
-  of : l.pass.turnstile ≡ l.shop.id;
-  free : l.pass.turns ≡ [];
-}
+invariant-loop-turn g l = IsAtRest l.caller l.pass

@@ -16,7 +16,7 @@ pub finish-requires-clause-next : goal.finish-requires-clause-next
 finish-requires-clause-next g c = λ told so. sym (c.next.ensures told so) ∙ c.in-Done.is
 
 pub returns-in-End-clause-ok : goal.returns-in-End-clause-ok
-returns-in-End-clause-ok g c = rests (g.R.Rules.protocol (c.args.cluster.now.id.slots - 1)) c.args.pass.now c.args.driver.now c.requires.driver
+returns-in-End-clause-ok g c = rests (g.R.Rules.protocol (c.args.caller.now.id.slots - 1)) c.args.pass.now c.args.driver.now c.requires.driver
 
 pub returns-in_ok-prepare-in-Prepare-clause-point : goal.returns-in_ok-prepare-in-Prepare-clause-point
 returns-in_ok-prepare-in-Prepare-clause-point g c = λ told so. ap point_after (sym c.in-Prepare.is ∙ c.next.ensures told so)

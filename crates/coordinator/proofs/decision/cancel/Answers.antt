@@ -6,12 +6,12 @@ use Rattle.coordinator.proofs.decision.cancel.Goals as goal
 
 pub decide-requires-clause-may : goal.decide-requires-clause-may
 decide-requires-clause-may g c =
-    cancel_allowed (g.R.Rules.protocol (c.args.cluster.now.id.slots - 1)) (reverse c.args.pass.now.front) c.args.driver.now c.args.pass.now.number
+    cancel_allowed (g.R.Rules.protocol (c.args.caller.now.id.slots - 1)) (reverse c.args.pass.now.front) c.args.driver.now c.args.pass.now.number
     c.replace-carried.result c.requires.driver c.requires.next c.replace-carried.ensures.value
 
 pub returns-in_err-decide-clause-err : goal.returns-in_err-decide-clause-err
 returns-in_err-decide-clause-err g c =
-    let S = g.R.Rules.protocol (c.args.cluster.now.id.slots - 1) in
+    let S = g.R.Rules.protocol (c.args.caller.now.id.slots - 1) in
     let p = c.args.pass.now in
     let q = c.decide.new.pass in
     let d = c.args.driver.now in
@@ -21,7 +21,7 @@ returns-in_err-decide-clause-err g c =
 
 pub returns-then-branch-clause-ok : goal.returns-then-branch-clause-ok
 returns-then-branch-clause-ok g c =
-    let S = g.R.Rules.protocol (c.args.cluster.now.id.slots - 1) in
+    let S = g.R.Rules.protocol (c.args.caller.now.id.slots - 1) in
     let is = c.requires.driver in
     let made = is.ready (c.requires.next is.told is.told_so) in
     cancel_known S c.args.pass.now c.decide.new.pass c.args.driver.now c.decide.new.driver c.replace-carried.new.dest c.replace-copy.result
@@ -30,5 +30,5 @@ returns-then-branch-clause-ok g c =
 
 pub returns-else-branch-clause-ok : goal.returns-else-branch-clause-ok
 returns-else-branch-clause-ok g c =
-    cancel_advances (g.R.Rules.protocol (c.args.cluster.now.id.slots - 1)) c.args.pass.now c.decide.new.pass c.args.driver.now c.decide.new.driver
+    cancel_advances (g.R.Rules.protocol (c.args.caller.now.id.slots - 1)) c.args.pass.now c.decide.new.pass c.args.driver.now c.decide.new.driver
     c.replace-carried.new.dest c.in_ok-decide.ensures.ok

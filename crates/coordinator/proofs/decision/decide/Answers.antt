@@ -11,13 +11,13 @@ use Rattle.coordinator.proofs.decision.decide.Goals as goal
 
 pub unreachable-requires : goal.unreachable-requires
 unreachable-requires g c =
-    is_answered (g.R.Rules.protocol (c.args.cluster.now.id.slots - 1)) (reverse c.args.pass.now.front) (reverse c.ask_ledger.new.pass.front)
-    c.args.pass.now (Some (c.args.cluster.now.id.slots - 1)) c.args.driver.now.number c.args.commit c.args.reasons c.in_ok-answer.answer
+    is_answered (g.R.Rules.protocol (c.args.caller.now.id.slots - 1)) (reverse c.args.pass.now.front) (reverse c.ask_ledger.new.pass.front)
+    c.args.pass.now (Some (c.args.caller.now.id.slots - 1)) c.args.driver.now.number c.args.commit c.args.reasons c.in_ok-answer.answer
     c.in_ok-answer.ensures.later c.in_default.not-Decided
 
 pub returns-clause-ok : goal.returns-clause-ok
 returns-clause-ok g c =
-    let n = c.args.cluster.now.id.slots - 1 in
+    let n = c.args.caller.now.id.slots - 1 in
     let S = g.R.Rules.protocol n in
     let p = c.args.pass.now in
     let q = c.ask_ledger.new.pass in
@@ -30,7 +30,7 @@ returns-clause-ok g c =
 
 pub returns-clause-fate : goal.returns-clause-fate
 returns-clause-fate g c = λ first.
-    let n = c.args.cluster.now.id.slots - 1 in
+    let n = c.args.caller.now.id.slots - 1 in
     let S = g.R.Rules.protocol n in
     let p = c.args.pass.now in
     let q = c.ask_ledger.new.pass in
@@ -43,7 +43,7 @@ returns-clause-fate g c = λ first.
 
 pub returns-clause-reasons : goal.returns-clause-reasons
 returns-clause-reasons g c = λ first.
-    let n = c.args.cluster.now.id.slots - 1 in
+    let n = c.args.caller.now.id.slots - 1 in
     let S = g.R.Rules.protocol n in
     let p = c.args.pass.now in
     let q = c.ask_ledger.new.pass in
@@ -56,7 +56,7 @@ returns-clause-reasons g c = λ first.
 
 pub returns-clause-less : goal.returns-clause-less
 returns-clause-less g c =
-    let n = c.args.cluster.now.id.slots - 1 in
+    let n = c.args.caller.now.id.slots - 1 in
     let S = g.R.Rules.protocol n in
     let p = c.args.pass.now in
     let q = c.ask_ledger.new.pass in
@@ -69,7 +69,7 @@ returns-clause-less g c =
 
 pub returns-in_err-answer-clause-err : goal.returns-in_err-answer-clause-err
 returns-in_err-answer-clause-err g c =
-    let S = g.R.Rules.protocol (c.args.cluster.now.id.slots - 1) in
+    let S = g.R.Rules.protocol (c.args.caller.now.id.slots - 1) in
     let p = c.args.pass.now in
     let q = c.ask_ledger.new.pass in
     let d = c.args.driver.now in

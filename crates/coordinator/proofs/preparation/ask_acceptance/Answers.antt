@@ -9,20 +9,20 @@ use Rattle.coordinator.proofs.preparation.ask_acceptance.Goals as goal
 
 pub ask-requires-clause-may : goal.ask-requires-clause-may
 ask-requires-clause-may g c =
-    let n = c.args.cluster.now.id.slots - 1 in
+    let n = c.args.caller.now.id.slots - 1 in
     may_prepare_next (g.R.Rules.protocol n) (g.met.R.Rules.lawful n) (reverse c.args.pass.now.front) c.args.driver.now c.args.pass.now.number
     c.args.place c.in_ok-action.action c.facts.ensures.legal c.requires.driver c.requires.next c.in_ok-action.ensures
 
 pub note-requires : goal.note-requires
 note-requires g c =
-    let n = c.args.cluster.now.id.slots - 1 in
+    let n = c.args.caller.now.id.slots - 1 in
     told_verdict (g.R.Rules.protocol n) (reverse c.args.pass.now.front) (reverse c.ask.new.pass.front) c.args.pass.now
     (Some c.cell_of-cell.result) c.args.driver.now.number c.args.driver.now.stamp c.in_ok-action.action c.in_ok-answer.answer
     c.in_ok-answer.ensures.later
 
 pub returns-clause-ok : goal.returns-clause-ok
 returns-clause-ok g c =
-    let n = c.args.cluster.now.id.slots - 1 in
+    let n = c.args.caller.now.id.slots - 1 in
     prepared_on (g.R.Rules.protocol n) (g.met.R.Rules.lawful n) c.args.pass.now c.ask.new.pass (Some c.cell_of-cell.result) c.args.place
     c.in_ok-action.action c.in_ok-answer.answer c.args.driver.now c.note.new.driver c.make_ready.new.driver c.requires.driver c.requires.next
     c.in_ok-action.ensures c.in_ok-answer.ensures.later c.in_ok-answer.ensures.ok c.in_ok-note.ensures c.in_ok-make_ready.ensures.same
@@ -30,13 +30,13 @@ returns-clause-ok g c =
 
 pub returns-clause-less : goal.returns-clause-less
 returns-clause-less g c =
-    noted_less (g.R.Rules.protocol (c.args.cluster.now.id.slots - 1)) (reverse c.args.pass.now.front) c.args.place c.in_ok-answer.answer
+    noted_less (g.R.Rules.protocol (c.args.caller.now.id.slots - 1)) (reverse c.args.pass.now.front) c.args.place c.in_ok-answer.answer
     c.args.driver.now c.note.new.driver c.make_ready.new.driver c.requires.driver c.requires.next c.in_ok-note.ensures
     c.in_ok-make_ready.ensures.same
 
 pub returns-in_err-action-clause-err : goal.returns-in_err-action-clause-err
 returns-in_err-action-clause-err g c =
-    let S = g.R.Rules.protocol (c.args.cluster.now.id.slots - 1) in
+    let S = g.R.Rules.protocol (c.args.caller.now.id.slots - 1) in
     let p = c.args.pass.now in
     let d = c.args.driver.now in
     let undecided = c.requires.driver.fate ∙ preparing S (reverse p.front) d c.args.place c.requires.driver c.requires.next in
@@ -45,7 +45,7 @@ returns-in_err-action-clause-err g c =
 
 pub returns-in_err-note-clause-err : goal.returns-in_err-note-clause-err
 returns-in_err-note-clause-err g c =
-    let S = g.R.Rules.protocol (c.args.cluster.now.id.slots - 1) in
+    let S = g.R.Rules.protocol (c.args.caller.now.id.slots - 1) in
     let p = c.args.pass.now in
     let q = c.ask.new.pass in
     let d = c.args.driver.now in
@@ -56,7 +56,7 @@ returns-in_err-note-clause-err g c =
 
 pub returns-in_err-make_ready-clause-err : goal.returns-in_err-make_ready-clause-err
 returns-in_err-make_ready-clause-err g c =
-    let S = g.R.Rules.protocol (c.args.cluster.now.id.slots - 1) in
+    let S = g.R.Rules.protocol (c.args.caller.now.id.slots - 1) in
     let p = c.args.pass.now in
     let q = c.ask.new.pass in
     let d = c.args.driver.now in

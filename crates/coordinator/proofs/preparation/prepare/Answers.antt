@@ -5,7 +5,7 @@ use Rattle.coordinator.proofs.preparation.prepare.Goals as goal
 
 pub returns-then-left-eq0-clause-err : goal.returns-then-left-eq0-clause-err
 returns-then-left-eq0-clause-err g c =
-    let S = g.R.Rules.protocol (c.args.cluster.now.id.slots - 1) in
+    let S = g.R.Rules.protocol (c.args.caller.now.id.slots - 1) in
     let p = c.args.pass.now in
     let none = c.if-left-eq0.true in
     let all = c.left.ensures in

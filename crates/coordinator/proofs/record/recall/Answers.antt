@@ -6,7 +6,7 @@ use Rattle.coordinator.proofs.record.recall.Goals as goal
 
 pub returns-clause-driver : goal.returns-clause-driver
 returns-clause-driver g c =
-    let n = c.args.cluster.now.id.slots - 1 in
+    let n = c.args.caller.now.id.slots - 1 in
     let S = g.R.Rules.protocol n in
     let p = c.args.pass.now in
     let q = c.ask_record.new.pass in
@@ -25,7 +25,7 @@ returns-clause-driver g c =
 
 pub returns-in_default-try_from-clause-err : goal.returns-in_default-try_from-clause-err
 returns-in_default-try_from-clause-err g c =
-    let S = g.R.Rules.protocol (c.args.cluster.now.id.slots - 1) in
+    let S = g.R.Rules.protocol (c.args.caller.now.id.slots - 1) in
     let p = c.args.pass.now in
     let n = c.args.number in
     let h = subst (λ o. IfSome o (λ r. Recalls S n p r c.ask_record.new.pass)) c.in-Some.is c.in_ok-record.ensures.known in

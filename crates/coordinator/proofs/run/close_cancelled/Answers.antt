@@ -6,7 +6,7 @@ use Rattle.coordinator.proofs.run.close_cancelled.Goals as goal
 
 pub returns-in-Some-clause-ends : goal.returns-in-Some-clause-ends
 returns-in-Some-clause-ends g c =
-    let S = g.R.Rules.protocol (c.args.cluster.now.id.slots - 1) in
+    let S = g.R.Rules.protocol (c.args.caller.now.id.slots - 1) in
     let p = c.args.pass.now in
     let d = c.args.driver in
     subst (λ end. Ends S 1 p d p end) (sym c.cancelled.ensures)
@@ -14,7 +14,7 @@ returns-in-Some-clause-ends g c =
 
 pub returns-in-Err-clause-ends : goal.returns-in-Err-clause-ends
 returns-in-Err-clause-ends g c =
-    let S = g.R.Rules.protocol (c.args.cluster.now.id.slots - 1) in
+    let S = g.R.Rules.protocol (c.args.caller.now.id.slots - 1) in
     let p = c.args.pass.now in
     let q = c.ask_record.new.pass in
     let d = c.args.driver in
@@ -23,12 +23,12 @@ returns-in-Err-clause-ends g c =
 
 pub returns-in_default-found-clause-ends : goal.returns-in_default-found-clause-ends
 returns-in_default-found-clause-ends g c =
-    closes_forgotten (g.R.Rules.protocol (c.args.cluster.now.id.slots - 1)) c.args.pass.now c.args.driver c.requires.driver c.requires.end
+    closes_forgotten (g.R.Rules.protocol (c.args.caller.now.id.slots - 1)) c.args.pass.now c.args.driver c.requires.driver c.requires.end
     c.requires.cancelled c.ask_record.new.pass (none_so c.in-Ok.found _ c.in-Ok.ensures.unknown c.in_default-found.not-Some)
 
 pub returns-clause-ends : goal.returns-clause-ends
 returns-clause-ends g c =
-    let n = c.args.cluster.now.id.slots - 1 in
+    let n = c.args.caller.now.id.slots - 1 in
     let S = g.R.Rules.protocol n in
     let p = c.args.pass.now in
     let q = c.ask_record.new.pass in

@@ -6,7 +6,7 @@ use Rattle.coordinator.proofs.run.drive.Goals as goal
 
 pub returns-in-Err-clause-drives : goal.returns-in-Err-clause-drives
 returns-in-Err-clause-drives g c =
-    let S = g.R.Rules.protocol (c.args.cluster.now.id.slots - 1) in
+    let S = g.R.Rules.protocol (c.args.caller.now.id.slots - 1) in
     subst (λ end. Drives S c.args.number c.args.pass.now c.recall.new.pass end) (sym c.given_up.ensures)
     (drives_in_vain S c.args.number c.args.pass.now c.recall.new.pass c.in-Err.error c.in-Err.ensures.err)
 
@@ -15,7 +15,7 @@ returns-in-Err-clause-stopped g c = λ e. absurd (given_up_goes_on c.in-Err.erro
 
 pub returns-clause-drives : goal.returns-clause-drives
 returns-clause-drives g c =
-    let n = c.args.cluster.now.id.slots - 1 in
+    let n = c.args.caller.now.id.slots - 1 in
     let S = g.R.Rules.protocol n in
     let p = c.args.pass.now in
     let q = c.recall.new.pass in

@@ -1,5 +1,6 @@
 use Rattle.std.proofs.Common.{Ok, refl, ◌-◌, ◌+◌, sym, ap, ◌∙◌, subst}
 use Rattle.txn_core.specs.Driver.{course_left}
+use Rattle.cluster.proofs.Rest.{still_at_rest}
 use Rattle.coordinator.specs.Drives.{Ends}
 use Rattle.coordinator.proofs.Closing.{ends_closed, ends_failed, ends_stopped, given_up_goes_on}
 use Rattle.coordinator.proofs.Stopping.{in_words}
@@ -7,16 +8,14 @@ use Rattle.coordinator.proofs.run.drive_on.Goals as goal
 
 pub returns-in-Err-clause-ends : goal.returns-in-Err-clause-ends
 returns-in-Err-clause-ends g c =
-    let S = g.R.Rules.protocol (c.args.cluster.now.id.slots - 1) in
+    let S = g.R.Rules.protocol (c.args.caller.now.id.slots - 1) in
     let d = c.args.driver in
     subst (λ end. Ends S (course_left d.course + 1) c.args.pass.now d c.take_steps.new.pass end) (sym c.given_up.ensures)
     (ends_failed S c.args.pass.now c.take_steps.new.pass d c.in-Err.error c.in-Err.ensures.err)
 
-pub close-requires-clause-of : goal.close-requires-clause-of
-close-requires-clause-of g c = ap (λ z. z.turnstile) c.in-Ok.ensures.ok.added.pass ∙ c.requires.of
-
-pub close-requires-clause-free : goal.close-requires-clause-free
-close-requires-clause-free g c = ap (λ z. z.turns) c.in-Ok.ensures.ok.added.pass ∙ c.requires.free
+pub close-requires-clause-rests : goal.close-requires-clause-rests
+close-requires-clause-rests g c =
+    still_at_rest c.args.caller.now c.args.pass.now c.take_steps.new.pass c.in-Ok.ensures.ok.added.pass c.requires.rests
 
 pub close-requires-clause-driver : goal.close-requires-clause-driver
 close-requires-clause-driver g c = c.in-Ok.ensures.ok.knows
@@ -26,12 +25,12 @@ close-requires-clause-end g c = c.in-Ok.ensures.ended c.in-Go.is
 
 pub returns-in-Go-clause-ends : goal.returns-in-Go-clause-ends
 returns-in-Go-clause-ends g c =
-    ends_closed (g.R.Rules.protocol (c.args.cluster.now.id.slots - 1)) c.args.pass.now c.take_steps.new.pass c.args.driver c.close.new.pass
+    ends_closed (g.R.Rules.protocol (c.args.caller.now.id.slots - 1)) c.args.pass.now c.take_steps.new.pass c.args.driver c.close.new.pass
     c.take_steps.new.driver c.close.result c.in-Ok.ensures.ok c.close.ensures.ends
 
 pub returns-in-Stop-clause-ends : goal.returns-in-Stop-clause-ends
 returns-in-Stop-clause-ends g c =
-    ends_stopped (g.R.Rules.protocol (c.args.cluster.now.id.slots - 1)) c.args.pass.now c.take_steps.new.pass c.args.driver c.take_steps.new.driver
+    ends_stopped (g.R.Rules.protocol (c.args.caller.now.id.slots - 1)) c.args.pass.now c.take_steps.new.pass c.args.driver c.take_steps.new.driver
     c.in-Ok.ensures.ok (c.in-Ok.ensures.there c.in-Stop.is)
 
 pub returns-in-Err-clause-gate : goal.returns-in-Err-clause-gate

@@ -1,23 +1,22 @@
-use Rattle.std.proofs.Common.{◌-◌, refl, sym, ap, ◌∙◌, subst}
+use Rattle.std.proofs.Common.{◌-◌, refl, sym, ◌∙◌, subst}
 use Rattle.coordinator.specs.Driving.{Fails}
 use Rattle.cluster.proofs.Handed.{handed_on}
+use Rattle.cluster.proofs.Rest.{still_at_rest}
 use Rattle.coordinator.proofs.Driven.{fails_on, goes_on, rests}
-use Rattle.ddb_outside.specs.declared.gate.Pace.{Pace}
+use Rattle.coordinator.specs.declared.gate.Pace.{Pace}
 use Rattle.coordinator.proofs.Stopping.{in_words, let_pass, not_asked, not_ok}
 use Rattle.coordinator.proofs.run.take_steps.Goals as goal
 
 pub loop-point-init : goal.loop-point-init
 loop-point-init g c =
     record {
-      advances = rests (g.R.Rules.protocol (c.args.cluster.now.id.slots - 1)) c.args.pass.now c.args.driver.now c.requires.driver;
+      advances = rests (g.R.Rules.protocol (c.args.caller.now.id.slots - 1)) c.args.pass.now c.args.driver.now c.requires.driver;
       same = refl;
     }
 
-pub advance-requires-clause-of : goal.advance-requires-clause-of
-advance-requires-clause-of g c = ap (λ z. z.turnstile) c.loop-point.invariant.advances.added.pass ∙ c.requires.of
-
-pub advance-requires-clause-free : goal.advance-requires-clause-free
-advance-requires-clause-free g c = ap (λ z. z.turns) c.loop-point.invariant.advances.added.pass ∙ c.requires.free
+pub advance-requires-clause-rests : goal.advance-requires-clause-rests
+advance-requires-clause-rests g c =
+    still_at_rest c.args.caller.now c.args.pass.now c.loop-point.pass c.loop-point.invariant.advances.added.pass c.requires.rests
 
 pub advance-requires-clause-driver : goal.advance-requires-clause-driver
 advance-requires-clause-driver g c = c.loop-point.invariant.advances.knows
@@ -27,19 +26,19 @@ loop-point-preserved g c =
     let inv = c.loop-point.invariant in
     record {
       advances =
-          goes_on (g.R.Rules.protocol (c.args.cluster.now.id.slots - 1)) c.args.pass.now c.loop-point.pass c.advance.new.pass c.args.driver.now
+          goes_on (g.R.Rules.protocol (c.args.caller.now.id.slots - 1)) c.args.pass.now c.loop-point.pass c.advance.new.pass c.args.driver.now
           c.loop-point.driver c.advance.new.driver inv.advances c.in_ok-point.ensures.ok;
       same = c.pace_at.ensures.gate.obeyed (λ stop. absurd (let e = sym c.in-Go.is ∙ stop in cc)) ∙ inv.same;
     }
 
 pub returns-in-Stop-clause-ok : goal.returns-in-Stop-clause-ok
 returns-in-Stop-clause-ok g c =
-    goes_on (g.R.Rules.protocol (c.args.cluster.now.id.slots - 1)) c.args.pass.now c.loop-point.pass c.advance.new.pass c.args.driver.now
+    goes_on (g.R.Rules.protocol (c.args.caller.now.id.slots - 1)) c.args.pass.now c.loop-point.pass c.advance.new.pass c.args.driver.now
     c.loop-point.driver c.advance.new.driver c.loop-point.invariant.advances c.in_ok-point.ensures.ok
 
 pub returns-in_err-point-clause-err : goal.returns-in_err-point-clause-err
 returns-in_err-point-clause-err g c =
-    let S = g.R.Rules.protocol (c.args.cluster.now.id.slots - 1) in
+    let S = g.R.Rules.protocol (c.args.caller.now.id.slots - 1) in
     let p = c.args.pass.now in
     let q = c.advance.new.pass in
     let d = c.args.driver.now in

@@ -5,7 +5,7 @@ use Rattle.coordinator.proofs.run.take_steps.Given as goal
 
 abbrev pub invariant-loop-point : goal.invariant-loop-point
 invariant-loop-point g l = record {
-  advances : Advances (g.R.Rules.protocol (l.cluster.id.slots - 1)) l.fn.pass l.fn.driver l.pass l.driver;
+  advances : Advances (g.R.Rules.protocol (l.caller.id.slots - 1)) l.fn.pass l.fn.driver l.pass l.driver;
   same : g.G.Gate.stops l.gate ≡ g.G.Gate.stops l.fn.gate;
 }
 

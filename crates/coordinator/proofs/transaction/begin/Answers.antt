@@ -13,14 +13,14 @@ use Rattle.coordinator.proofs.transaction.begin.Goals as goal
 
 pub ask_ledger-requires-clause-may : goal.ask_ledger-requires-clause-may
 ask_ledger-requires-clause-may g c =
-    let S = g.R.Rules.protocol (c.args.cluster.now.id.slots - 1) in
+    let S = g.R.Rules.protocol (c.args.caller.now.id.slots - 1) in
     let p = c.args.pass.now in
     subst (λ m. Allowed S (reverse p.front) p.number m) (sym c.in-Ok-begin_message.ensures)
     (may_begin S c.args.actions.now c.requires.actions.0 c.requires.actions.1 c.requires.actions.2)
 
 pub follow-requires-clause-told : goal.follow-requires-clause-told
 follow-requires-clause-told g c =
-    let n = c.args.cluster.now.id.slots - 1 in
+    let n = c.args.caller.now.id.slots - 1 in
     let S = g.R.Rules.protocol n in
     let p = c.args.pass.now in
     let q = c.ask_ledger.new.pass in
@@ -31,7 +31,7 @@ follow-requires-clause-told g c =
 
 pub follow-requires-clause-drawn : goal.follow-requires-clause-drawn
 follow-requires-clause-drawn g c = λ number stamp is.
-    let n = c.args.cluster.now.id.slots - 1 in
+    let n = c.args.caller.now.id.slots - 1 in
     let S = g.R.Rules.protocol n in
     let p = c.args.pass.now in
     let q = c.ask_ledger.new.pass in

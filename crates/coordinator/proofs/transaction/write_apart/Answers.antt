@@ -1,24 +1,20 @@
 use Rattle.std.proofs.Common.{◌-◌, Some, sym, ◌∙◌, suc, ap}
 use Rattle.std.specs.Option.{option_copied}
+use Rattle.cluster.proofs.Rest.{still_at_rest}
 use Rattle.coordinator.proofs.Writing.{same_pass, turns_again}
 use Rattle.coordinator.proofs.Stopping.{in_words, let_pass}
 use Rattle.coordinator.proofs.transaction.write_apart.Goals as goal
 
-pub take_turn-requires-clause-of : goal.take_turn-requires-clause-of
-take_turn-requires-clause-of g c =
-    let S = g.R.Rules.protocol (c.args.cluster.now.id.slots - 1) in
+pub take_turn-requires-clause-rests : goal.take_turn-requires-clause-rests
+take_turn-requires-clause-rests g c =
+    let S = g.R.Rules.protocol (c.args.caller.now.id.slots - 1) in
     let again = c.begins.invariant.again in
-    ap (λ z. z.turnstile) (same_pass S (option_copied c.args.token) c.args.actions.now c.args.pass.now again.0 c.begins.pass again.1) ∙ c.requires.of
-
-pub take_turn-requires-clause-free : goal.take_turn-requires-clause-free
-take_turn-requires-clause-free g c =
-    let S = g.R.Rules.protocol (c.args.cluster.now.id.slots - 1) in
-    let again = c.begins.invariant.again in
-    ap (λ z. z.turns) (same_pass S (option_copied c.args.token) c.args.actions.now c.args.pass.now again.0 c.begins.pass again.1) ∙ c.requires.free
+    still_at_rest c.args.caller.now c.args.pass.now c.begins.pass
+    (same_pass S (option_copied c.args.token) c.args.actions.now c.args.pass.now again.0 c.begins.pass again.1) c.requires.rests
 
 pub begins-preserved : goal.begins-preserved
 begins-preserved g c =
-    let S = g.R.Rules.protocol (c.args.cluster.now.id.slots - 1) in
+    let S = g.R.Rules.protocol (c.args.caller.now.id.slots - 1) in
     let inv = c.begins.invariant in
     record {
       again = (

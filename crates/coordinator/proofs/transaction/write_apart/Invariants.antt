@@ -6,7 +6,7 @@ use Rattle.coordinator.proofs.transaction.write_apart.Given as goal
 
 abbrev pub invariant-begins : goal.invariant-begins
 invariant-begins g l = record {
-  again : (k : ℕ) × TurnsAgain (g.R.Rules.protocol (l.cluster.id.slots - 1)) (option_copied l.token) l.actions l.fn.pass k l.pass;
+  again : (k : ℕ) × TurnsAgain (g.R.Rules.protocol (l.caller.id.slots - 1)) (option_copied l.token) l.actions l.fn.pass k l.pass;
   same : g.G.Gate.stops l.gate ≡ g.G.Gate.stops l.fn.gate;
 }
 

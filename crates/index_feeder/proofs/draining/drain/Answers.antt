@@ -5,17 +5,17 @@ use Rattle.index_feeder.proofs.Drained.{leaves_drained}
 use Rattle.index_feeder.proofs.draining.drain.Goals as goal
 
 pub rounds-init : goal.rounds-init
-rounds-init g c = rounds_none (g.R.Rules.protocol (c.args.cluster.now.id.slots - 1)) (c.args.cluster.now.id.slots - 1) c.args.pass.now
+rounds-init g c = rounds_none (g.R.Rules.protocol (c.args.caller.now.id.slots - 1)) (c.args.caller.now.id.slots - 1) c.args.pass.now
 
 pub rounds-preserved : goal.rounds-preserved
 rounds-preserved g c =
-    let n = c.args.cluster.now.id.slots - 1 in
+    let n = c.args.caller.now.id.slots - 1 in
     rounds_more (g.R.Rules.protocol n) n c.args.pass.now c.rounds.fed c.rounds.pass c.rounds.invariant c.in_ok-more.more c.feed_round.new.pass
     (some_more c.in_ok-more.more c.if-more-eq0.false) c.in_ok-more.ensures.ok
 
 pub rounds-smaller : goal.rounds-smaller
 rounds-smaller g c =
-    let n = c.args.cluster.now.id.slots - 1 in
+    let n = c.args.caller.now.id.slots - 1 in
     omega (
       arith,
       round_used (g.R.Rules.protocol n) n c.rounds.pass c.in_ok-more.more c.feed_round.new.pass c.in_ok-more.ensures.ok,
@@ -25,7 +25,7 @@ rounds-smaller g c =
 
 pub overflow_add-fed : goal.overflow_add-fed
 overflow_add-fed g c =
-    let n = c.args.cluster.now.id.slots - 1 in
+    let n = c.args.caller.now.id.slots - 1 in
     let S = g.R.Rules.protocol n in
     let p = c.args.pass.now in
     let r = c.feed_round.new.pass in
@@ -36,7 +36,7 @@ overflow_add-fed g c =
 
 pub returns-in_err-more-clause-err : goal.returns-in_err-more-clause-err
 returns-in_err-more-clause-err g c =
-    let n = c.args.cluster.now.id.slots - 1 in
+    let n = c.args.caller.now.id.slots - 1 in
     let e = err_from_is_err_and c.from_residual.result c.from_residual.ensures.1 in
     rw (e.1, e.2)
     (rounds_partly (g.R.Rules.protocol n) n c.args.pass.now c.rounds.fed c.rounds.pass c.rounds.invariant c.in_err-more.field-0.0
@@ -44,13 +44,13 @@ returns-in_err-more-clause-err g c =
 
 pub returns-then-more-eq0-clause-ok : goal.returns-then-more-eq0-clause-ok
 returns-then-more-eq0-clause-ok g c =
-    let n = c.args.cluster.now.id.slots - 1 in
+    let n = c.args.caller.now.id.slots - 1 in
     rounds_end (g.R.Rules.protocol n) n c.args.pass.now c.rounds.fed c.rounds.pass c.rounds.invariant c.in_ok-more.more c.feed_round.new.pass
     c.if-more-eq0.true c.in_ok-more.ensures.ok
 
 pub returns-then-more-eq0-clause-drained : goal.returns-then-more-eq0-clause-drained
 returns-then-more-eq0-clause-drained g c =
-    let n = c.args.cluster.now.id.slots - 1 in
+    let n = c.args.caller.now.id.slots - 1 in
     let S = g.R.Rules.protocol n in
     let p = c.args.pass.now in
     let r = c.feed_round.new.pass in
@@ -61,7 +61,7 @@ returns-then-more-eq0-clause-drained g c =
 
 pub returns-then-more-eq0-clause-units : goal.returns-then-more-eq0-clause-units
 returns-then-more-eq0-clause-units g c =
-    let n = c.args.cluster.now.id.slots - 1 in
+    let n = c.args.caller.now.id.slots - 1 in
     let S = g.R.Rules.protocol n in
     let p = c.args.pass.now in
     let r = c.feed_round.new.pass in

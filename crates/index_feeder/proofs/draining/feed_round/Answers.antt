@@ -4,16 +4,16 @@ use Rattle.index_feeder.proofs.Made.{round_none, round_more, round_partly, round
 use Rattle.index_feeder.proofs.draining.feed_round.Goals as goal
 
 pub loop-cell-init : goal.loop-cell-init
-loop-cell-init g c = round_none (g.R.Rules.protocol (c.args.cluster.now.id.slots - 1)) c.args.pass.now
+loop-cell-init g c = round_none (g.R.Rules.protocol (c.args.caller.now.id.slots - 1)) c.args.pass.now
 
 pub loop-cell-preserved : goal.loop-cell-preserved
 loop-cell-preserved g c =
-    round_more (g.R.Rules.protocol (c.args.cluster.now.id.slots - 1)) c.loop-cell.cell c.args.pass.now c.loop-cell.fed c.loop-cell.pass
+    round_more (g.R.Rules.protocol (c.args.caller.now.id.slots - 1)) c.loop-cell.cell c.args.pass.now c.loop-cell.fed c.loop-cell.pass
     c.loop-cell.invariant c.in_ok-more.more c.empty_one.new.pass c.in_ok-more.ensures.ok
 
 pub overflow_add-fed : goal.overflow_add-fed
 overflow_add-fed g c =
-    let S = g.R.Rules.protocol (c.args.cluster.now.id.slots - 1) in
+    let S = g.R.Rules.protocol (c.args.caller.now.id.slots - 1) in
     let p = c.args.pass.now in
     let r = c.empty_one.new.pass in
     let more =
@@ -22,7 +22,7 @@ overflow_add-fed g c =
 
 pub returns-in_err-more-clause-err : goal.returns-in_err-more-clause-err
 returns-in_err-more-clause-err g c =
-    let n = c.args.cluster.now.id.slots - 1 in
+    let n = c.args.caller.now.id.slots - 1 in
     let e = err_from_is_err_and c.from_residual.result c.from_residual.ensures.1 in
     rw (e.1, e.2)
     (round_partly (g.R.Rules.protocol n) c.loop-cell.cell c.args.pass.now c.loop-cell.fed c.loop-cell.pass c.loop-cell.invariant n

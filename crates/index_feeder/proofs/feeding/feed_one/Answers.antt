@@ -9,12 +9,12 @@ use Rattle.index_feeder.proofs.feeding.feed_one.Goals as goal
 
 pub unreachable-requires : goal.unreachable-requires
 unreachable-requires g c =
-    is_answered (g.R.Rules.protocol (c.args.cluster.now.id.slots - 1)) (reverse c.args.pass.now.front) (reverse c.ask.new.pass.front)
+    is_answered (g.R.Rules.protocol (c.args.caller.now.id.slots - 1)) (reverse c.args.pass.now.front) (reverse c.ask.new.pass.front)
     c.args.pass.now c.args.source c.in_ok-shown.shown c.in_ok-shown.ensures.later c.in_default.not-Out c.in_default.not-Empty
 
 pub ask-requires-in-Out-clause-sent : goal.ask-requires-in-Out-clause-sent
 ask-requires-in-Out-clause-sent g c =
-    let S = g.R.Rules.protocol (c.args.cluster.now.id.slots - 1) in
+    let S = g.R.Rules.protocol (c.args.caller.now.id.slots - 1) in
     let p = c.args.pass.now in
     let o = c.in-Out in
     let later = reverse c.ask.new.pass.front in
@@ -25,7 +25,7 @@ ask-requires-in-Out-clause-sent g c =
 
 pub ask-requires-in-Out-clause-may : goal.ask-requires-in-Out-clause-may
 ask-requires-in-Out-clause-may g c =
-    let S = g.R.Rules.protocol (c.args.cluster.now.id.slots - 1) in
+    let S = g.R.Rules.protocol (c.args.caller.now.id.slots - 1) in
     let p = c.args.pass.now in
     let o = c.in-Out in
     let later = reverse c.ask.new.pass.front in
@@ -36,7 +36,7 @@ ask-requires-in-Out-clause-may g c =
 
 pub ask-requires-in-Out-2-clause-may : goal.ask-requires-in-Out-2-clause-may
 ask-requires-in-Out-2-clause-may g c =
-    let S = g.R.Rules.protocol (c.args.cluster.now.id.slots - 1) in
+    let S = g.R.Rules.protocol (c.args.caller.now.id.slots - 1) in
     let q = c.ask.new.pass in
     let o = c.in-Out in
     let r = c.ask-in-Out.new.pass in
@@ -45,7 +45,7 @@ ask-requires-in-Out-2-clause-may g c =
 
 pub returns-in_err-shown-clause-err : goal.returns-in_err-shown-clause-err
 returns-in_err-shown-clause-err g c =
-    let S = g.R.Rules.protocol (c.args.cluster.now.id.slots - 1) in
+    let S = g.R.Rules.protocol (c.args.caller.now.id.slots - 1) in
     let e = err_from_is_err_and c.from_residual.result c.from_residual.ensures.1 in
     rw (e.1, e.2)
     (cut_at_first S c.args.pass.now c.args.source c.in_err-shown.field-0.0 c.ask.new.pass c.in_err-shown.ensures.err
@@ -53,7 +53,7 @@ returns-in_err-shown-clause-err g c =
 
 pub returns-in_err-applied-in-Out-clause-err : goal.returns-in_err-applied-in-Out-clause-err
 returns-in_err-applied-in-Out-clause-err g c =
-    let S = g.R.Rules.protocol (c.args.cluster.now.id.slots - 1) in
+    let S = g.R.Rules.protocol (c.args.caller.now.id.slots - 1) in
     let p = c.args.pass.now in
     let o = c.in-Out in
     let q = c.ask.new.pass in
@@ -71,7 +71,7 @@ returns-in_err-applied-in-Out-clause-err g c =
 
 pub returns-in_err-acknowledged-in-Out-clause-err : goal.returns-in_err-acknowledged-in-Out-clause-err
 returns-in_err-acknowledged-in-Out-clause-err g c =
-    let S = g.R.Rules.protocol (c.args.cluster.now.id.slots - 1) in
+    let S = g.R.Rules.protocol (c.args.caller.now.id.slots - 1) in
     let p = c.args.pass.now in
     let o = c.in-Out in
     let q = c.ask.new.pass in
@@ -94,7 +94,7 @@ returns-in_err-acknowledged-in-Out-clause-err g c =
 
 pub returns-in_ok-acknowledged-in-Out-clause-ok : goal.returns-in_ok-acknowledged-in-Out-clause-ok
 returns-in_ok-acknowledged-in-Out-clause-ok g c =
-    let S = g.R.Rules.protocol (c.args.cluster.now.id.slots - 1) in
+    let S = g.R.Rules.protocol (c.args.caller.now.id.slots - 1) in
     let p = c.args.pass.now in
     let o = c.in-Out in
     let q = c.ask.new.pass in

@@ -1,9 +1,11 @@
-use Rattle.std.proofs.Common.{refl}
+use Rattle.std.proofs.Common.{refl, sym, ap, ◌∙◌}
 use Rattle.std.proofs.lemmas.Result.{IfOk-weaker, on_err_weaker}
 use Rattle.txn_core.specs.declared.message.Message.{Message}
 use Rattle.txn_core.specs.Feeding.{feed_after}
 use Rattle.txn_core.specs.Legal.{state}
 use Rattle.partition.proofs.Entries.{answered, keeps, on_err, stands}
+use Rattle.partition.specs.Steps.{is_served}
+use Rattle.partition.proofs.Expired.{expired_listed}
 use Rattle.partition.proofs.Paged.{page_answered}
 use Rattle.partition.proofs.steps.step.Goals as goal
 
@@ -100,3 +102,19 @@ pub returns-in-ScanPage-clause-err : goal.returns-in-ScanPage-clause-err
 returns-in-ScanPage-clause-err g c =
     on_err c.page-in-ScanPage.result
     (λ n. keeps (g.R.Rules.protocol n) c.args.cell.now c.args.cell.now c.args.message (Message.ScanPage c.in-ScanPage.asked) c.in-ScanPage.is ((g.R.Rules.protocol n).page_cell c.in-ScanPage.asked) refl (λ w f here. here))
+
+pub returns-in-Expire-clause-answers : goal.returns-in-Expire-clause-answers
+returns-in-Expire-clause-answers g c = IfOk-weaker c.expire.result _ _ (λ a h n. answered (g.R.Rules.protocol n) c.args.cell.now c.expire.new.cell c.args.message (Message.Expire c.in-Expire.action) c.in-Expire.is ((g.R.Rules.protocol n).core.cell_of ((g.R.Rules.protocol n).core.key_of c.in-Expire.action)) refl g.R.CellRules.locals c.args.moment a (λ es st step. h n (state (g.R.Rules.protocol n) es) (feed_after (g.R.Rules.protocol n) es) st)) c.expire.ensures.says
+
+pub returns-in-Expire-clause-stands : goal.returns-in-Expire-clause-stands
+returns-in-Expire-clause-stands g c = IfOk-weaker c.expire.result _ _ (λ a h n. stands (g.R.Rules.protocol n) c.args.cell.now c.expire.new.cell c.args.message (Message.Expire c.in-Expire.action) c.in-Expire.is ((g.R.Rules.protocol n).core.cell_of ((g.R.Rules.protocol n).core.key_of c.in-Expire.action)) refl c.args.moment a (h n)) c.expire.ensures.leaves
+
+pub returns-in-Expire-clause-err : goal.returns-in-Expire-clause-err
+returns-in-Expire-clause-err g c = on_err_weaker c.expire.result (λ h n. keeps (g.R.Rules.protocol n) c.args.cell.now c.expire.new.cell c.args.message (Message.Expire c.in-Expire.action) c.in-Expire.is ((g.R.Rules.protocol n).core.cell_of ((g.R.Rules.protocol n).core.key_of c.in-Expire.action)) refl (h n ((g.R.Rules.protocol n).core.cell_of ((g.R.Rules.protocol n).core.key_of c.in-Expire.action)))) c.expire.ensures.err
+
+pub returns-in-ExpiredKeys-clause-answers : goal.returns-in-ExpiredKeys-clause-answers
+returns-in-ExpiredKeys-clause-answers g c =
+    IfOk-weaker c.expired_keys.result _ _
+    (λ a h n. answered (g.R.Rules.protocol n) c.args.cell.now c.args.cell.now c.args.message _ c.in-ExpiredKeys.is _ refl g.R.CellRules.locals c.args.moment a
+    (λ es st step. expired_listed (g.R.Rules.protocol n) (g.met.R.Rules.lawful n) _ c.args.cell.now c.args.moment c.in-ExpiredKeys.limit a es
+    (ap (λ m. is_served c.args.cell.now.partitions m) (sym c.in-ExpiredKeys.is) ∙ c.requires) (h n _) st)) c.expired_keys.ensures

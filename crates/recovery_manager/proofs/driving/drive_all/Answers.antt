@@ -17,14 +17,14 @@ use Rattle.recovery_manager.proofs.driving.drive_all.Goals as goal
 pub loop-number-init : goal.loop-number-init
 loop-number-init g c =
     record {
-      drives = all_none (g.R.Rules.protocol (c.args.cluster.now.id.slots - 1)) (contains nat_cmp c.new-gone.result)
+      drives = all_none (g.R.Rules.protocol (c.args.caller.now.id.slots - 1)) (contains nat_cmp c.new-gone.result)
           (λ n. ap (list_any (is_at (nat_cmp n))) c.new-gone.ensures.empty) c.args.pass.now;
       same = refl;
     }
 
 pub loop-number-preserved : goal.loop-number-preserved
 loop-number-preserved g c =
-    let n = c.args.cluster.now.id.slots - 1 in
+    let n = c.args.caller.now.id.slots - 1 in
     let S = g.R.Rules.protocol n in
     let p = c.args.pass.now in
     let q = c.loop-number.pass in
@@ -44,7 +44,7 @@ loop-number-preserved g c =
 
 pub returns-in_err-is_gone-clause-err : goal.returns-in_err-is_gone-clause-err
 returns-in_err-is_gone-clause-err g c =
-    let n = c.args.cluster.now.id.slots - 1 in
+    let n = c.args.caller.now.id.slots - 1 in
     let p = c.args.pass.now in
     let xs = c.args.numbers.now in
     let i = c.loop-number.number-index in
@@ -76,7 +76,7 @@ returns-in_err-note-clause-obeyed g c =
 
 pub returns-in_err-note-clause-err : goal.returns-in_err-note-clause-err
 returns-in_err-note-clause-err g c =
-    let n = c.args.cluster.now.id.slots - 1 in
+    let n = c.args.caller.now.id.slots - 1 in
     let S = g.R.Rules.protocol n in
     let p = c.args.pass.now in
     let r = c.drive-end.new.pass in
@@ -94,5 +94,5 @@ returns-in_err-note-clause-err g c =
 pub returns-clause-ok : goal.returns-clause-ok
 returns-clause-ok g c =
     let all = take_all c.loop-number.number-index c.args.numbers.now (omega (arith, c.loop-number-test.false)) in
-    subst (λ ms. DrivesAll (g.R.Rules.protocol (c.args.cluster.now.id.slots - 1)) (contains nat_cmp c.loop-number.gone) ms c.args.pass.now c.loop-number.pass) all
+    subst (λ ms. DrivesAll (g.R.Rules.protocol (c.args.caller.now.id.slots - 1)) (contains nat_cmp c.loop-number.gone) ms c.args.pass.now c.loop-number.pass) all
     c.loop-number.invariant.drives

@@ -6,6 +6,6 @@ use Rattle.recovery_manager.proofs.driving.drive_all.Given as goal
 
 abbrev pub invariant-loop-number : goal.invariant-loop-number
 invariant-loop-number g l = record {
-  drives : DrivesAll (g.R.Rules.protocol (l.cluster.id.slots - 1)) (contains nat_cmp l.gone) (take l.number-index l.numbers) l.fn.pass l.pass;
+  drives : DrivesAll (g.R.Rules.protocol (l.caller.id.slots - 1)) (contains nat_cmp l.gone) (take l.number-index l.numbers) l.fn.pass l.pass;
   same : g.G.Gate.stops l.gate ≡ g.G.Gate.stops l.fn.gate;
 }

@@ -7,13 +7,13 @@ use Rattle.recovery_manager.proofs.listing.all_held.Goals as goal
 
 pub loop-cell-init : goal.loop-cell-init
 loop-cell-init g c =
-    let S = g.R.Rules.protocol (c.args.cluster.now.id.slots - 1) in
+    let S = g.R.Rules.protocol (c.args.caller.now.id.slots - 1) in
     let p = c.args.pass.now in
     subst (λ xs. ListsHeld S 0 p xs p) (sym c.new-held.ensures.items) (held_none S p)
 
 pub loop-cell-preserved : goal.loop-cell-preserved
 loop-cell-preserved g c =
-    let S = g.R.Rules.protocol (c.args.cluster.now.id.slots - 1) in
+    let S = g.R.Rules.protocol (c.args.caller.now.id.slots - 1) in
     let p = c.args.pass.now in
     let i = c.loop-cell.cell in
     let held = c.loop-cell.held.items in
@@ -23,7 +23,7 @@ loop-cell-preserved g c =
 
 pub returns-in_err-items-clause-err : goal.returns-in_err-items-clause-err
 returns-in_err-items-clause-err g c =
-    let n = c.args.cluster.now.id.slots - 1 in
+    let n = c.args.caller.now.id.slots - 1 in
     let i = c.loop-cell.cell in
     let within : i ≤ n = omega (arith, c.loop-cell-test.true, c.partitions-cell-end.ensures.count) in
     let e = err_from_is_err_and c.from_residual.result c.from_residual.ensures.1 in
@@ -33,7 +33,7 @@ returns-in_err-items-clause-err g c =
 
 pub returns-in_err-append-clause-err : goal.returns-in_err-append-clause-err
 returns-in_err-append-clause-err g c =
-    let n = c.args.cluster.now.id.slots - 1 in
+    let n = c.args.caller.now.id.slots - 1 in
     let S = g.R.Rules.protocol n in
     let p = c.args.pass.now in
     let i = c.loop-cell.cell in

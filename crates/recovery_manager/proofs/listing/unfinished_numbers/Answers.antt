@@ -8,13 +8,13 @@ use Rattle.recovery_manager.proofs.listing.unfinished_numbers.Goals as goal
 
 pub unreachable-requires : goal.unreachable-requires
 unreachable-requires g c =
-    let n = c.args.cluster.now.id.slots - 1 in
+    let n = c.args.caller.now.id.slots - 1 in
     is_list_of_numbers (g.R.Rules.protocol n) c.args.pass.now c.ask_ledger.new.pass (Some n) c.in_ok-answer.answer c.in_ok-answer.ensures.later
     c.in_default.not-Numbers
 
 pub returns-clause-ok : goal.returns-clause-ok
 returns-clause-ok g c =
-    let n = c.args.cluster.now.id.slots - 1 in
+    let n = c.args.caller.now.id.slots - 1 in
     let S = g.R.Rules.protocol n in
     let p = c.args.pass.now in
     let q = c.ask_ledger.new.pass in

@@ -7,11 +7,11 @@ use Rattle.recovery_manager.proofs.releasing.release_all.Goals as goal
 
 pub loop-item-init : goal.loop-item-init
 loop-item-init g c =
-    ([], sym (append-nil c.args.items.items), gone_none (g.R.Rules.protocol (c.args.cluster.now.id.slots - 1)) (contains nat_cmp c.args.gone.now) c.args.pass.now)
+    ([], sym (append-nil c.args.items.items), gone_none (g.R.Rules.protocol (c.args.caller.now.id.slots - 1)) (contains nat_cmp c.args.gone.now) c.args.pass.now)
 
 pub loop-item-preserved : goal.loop-item-preserved
 loop-item-preserved g c =
-    let S = g.R.Rules.protocol (c.args.cluster.now.id.slots - 1) in
+    let S = g.R.Rules.protocol (c.args.caller.now.id.slots - 1) in
     let inv = c.loop-item.invariant in
     let item = c.in-Some.item in
     let rest = c.pop.new.self.items in
@@ -23,7 +23,7 @@ loop-item-preserved g c =
 
 pub returns-in_err-release_gone-clause-err : goal.returns-in_err-release_gone-clause-err
 returns-in_err-release_gone-clause-err g c =
-    let S = g.R.Rules.protocol (c.args.cluster.now.id.slots - 1) in
+    let S = g.R.Rules.protocol (c.args.caller.now.id.slots - 1) in
     let inv = c.loop-item.invariant in
     let item = c.in-Some.item in
     let rest = c.pop.new.self.items in

@@ -12,7 +12,7 @@ use Rattle.recovery_manager.proofs.sweeping.sweep.Goals as goal
 
 pub drive_all-driven-requires-clause-begun : goal.drive_all-driven-requires-clause-begun
 drive_all-driven-requires-clause-begun g c =
-    let n = c.args.cluster.now.id.slots - 1 in
+    let n = c.args.caller.now.id.slots - 1 in
     let S = g.R.Rules.protocol n in
     let p = c.args.pass.now in
     let q = c.all_held.new.pass in
@@ -29,7 +29,7 @@ drive_all-driven-requires-clause-begun g c =
 
 pub returns-in_err-items-clause-err : goal.returns-in_err-items-clause-err
 returns-in_err-items-clause-err g c =
-    let n = c.args.cluster.now.id.slots - 1 in
+    let n = c.args.caller.now.id.slots - 1 in
     let S = g.R.Rules.protocol n in
     let p = c.args.pass.now in
     let q = c.all_held.new.pass in
@@ -41,7 +41,7 @@ returns-in_err-items-clause-stopped g c = λ is. absurd (never_stopped c.from_re
 
 pub returns-in_err-unfinished-clause-err : goal.returns-in_err-unfinished-clause-err
 returns-in_err-unfinished-clause-err g c =
-    let n = c.args.cluster.now.id.slots - 1 in
+    let n = c.args.caller.now.id.slots - 1 in
     let S = g.R.Rules.protocol n in
     let p = c.args.pass.now in
     let q = c.all_held.new.pass in
@@ -58,7 +58,7 @@ returns-in_err-unfinished-clause-stopped g c = λ is. absurd (never_stopped c.fr
 
 pub returns-in_err-numbers-clause-err : goal.returns-in_err-numbers-clause-err
 returns-in_err-numbers-clause-err g c =
-    let n = c.args.cluster.now.id.slots - 1 in
+    let n = c.args.caller.now.id.slots - 1 in
     let S = g.R.Rules.protocol n in
     let p = c.args.pass.now in
     let q = c.all_held.new.pass in
@@ -76,7 +76,7 @@ returns-in_err-numbers-clause-stopped g c =
 
 pub returns-in_err-gone-clause-err : goal.returns-in_err-gone-clause-err
 returns-in_err-gone-clause-err g c =
-    let n = c.args.cluster.now.id.slots - 1 in
+    let n = c.args.caller.now.id.slots - 1 in
     let S = g.R.Rules.protocol n in
     let p = c.args.pass.now in
     let q = c.all_held.new.pass in
@@ -103,7 +103,7 @@ returns-in_err-gone-clause-stopped g c =
 
 pub returns-in_err-released-clause-err : goal.returns-in_err-released-clause-err
 returns-in_err-released-clause-err g c =
-    let n = c.args.cluster.now.id.slots - 1 in
+    let n = c.args.caller.now.id.slots - 1 in
     let S = g.R.Rules.protocol n in
     let p = c.args.pass.now in
     let q = c.all_held.new.pass in
@@ -125,7 +125,7 @@ returns-in_err-released-clause-err g c =
 
 pub returns-clause-ok : goal.returns-clause-ok
 returns-clause-ok g c =
-    let n = c.args.cluster.now.id.slots - 1 in
+    let n = c.args.caller.now.id.slots - 1 in
     let S = g.R.Rules.protocol n in
     let p = c.args.pass.now in
     let q = c.all_held.new.pass in

@@ -4,7 +4,8 @@ use Rattle.expr_words.specs.declared.tree.Condition.{Condition}
 use Rattle.expr_words.specs.declared.tree.Paths.{Paths}
 use Rattle.expr_words.specs.Trees.{tree}
 use Rattle.std.proofs.lemmas.Result.{err_from_is_err_and}
-use Rattle.request_parts.specs.declared.refusal.RequestEnd.{RequestEnd}
+use Rattle.request_parts.specs.declared.refusal.Refusal.{Refusal}
+use Rattle.base_types.specs.declared.end.End.{End}
 use Rattle.request_parts.specs.Ends.{IsToldAs}
 use Rattle.request_parts.specs.Placeholders.{shown}
 use Rattle.request_parts.specs.Expressions.{ConditionOf, PathsOf, WhereStated}
@@ -21,7 +22,7 @@ returns-in_err-key_condition c =
     let p = err_from_is_err_and c.from_residual-in_err-key_condition.result c.from_residual-in_err-key_condition.ensures.1 in
     rw (p.1, p.2)
     (query_second k c.args.key.now f (lent c.args.projection) c.in_ok-key.key c.in_err-key_condition.field-0.0 c.in_ok-key.ensures.told
-    (subst (λ (x : Result (Option Condition) RequestEnd). IsToldAs (option_map tree) (WhereStated (ConditionOf k name.FilterExpression) f) x)
+    (subst (λ (x : Result (Option Condition) (End Refusal)). IsToldAs (option_map tree) (WhereStated (ConditionOf k name.FilterExpression) f) x)
     c.in_err-key_condition.ensures c.stated_condition-filter.ensures.told))
 
 -- key condition and filter are read, and the projection is refused
@@ -33,9 +34,9 @@ returns-in_err-key_condition-2 c =
     let p = err_from_is_err_and c.from_residual-in_err-key_condition-2.result c.from_residual-in_err-key_condition-2.ensures.1 in
     rw (p.1, p.2)
     (query_third k c.args.key.now f q c.in_ok-key.key c.in_ok-key_condition.filter c.in_err-key_condition-2.field-0.0 c.in_ok-key.ensures.told
-    (subst (λ (x : Result (Option Condition) RequestEnd). IsToldAs (option_map tree) (WhereStated (ConditionOf k name.FilterExpression) f) x)
+    (subst (λ (x : Result (Option Condition) (End Refusal)). IsToldAs (option_map tree) (WhereStated (ConditionOf k name.FilterExpression) f) x)
     c.in_ok-key_condition.ensures.1 c.stated_condition-filter.ensures.told)
-    (subst (λ (x : Result (Option Paths) RequestEnd). IsToldAs (option_map (λ (y : Paths). y.paths)) (WhereStated (PathsOf k name.ProjectionExpression) q) x)
+    (subst (λ (x : Result (Option Paths) (End Refusal)). IsToldAs (option_map (λ (y : Paths). y.paths)) (WhereStated (PathsOf k name.ProjectionExpression) q) x)
     c.in_err-key_condition-2.ensures c.stated_paths-projection.ensures.told))
 
 pub returns : goal.returns
@@ -55,12 +56,12 @@ returns c =
     (record { key_condition = three.key_condition; page = record { filter = three.filter; projection = three.projection } })
     c.in_ok-used.used after mid last c.all_used.result
     c.in_ok-used.ensures.made_for c.in_ok-used.ensures.unmarked c.in_ok-key.ensures.marks
-    (subst (λ (x : Result (Option Condition) RequestEnd). OnOk x (MarksText k.given f after mid)) two.ensures.1 c.stated_condition-filter.ensures.marks)
-    (subst (λ (x : Result (Option Paths) RequestEnd). OnOk x (MarksText k.given p mid last)) three.ensures.1 c.stated_paths-projection.ensures.marks)
+    (subst (λ (x : Result (Option Condition) (End Refusal)). OnOk x (MarksText k.given f after mid)) two.ensures.1 c.stated_condition-filter.ensures.marks)
+    (subst (λ (x : Result (Option Paths) (End Refusal)). OnOk x (MarksText k.given p mid last)) three.ensures.1 c.stated_paths-projection.ensures.marks)
     (subst (λ (x : Condition). ConditionOf k name.KeyConditionExpression s (Ok (tree x))) (sym key) c.in_ok-key.ensures.told)
     (subst (λ (x : Option Condition). StatesCondition k name.FilterExpression f x) (sym filter)
-    (subst (λ (x : Result (Option Condition) RequestEnd). IsToldAs (option_map tree) (WhereStated (ConditionOf k name.FilterExpression) f) x)
+    (subst (λ (x : Result (Option Condition) (End Refusal)). IsToldAs (option_map tree) (WhereStated (ConditionOf k name.FilterExpression) f) x)
     two.ensures.1 c.stated_condition-filter.ensures.told))
-    (subst (λ (x : Result (Option Paths) RequestEnd). IsToldAs (option_map (λ (q : Paths). q.paths)) (WhereStated (PathsOf k name.ProjectionExpression) p) x)
+    (subst (λ (x : Result (Option Paths) (End Refusal)). IsToldAs (option_map (λ (q : Paths). q.paths)) (WhereStated (PathsOf k name.ProjectionExpression) p) x)
     three.ensures.1 c.stated_paths-projection.ensures.told)
     c.all_used.ensures

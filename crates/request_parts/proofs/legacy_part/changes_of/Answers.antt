@@ -1,4 +1,4 @@
-use Rattle.std.proofs.Common.{◌≡◌, map, append-nil, sym, ◌∙◌, rules}
+use Rattle.std.proofs.Common.{◌≡◌, map, rules}
 use Rattle.serde_json.specs.View.{members_view}
 use Rattle.request_parts.specs.Legacy.{changes_in, shown_change}
 use Rattle.request_parts.proofs.Once.{once}

@@ -13,5 +13,5 @@ returns-in-Ok c =
     let lent = c.as_slice-in-Ok.ensures.value in
     IfOk-weaker c.read.result _ _
     (λ reply told. answered es r (map option_copied c.in-Ok.items.items) c.as_slice.result.now reply c.as_slice.ensures asked.0 asked.1
-    (told ∙ ap (λ found. read_of r.tables (map option_copied found)) lent))
+    (told ∙ ap (λ found. read_of r.capacity r.tables (map option_copied found)) lent))
     c.read.ensures

@@ -12,8 +12,8 @@ returns-in-Ok-clause-done c =
     let is =
     sym c.in-Ok.is ∙ c.in_ok-key.ensures ∙ (λ i. row_key_if (key_in (c.schema.ensures i) (c.schema.ensures i).keys c.args.item)) in
     IfOk-weaker c.put_at.result _ _
-    (λ reply made name.
-    put_done (put_of name c.args.item (option_copied c.args.condition) c.args.values.now c.args.return_values c.args.show_old) c.args.table.now
+    (λ reply made.
+    put_done (put_of c.args.item (option_copied c.args.condition) c.args.values.now c.args.telling) c.args.table.now
     c.put_at.new.table c.in-Ok.key reply c.requires is made)
     c.put_at.ensures.done
 
@@ -21,6 +21,5 @@ pub returns-in-Err-clause-done : goal.returns-in-Err-clause-done
 returns-in-Err-clause-done c =
     let is =
     sym c.in-Err.is ∙ c.in_ok-key.ensures ∙ (λ i. row_key_if (key_in (c.schema.ensures i) (c.schema.ensures i).keys c.args.item)) in
-    λ name.
-    put_refused (put_of name c.args.item (option_copied c.args.condition) c.args.values.now c.args.return_values c.args.show_old) c.args.table.now
+    put_refused (put_of c.args.item (option_copied c.args.condition) c.args.values.now c.args.telling) c.args.table.now
     c.args.table.now c.in-Err.fault c.invalid.result c.requires is (refl, c.invalid.ensures)

@@ -4,7 +4,6 @@ use Rattle.std.proofs.lemmas.Result.{IfOk-weaker}
 use Rattle.expr_words.specs.declared.tree.Condition.{Condition}
 use Rattle.table_model.specs.Writes.{put_item}
 use Rattle.table_items.specs.Effects.{IsDone}
-use Rattle.table_items.specs.Steps.{put_of}
 use Rattle.table_items.proofs.write.put_item.Goals as goal
 
 pub returns : goal.returns
@@ -13,11 +12,10 @@ returns c =
     let lent : option_copied c.as_ref.result ≡ c.args.request.condition = search rules in record {
       done =
           IfOk-weaker c.put-done.result _ _
-          (λ reply all.
+          (λ reply done.
           subst
-          (λ (condition : Option Condition).
-          IsDone r.table (λ db. put_item db (put_of r.table r.item condition r.values r.return_values r.show_old)) c.args.table.now c.put-done.new.table reply)
-          lent (all r.table))
+          (λ (condition : Option Condition). IsDone r.table (λ db. put_item db (record r { condition = condition })) c.args.table.now c.put-done.new.table reply)
+          lent done)
           c.put-done.ensures.done;
       err = c.put-done.ensures.err;
     }

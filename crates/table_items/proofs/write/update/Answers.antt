@@ -12,8 +12,8 @@ returns-in-Ok-clause-done c =
     let is =
     sym c.in-Ok.is ∙ c.in_ok-row.ensures ∙ (λ i. row_key_if (key_alone (c.schema.ensures i) (c.schema.ensures i).keys c.args.key)) in
     IfOk-weaker c.update_at.result _ _
-    (λ reply made name.
-    update_done (update_of name c.args.key (option_copied c.args.update) (option_copied c.args.condition) c.args.values.now c.args.return_values c.args.show_old) c.args.table.now
+    (λ reply made.
+    update_done (update_of c.args.key (option_copied c.args.update) (option_copied c.args.condition) c.args.values.now c.args.telling) c.args.table.now
     c.update_at.new.table c.in-Ok.row reply c.requires is made)
     c.update_at.ensures.done
 
@@ -21,6 +21,5 @@ pub returns-in-Err-clause-done : goal.returns-in-Err-clause-done
 returns-in-Err-clause-done c =
     let is =
     sym c.in-Err.is ∙ c.in_ok-row.ensures ∙ (λ i. row_key_if (key_alone (c.schema.ensures i) (c.schema.ensures i).keys c.args.key)) in
-    λ name.
-    update_refused (update_of name c.args.key (option_copied c.args.update) (option_copied c.args.condition) c.args.values.now c.args.return_values c.args.show_old) c.args.table.now
+    update_refused (update_of c.args.key (option_copied c.args.update) (option_copied c.args.condition) c.args.values.now c.args.telling) c.args.table.now
     c.args.table.now c.in-Err.fault c.invalid.result c.requires is (refl, c.invalid.ensures)

@@ -1,4 +1,4 @@
-use Rattle.std.proofs.Common.{◌≡◌, refl, ap, sym, ◌∙◌, [], option_map, Option, Some, None, subst}
+use Rattle.std.proofs.Common.{◌≡◌, refl, ap, sym, ◌∙◌, option_map, Option, Some, None, subst}
 use Rattle.std.specs.Option.{option_copied}
 use Rattle.std.proofs.lemmas.Result.{IfOk-weaker}
 use Rattle.table_model.specs.declared.reply.Reply.TheVariants.{Refused}
@@ -12,7 +12,7 @@ use Rattle.table_items.proofs.write.update_at.Goals as goal
 pub returns-in_ok-try_clone-in-Some-clause-done : goal.returns-in_ok-try_clone-in-Some-clause-done
 returns-in_ok-try_clone-in-Some-clause-done c =
     let old = c.args.table.now in
-    let r = update_of [] c.args.key (option_copied c.args.update) (option_copied c.args.condition) c.args.values.now c.args.return_values c.args.show_old in
+    let r = update_of c.args.key (option_copied c.args.update) (option_copied c.args.condition) c.args.values.now c.args.telling in
     let found : touched_key old.schema.keys (option_copied c.args.update) ≡ Some c.in-Some.name.now =
     sym (ap option_copied (sym c.in-Some.is) ∙ c.touched_key.ensures ∙ (λ i. touched_key (c.schema.ensures i).keys (option_copied c.args.update))) in
     let P : Option Refusal → Type 0 =
@@ -23,7 +23,7 @@ returns-in_ok-try_clone-in-Some-clause-done c =
 pub returns-in-None-clause-done : goal.returns-in-None-clause-done
 returns-in-None-clause-done c =
     let old = c.args.table.now in
-    let r = update_of [] c.args.key (option_copied c.args.update) (option_copied c.args.condition) c.args.values.now c.args.return_values c.args.show_old in
+    let r = update_of c.args.key (option_copied c.args.update) (option_copied c.args.condition) c.args.values.now c.args.telling in
     let none : touched_key old.schema.keys (option_copied c.args.update) ≡ None =
     sym (ap option_copied (sym c.in-None.is) ∙ c.touched_key.ensures ∙ (λ i. touched_key (c.schema.ensures i).keys (option_copied c.args.update))) in
     IfOk-weaker c.update_row.result _ _

@@ -1,14 +1,15 @@
-use Rattle.std.proofs.Common.{◌≡◌, rules, refl, ap, sym, ◌∙◌, Option, None}
+use Rattle.std.proofs.Common.{◌≡◌, rules, refl, ap, sym, ◌∙◌, Option}
 use Rattle.std.specs.Option.{option_copied}
 use Rattle.std.proofs.lemmas.Result.{IfOk-weaker}
 use Rattle.attr_value.specs.Tree.{Attributes}
 use Rattle.row_keys.specs.Rows.{item_at}
-use Rattle.table_model.specs.declared.reply.Reply.TheVariants.{Written, Refused}
+use Rattle.table_model.specs.declared.reply.Reply.TheVariants.{Refused}
 use Rattle.table_model.specs.declared.refusal.Refusal.TheVariants as refusal
 use Rattle.table_model.specs.declared.refusal.Invalid.TheVariants as invalid
 use Rattle.table_model.specs.Outcome.{becomes, is_false, is_faulty, is_met, where_met, update_outcome}
-use Rattle.table_model.specs.Writes.{shown, shown_if}
+use Rattle.table_model.specs.Writes.{shown_if}
 use Rattle.table_items.specs.Outcomes.{outcome_of}
+use Rattle.table_items.specs.Steps.{told_of}
 use Rattle.table_items.proofs.Steps.{along_outcome}
 use Rattle.table_items.proofs.write.update_row.Goals as goal
 
@@ -19,8 +20,8 @@ returns-in-False-clause-done c =
     let same = ap outcome_of (sym c.in-False.is) ∙ c.in_ok-outcome.ensures ∙ (λ i. where_met (is_met (option_copied c.args.condition) c.args.values.now (c.get-old.ensures i)) (update_outcome (c.schema.ensures i) (option_copied c.args.update) c.args.values.now c.args.key (c.get-old.ensures i))) in
     IfOk-weaker c.failed.result _ _
     (λ reply lost.
-    along_outcome old old c.args.row (shown_if c.args.show_old item) invalid.Evaluation (shown c.args.return_values (option_copied c.args.update) item) reply is_false _ same
-    (refl, lost ∙ ap (λ (o : Option Attributes). Refused (refusal.ConditionFailed (shown_if c.args.show_old o))) c.get-old.ensures))
+    along_outcome old old c.args.row (shown_if c.args.telling.show_old item) invalid.Evaluation (told_of c.args.telling (option_copied c.args.update) item) reply is_false _ same
+    (refl, lost ∙ ap (λ (o : Option Attributes). Refused (refusal.ConditionFailed (shown_if c.args.telling.show_old o))) c.get-old.ensures))
     c.failed.ensures
 
 pub returns-in-Faulty-clause-done : goal.returns-in-Faulty-clause-done
@@ -28,18 +29,18 @@ returns-in-Faulty-clause-done c =
     let old = c.args.table.now in
     let item = item_at old.rows c.args.row in
     let same = ap outcome_of (sym c.in-Faulty.is) ∙ c.in_ok-outcome.ensures ∙ (λ i. where_met (is_met (option_copied c.args.condition) c.args.values.now (c.get-old.ensures i)) (update_outcome (c.schema.ensures i) (option_copied c.args.update) c.args.values.now c.args.key (c.get-old.ensures i))) in
-    along_outcome old old c.args.row (shown_if c.args.show_old item) invalid.Evaluation (shown c.args.return_values (option_copied c.args.update) item) c.invalid.result (is_faulty c.in-Faulty.fault) _ same
+    along_outcome old old c.args.row (shown_if c.args.telling.show_old item) invalid.Evaluation (told_of c.args.telling (option_copied c.args.update) item) c.invalid.result (is_faulty c.in-Faulty.fault) _ same
     (refl, c.invalid.ensures)
 
-pub returns-in_ok-shown-in-Becomes-clause-done : goal.returns-in_ok-shown-in-Becomes-clause-done
-returns-in_ok-shown-in-Becomes-clause-done c =
+pub returns-in_ok-told-in-Becomes-clause-done : goal.returns-in_ok-told-in-Becomes-clause-done
+returns-in_ok-told-in-Becomes-clause-done c =
     let old = c.args.table.now in
     let item = item_at old.rows c.args.row in
     let same = ap outcome_of (sym c.in-Becomes.is) ∙ c.in_ok-outcome.ensures ∙ (λ i. where_met (is_met (option_copied c.args.condition) c.args.values.now (c.get-old.ensures i)) (update_outcome (c.schema.ensures i) (option_copied c.args.update) c.args.values.now c.args.key (c.get-old.ensures i))) in
     let new : option_copied c.as_ref.result ≡ c.in_ok-new-in-Becomes.new = search rules in
-    let told = c.in_ok-shown-in-Becomes.ensures ∙ (λ i. shown c.args.return_values (option_copied c.args.update) (c.get-old.ensures i) (new i)) in
+    let told = c.in_ok-told-in-Becomes.ensures ∙ (λ i. told_of c.args.telling (option_copied c.args.update) (c.get-old.ensures i) (new i)) in
     IfOk-weaker c.make.result _ _
     (λ reply made.
-    along_outcome old c.make.new.table c.args.row (shown_if c.args.show_old item) invalid.Evaluation (shown c.args.return_values (option_copied c.args.update) item) reply (becomes c.in_ok-new-in-Becomes.new) _ (ap becomes c.in_ok-new-in-Becomes.ensures ∙ same)
-    (made.0, made.1 ∙ ap (λ shown. Written shown None) told))
+    along_outcome old c.make.new.table c.args.row (shown_if c.args.telling.show_old item) invalid.Evaluation (told_of c.args.telling (option_copied c.args.update) item) reply (becomes c.in_ok-new-in-Becomes.new) _ (ap becomes c.in_ok-new-in-Becomes.ensures ∙ same)
+    (made.0, made.1 ∙ told))
     c.make.ensures.made

@@ -2,7 +2,7 @@ use Rattle.std.proofs.Common.{[], length, refl, ap, sym, ◌∙◌, arith}
 use Rattle.std.specs.Option.{option_copied}
 use Rattle.paging.specs.Rows.{rows_after}
 use Rattle.paging.proofs.Ordered.{next_row, none_there, fewer_after}
-use Rattle.table_model.specs.declared.reply.Page.{Page}
+use Rattle.table_pages.specs.declared.fill.Filled.{Filled}
 use Rattle.table_pages.specs.Sources.{source_in}
 use Rattle.table_pages.proofs.Filling.{along_few, along_count, along_more, along_stop, along_end}
 use Rattle.table_pages.proofs.fill.fill.Goals as goal
@@ -15,12 +15,12 @@ loop-place-init g c =
         parts = refl;
         filling = λ place. record {
           room_is = c.start-state.ensures.room;
-          page_is = c.empty_page-page.ensures sight.schema.now (source_in sight.source);
+          page_is = c.nothing_filled-filled.ensures sight.schema.now (source_in sight.source);
         };
       };
       going = c.start-state.ensures.going;
       few = fewer_after g.W.Place.Ord.cmp c.args.forward (option_copied c.args.after) (g.W.Walk.listed c.args.rows.now);
-      cost = omega (arith, ap (λ (page : Page). page.scanned) (c.empty_page-page.ensures sight.schema.now (source_in sight.source)));
+      cost = omega (arith, ap (λ (f : Filled). f.page.scanned) (c.nothing_filled-filled.ensures sight.schema.now (source_in sight.source)));
     }
 
 pub add_row-requires-clause-few : goal.add_row-requires-clause-few
@@ -43,7 +43,7 @@ returns-then-branch-clause-page g c =
     let left =
     next_row g.met.W.Place.Ord.total c.args.forward (option_copied c.loop-place.cursor) (g.W.Walk.listed c.args.rows.now)
     (c.in-Some.place.now, c.in-Some.item.now) c.in-Some.ensures.ordered c.in-Some.ensures.first in
-    along_stop sight.schema.now (source_in sight.source) sight.page.now c.loop-place.invariant.along (c.in-Some.place.now, c.in-Some.item.now) _ left c.add_row.new.state c.add_row.new.page
+    along_stop sight.schema.now (source_in sight.source) sight.page.now c.loop-place.invariant.along (c.in-Some.place.now, c.in-Some.item.now) _ left c.add_row.new.state c.add_row.new.filled
     c.in_ok-add_row.ensures.added c.loop-place.invariant.going (sym c.in_ok-add_row.ensures.full ∙ c.if-branch.true)
 
 pub loop-place-smaller : goal.loop-place-smaller
@@ -61,7 +61,7 @@ loop-place-preserved g c =
     (c.in-Some.place.now, c.in-Some.item.now) c.in-Some.ensures.ordered c.in-Some.ensures.first in record {
       along =
           along_more sight.schema.now (source_in sight.source) sight.page.now c.loop-place.invariant.along (c.in-Some.place.now, c.in-Some.item.now) _ left c.add_row.new.state
-          c.add_row.new.page c.in_ok-add_row.ensures.added;
+          c.add_row.new.filled c.in_ok-add_row.ensures.added;
       going = sym c.in_ok-add_row.ensures.full ∙ c.if-branch.false;
       few = c.loop-place.invariant.few;
       cost = omega (arith, c.loop-place.invariant.cost, c.in-Some.ensures.step, c.in_ok-add_row.ensures.scanned);

@@ -13,10 +13,10 @@ invariant-loop-place g l =
     let rows = rows_after cmp l.forward (option_copied l.fn.after) (g.W.Walk.listed l.rows) in
     let left = rows_after cmp l.forward (option_copied l.cursor) (g.W.Walk.listed l.rows) in
     record {
-      along : Along l.sight.schema.now (source_in l.sight.source) l.sight.page.now rows left l.state l.page;
+      along : Along l.sight.schema.now (source_in l.sight.source) l.sight.page.now rows left l.state l.filled;
       going : has_stopped l.state ≡ false;
       few : length rows ≤ length (g.W.Walk.listed l.rows);
-      cost : l.steps ≡ l.fn.steps + l.page.scanned;
+      cost : l.steps ≡ l.fn.steps + l.filled.page.scanned;
     }
 
 abbrev pub decreases-loop-place : goal.decreases-loop-place

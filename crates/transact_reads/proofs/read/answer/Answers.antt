@@ -15,8 +15,8 @@ returns-in-Ok c =
     let reads = c.args.reads.now in
     let none : first (map (λ read. missing (database_of es) read.table) reads) ≡ None = sym c.in_ok-refusal.ensures ∙ c.in_default.is in
     let are = subst (λ (r : Result (List FoundRead) Refusal). AreFound (database_of es) reads r) c.in-Ok.is c.in_ok-found.ensures in
-    IfOk-weaker c.shown.result (λ reply. reply ≡ found_reply c.in-Ok.found) (IsAnswered es reads)
-    (λ reply said. answered_found es reads c.in-Ok.found reply none are said)
+    IfOk-weaker c.shown.result (λ reply. reply ≡ found_reply c.args.capacity c.in-Ok.found) (IsAnswered es reads c.args.capacity)
+    (λ reply said. answered_found es reads c.args.capacity c.in-Ok.found reply none are said)
     c.shown.ensures
 
 pub returns-in-Err : goal.returns-in-Err
@@ -24,5 +24,5 @@ returns-in-Err c =
     let es = c.args.tables.now.entries in
     let reads = c.args.reads.now in
     let none : first (map (λ read. missing (database_of es) read.table) reads) ≡ None = sym c.in_ok-refusal.ensures ∙ c.in_default.is in
-    answered_unfit es reads c.in-Err.refusal none
+    answered_unfit es reads c.args.capacity c.in-Err.refusal none
     (subst (λ (r : Result (List FoundRead) Refusal). AreFound (database_of es) reads r) c.in-Err.is c.in_ok-found.ensures)

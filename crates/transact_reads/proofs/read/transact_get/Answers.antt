@@ -6,4 +6,4 @@ use Rattle.transact_reads.proofs.read.transact_get.Goals as goal
 
 pub returns : goal.returns
 returns c =
-    subst (λ (reads : List TransactRead). IfOk c.answer-reply.result (IsAnswered c.args.tables.now.entries reads)) c.as_slice.ensures c.answer-reply.ensures
+    subst (λ (reads : List TransactRead). IfOk c.answer-reply.result (IsAnswered c.args.tables.now.entries reads c.args.request.capacity)) c.as_slice.ensures c.answer-reply.ensures

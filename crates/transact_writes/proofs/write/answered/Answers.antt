@@ -12,5 +12,5 @@ returns-in-None-clause-ok c =
     subst
     (λ (token : Option (List ℕ)).
     IsAnswered c.args.tables.now.entries tokens (map action_in c.args.aimed) token c.args.moment c.made.new.tables.entries tokens reply)
-    (sym c.in-None.is) (λ made. is tokens made c.args.moment))
+    (sym c.in-None.is) (λ consumed made. is consumed tokens made c.args.moment))
     c.made.ensures.ok

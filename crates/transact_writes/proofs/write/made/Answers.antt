@@ -13,6 +13,6 @@ pub returns-in_ok-change_all-in-Ok-clause-ok : goal.returns-in_ok-change_all-in-
 returns-in_ok-change_all-in-Ok-clause-ok c =
     let es = c.args.tables.now.entries in
     let judged = subst (AreJudged (database_of es) (map action_in c.args.aimed)) c.in-Ok.is c.in_ok-changes.ensures in
-    λ tokens made moment.
-    made_with es c.change_all.new.tables.entries tokens made moment c.args.aimed None c.in-Ok.changes c.requires.fit judged
+    λ consumed tokens made moment.
+    made_with consumed es c.change_all.new.tables.entries tokens made moment c.args.aimed None c.in-Ok.changes c.requires.fit judged
     c.in_ok-change_all-in-Ok.ensures.ok

@@ -2,11 +2,10 @@ use Rattle.std.proofs.Common.{rules, ◌≡◌, List, map, None, Some, sym, ap, 
 use Rattle.std.specs.FinMap.{get}
 use Rattle.std.proofs.lemmas.Result.{IfOk-weaker}
 use Rattle.table_model.specs.declared.action.NumberedAction.{NumberedAction}
-use Rattle.table_model.specs.declared.reply.Reply.{Reply}
 use Rattle.transact_writes.specs.declared.aimed.Aimed.{Aimed}
 use Rattle.transact_writes.specs.Aimed.{database_of, action_in}
 use Rattle.transact_writes.specs.Verdicts.{AreJudged}
-use Rattle.transact_writes.specs.Writes.{repeat_reply, IsKept, IsAnswered}
+use Rattle.transact_writes.specs.Writes.{Ending, repeat_ending, IsKept, IsAnswered}
 use Rattle.transact_writes.proofs.Whole.{once_each, kept_before, kept_now}
 use Rattle.transact_writes.proofs.write.made_once.Goals as goal
 
@@ -16,8 +15,8 @@ returns-in-Some-clause-ok c =
     let tokens = c.args.tokens.now in
     let kept = c.in-Some.kept.now in
     let found : get tokens c.args.token ≡ Some kept = search rules in
-    subst (λ (reply : Reply). IsAnswered es tokens (map action_in c.args.aimed) (Some c.args.token) c.args.moment es tokens reply)
-    (sym (c.repeated.ensures ∙ ap (λ (xs : List Aimed). repeat_reply kept (map (λ (a : Aimed). a.action) xs)) c.as_slice.ensures))
+    subst (λ (ending : Ending). IsAnswered es tokens (map action_in c.args.aimed) (Some c.args.token) c.args.moment es tokens ending)
+    (sym (c.repeated.ensures ∙ ap (λ (xs : List Aimed). repeat_ending kept (map (λ (a : Aimed). a.action) xs)) c.as_slice.ensures))
     (kept_before es tokens c.args.aimed c.args.token c.args.moment kept c.requires.fit.targets found)
 
 pub keep-requires-clause-apart : goal.keep-requires-clause-apart

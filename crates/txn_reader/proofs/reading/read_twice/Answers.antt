@@ -7,7 +7,7 @@ use Rattle.txn_reader.proofs.reading.read_twice.Goals as goal
 
 pub returns-in_err-second-clause-err : goal.returns-in_err-second-clause-err
 returns-in_err-second-clause-err g c =
-    let S = g.R.Rules.protocol (c.args.cluster.now.id.slots - 1) in
+    let S = g.R.Rules.protocol (c.args.caller.now.id.slots - 1) in
     let p = c.args.pass.now in
     let q = c.read_round.new.pass in
     let keys = c.args.keys.now in
@@ -22,7 +22,7 @@ returns-in_err-second-clause-err g c =
 
 pub returns-in-NoTable-2-clause-ok : goal.returns-in-NoTable-2-clause-ok
 returns-in-NoTable-2-clause-ok g c =
-    let S = g.R.Rules.protocol (c.args.cluster.now.id.slots - 1) in
+    let S = g.R.Rules.protocol (c.args.caller.now.id.slots - 1) in
     let p = c.args.pass.now in
     let q = c.read_round.new.pass in
     let r = c.read_round-2.new.pass in
@@ -34,7 +34,7 @@ returns-in-NoTable-2-clause-ok g c =
 
 pub returns-in_err-rule-clause-err : goal.returns-in_err-rule-clause-err
 returns-in_err-rule-clause-err g c =
-    let S = g.R.Rules.protocol (c.args.cluster.now.id.slots - 1) in
+    let S = g.R.Rules.protocol (c.args.caller.now.id.slots - 1) in
     let p = c.args.pass.now in
     let q = c.read_round.new.pass in
     let r = c.read_round-2.new.pass in
@@ -46,7 +46,7 @@ returns-in_err-rule-clause-err g c =
 
 pub returns-clause-ok : goal.returns-clause-ok
 returns-clause-ok g c =
-    let S = g.R.Rules.protocol (c.args.cluster.now.id.slots - 1) in
+    let S = g.R.Rules.protocol (c.args.caller.now.id.slots - 1) in
     let p = c.args.pass.now in
     let q = c.read_round.new.pass in
     let r = c.read_round-2.new.pass in
@@ -57,7 +57,7 @@ returns-clause-ok g c =
 
 pub returns-clause-point : goal.returns-clause-point
 returns-clause-point g c =
-    let n = c.args.cluster.now.id.slots - 1 in
+    let n = c.args.caller.now.id.slots - 1 in
     let S = g.R.Rules.protocol n in
     let p = c.args.pass.now in
     let q = c.read_round.new.pass in

@@ -2,7 +2,7 @@ use Rattle.std.proofs.Common.{◌≡◌, List, [], ◌∷◌, ◌++◌, codes, R
 use Rattle.json.specs.Token.{Token, begin_object, end_object, key, number, string}
 use Rattle.json.specs.Tree.{json_tokens}
 use Rattle.capacity.specs.Units.{units}
-use Rattle.table_request.specs.declared.capacity.Consumed.{Consumed}
+use Rattle.table_request.specs.declared.consumed.Consumed.{Consumed}
 use Rattle.api_reply.specs.Capacity.{capacity}
 use Rattle.api_reply.proofs.consumed.ConsumedCapacity.write.Goals as goal
 

@@ -4,8 +4,9 @@ use Rattle.attr_value.specs.Paths.{with_value, reach, HasBadPath, IsBadPathWhere
 use Rattle.attr_value.specs.Sizes.{item_depth, most_levels}
 use Rattle.attr_value.specs.Tree.{Tree, Attributes}
 use Rattle.attr_value.specs.View.{tree_of}
-use Rattle.attr_value.specs.declared.fault.ValueEnd.{ValueEnd}
-use Rattle.attr_value.specs.declared.fault.ValueEnd.TheVariants.{Fault, NoMemory}
+use Rattle.attr_value.specs.declared.fault.ValueFault.{ValueFault}
+use Rattle.base_types.specs.declared.end.End.{End}
+use Rattle.base_types.specs.declared.end.End.TheVariants.{Fault, NoMemory}
 use Rattle.attr_value.specs.declared.fault.ValueFault.TheVariants.{EmptySet, DuplicateInSet, TooDeep, BadPath}
 use Rattle.attr_value.proofs.DepthLaws.{deeper, stays_within}
 use Rattle.attr_value.proofs.value.Item.set.Goals as goal
@@ -35,7 +36,7 @@ returns-clause-deeper c =
     )
 
 -- where the value does not reach too deep, the path is bad exactly where `set_in` says so
-bad_exactly : (r : Result Unit ValueEnd) (steps : List Step) (old new : Attributes) (value : Tree) → reach steps value ≤ most_levels
+bad_exactly : (r : Result Unit (End ValueFault)) (steps : List Step) (old new : Attributes) (value : Tree) → reach steps value ≤ most_levels
     → OnOk r (with_value steps old value ≡ Some new) → IfErr r (IsBadPathWhere (with_value steps old value ≡ None))
     → (r ≡ Err (Fault BadPath) → HasBadPath most_levels steps old value) × (HasBadPath most_levels steps old value → r ≡ Err (Fault BadPath))
 bad_exactly (Ok u) steps old new value near put bad = (λ e. cc, λ none. cc)
@@ -56,7 +57,7 @@ returns-clause-bad_path c =
     let bad = subst (λ s. IfErr c.set_in.result (IsBadPathWhere (with_value s old value ≡ None))) c.as_slice.ensures c.set_in.ensures.bad_path in
     bad_exactly c.set_in.result steps old new value (omega (arith, near)) put bad
 
-either_end : (r : Result Unit ValueEnd) (steps : List Step) (old new : Attributes) (value : Tree)
+either_end : (r : Result Unit (End ValueFault)) (steps : List Step) (old new : Attributes) (value : Tree)
     → OnOk r (with_value steps old value ≡ Some new) → OnErr r (new ≡ old) → (most_levels < reach steps value → ⊥)
     → item_depth old ≤ most_levels → item_depth new ≤ most_levels
 either_end (Ok u) steps old new value put kept near within = stays_within most_levels steps old new value put near within

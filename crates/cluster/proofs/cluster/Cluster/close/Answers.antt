@@ -8,7 +8,7 @@ use Rattle.cluster.proofs.cluster.Cluster.close.Goals as goal
 
 pub close-requires-clause-of : goal.close-requires-clause-of
 close-requires-clause-of g c = λ i p at.
-    let h = c.requires.of i p at in (h.0 ∙ sym (ap (λ (t : TurnstileView). t.id) c.self.view_is), h.1)
+    let h = c.requires.rest i p at in (h.of ∙ sym (ap (λ (t : TurnstileView). t.id) c.self.view_is), h.free)
 
 pub split-requires-clause-kinds : goal.split-requires-clause-kinds
 split-requires-clause-kinds g c = λ i b at.

@@ -1,11 +1,11 @@
 use Rattle.std.specs.Map.{lookup}
-use Rattle.std.proofs.Common.{rules, ◌≡◌, None, Some, option_map, sym, subst}
+use Rattle.std.proofs.Common.{rules, ◌≡◌, None, Some, sym, subst}
 use Rattle.item_keys.specs.ItemKey.{key_alone}
 use Rattle.table_model.specs.declared.reply.Reply.TheVariants as answer
 use Rattle.table_model.specs.declared.refusal.Refusal.TheVariants.{NoTable}
 use Rattle.table_model.specs.Database.{Database, at_key}
 use Rattle.table_model.specs.Writes.{old_at}
-use Rattle.table_model.specs.Reads.{get_item, view}
+use Rattle.table_model.specs.Reads.{get_item, told_read}
 use Rattle.numbered_tables.specs.Tables.{database_in}
 use Rattle.numbered_tables.proofs.Kept.{at, absent, there, no_table}
 use Rattle.plain_database.proofs.database.SlowDb.get_item.Goals as goal
@@ -18,7 +18,7 @@ returns-in_default c =
     let none : lookup (at r.table) t.tables.entries ≡ None = search rules in
     subst (λ (d : Database). (d, answer.Refused (NoTable r.table)) ≡ get_item d r) c.self.view_is
     (no_table db r.table
-    (λ table. at_key db (key_alone table.schema table.schema.keys r.key) (λ key. (db, answer.Read (option_map (view r.projection) (old_at table key)) None)))
+    (λ table. at_key db (key_alone table.schema table.schema.keys r.key) (λ key. (db, told_read r (old_at table key))))
     (absent t.tables.entries t.tokens t.made r.table none))
 
 pub returns : goal.returns

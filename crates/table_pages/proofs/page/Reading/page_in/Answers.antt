@@ -14,29 +14,29 @@ returns-then-eq-clause-page g c = λ number.
     let kept = c.args.self.now.rows.now in
     let source = source_in c.args.self.now.source in
     none_at_zero kept.schema source c.args.self.now.request.now
-    (rows_in (table_at number kept) source c.args.span c.args.self.now.forward (option_copied c.args.self.now.start)) c.empty_page.result c.if-eq.ensures
-    (c.empty_page.ensures kept.schema source)
+    (rows_in (table_at number kept) source c.args.span c.args.self.now.forward (option_copied c.args.self.now.start)) c.nothing_filled.result c.if-eq.ensures
+    (c.nothing_filled.ensures kept.schema source)
 
 pub returns-in-Table-clause-page : goal.returns-in-Table-clause-page
 returns-in-Table-clause-page g c =
     let kept = c.args.self.now.rows.now in
-    IfOk-weaker c.table_page-page.result _ _
+    IfOk-weaker c.table_page-filled.result _ _
     (λ page filled number.
     subst
     (λ (source : Source).
     IsFilled kept.schema source c.args.self.now.request.now
     (rows_in (table_at number kept) source c.args.span c.args.self.now.forward (option_copied c.args.self.now.start)) page)
     (sym (ap source_in c.in-Table.is)) (filled number))
-    c.table_page-page.ensures.page
+    c.table_page-filled.ensures.page
 
 pub returns-in_ok-ends-in-Local-clause-page : goal.returns-in_ok-ends-in-Local-clause-page
 returns-in_ok-ends-in-Local-clause-page g c =
     let kept = c.args.self.now.rows.now in
     let source = source_in c.args.self.now.source in
-    IfOk-weaker c.index_page-page.result _ _
+    IfOk-weaker c.index_page-filled.result _ _
     (λ page filled number.
     subst (λ (entries : Entries). IsFilled kept.schema source c.args.self.now.request.now entries page)
     (positions_are (table_at number kept) source c.in_ok-ends-in-Local.ends c.args.span c.args.self.now.forward (option_copied c.args.self.now.start)
     c.in_ok-ends-in-Local.ensures)
     (filled number))
-    c.index_page-page.ensures.page
+    c.index_page-filled.ensures.page

@@ -6,11 +6,11 @@ returns-in-Ok-clause-step g c =
     answered_step c.args.pass.now c.tick.new.self c.serve.new.pass c.args.message.now c.args.moment c.serve.result.status _ c.in-Ok.request
     c.tick.ensures c.in-Ok.ensures c.serve.ensures.answered
 
-pub returns-in-Err-Refused-clause-step : goal.returns-in-Err-Refused-clause-step
-returns-in-Err-Refused-clause-step g c =
-    refused_step c.args.pass.now c.tick.new.self c.args.message.now c.args.moment c.refuse.result.status _ c.in-Err-Refused.refusal
-    c.tick.ensures (rw c.in-Err-Refused.field-0-is at c.in-Err-Refused.ensures)
-    (rw c.in-Err-Refused.field-0-is at c.refuse.ensures.told)
+pub returns-in-Err-Fault-clause-step : goal.returns-in-Err-Fault-clause-step
+returns-in-Err-Fault-clause-step g c =
+    refused_step c.args.pass.now c.tick.new.self c.args.message.now c.args.moment c.refuse.result.status _ c.in-Err-Fault.refusal
+    c.tick.ensures (rw c.in-Err-Fault.field-0-is at c.in-Err-Fault.ensures)
+    (rw c.in-Err-Fault.field-0-is at c.refuse.ensures.told)
 
 pub returns-in-Err-NoMemory-clause-step : goal.returns-in-Err-NoMemory-clause-step
 returns-in-Err-NoMemory-clause-step g c =

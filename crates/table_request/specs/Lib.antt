@@ -1,0 +1,2 @@
+-- What was used of tables, added up.
+pub mod Usage

@@ -1,6 +1,0 @@
-use Rattle.std.proofs.Common.{◌≡◌, reverse, take}
-use Rattle.txn_core.specs.History.{reasons_of}
-use Rattle.txn_core.proofs.past.reasons_of.Given as goal
-
-abbrev pub invariant-loop-entry : goal.invariant-loop-entry
-invariant-loop-entry g l = l.found ≡ reasons_of (reverse (take l.entry-index l.past)) l.number
