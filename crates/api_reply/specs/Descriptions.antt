@@ -1,7 +1,7 @@
 -- How a table is described (API Reference: TableDescription, TimeToLiveSpecification, TimeToLiveDescription).
 use Rattle.std.specs.Prelude.{ℕ, ◌/◌, List, [], ◌∷◌, ◌++◌, codes, Bool, true, false, Option, None, Some, option_map}
 use Rattle.serde_json.specs.Data as json
-use Rattle.serde_json.specs.Data.{Data, Members, no_members, member, object, string, boolean}
+use Rattle.serde_json.specs.Data.{Data, no_members, member, object, string, boolean}
 use Rattle.table_schema.specs.declared.definition.Definition.{Definition}
 use Rattle.table_schema.specs.declared.definition.KeyKind.{KeyKind}
 use Rattle.table_schema.specs.declared.definition.KeyKind.TheVariants as kind

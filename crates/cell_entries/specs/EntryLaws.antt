@@ -118,7 +118,8 @@ named catalog (Row key) item q h = absurd (cc)
 
 -- a time to live leaves them
 module _ (schema : Schema) (attribute : List ℕ) (enabled : Bool) (key : ItemKey) (item : Attributes) where
-  expiring_from : (locals : List LocalIndex) (place : ℕ) → entries_from (expiring schema attribute enabled) locals place key item ≡ entries_from schema locals place key item
+  expiring_from : (locals : List LocalIndex) (place : ℕ)
+      → entries_from (expiring schema attribute enabled) locals place key item ≡ entries_from schema locals place key item
   expiring_from [] place = refl
   expiring_from (index ∷ rest) place =
       λ i. entry_at key place (position_if key.key (same_attributes_key schema attribute enabled index.keys item i)) ++ expiring_from rest (place + 1) i

@@ -1,5 +1,5 @@
 -- What a table's time to live is nothing to: keys, what actions make of items, and rows of indexes.
-use Rattle.std.proofs.Common.{◌≡◌, ℕ, Bool, if◌then◌else◌, List, [], ◌∷◌, ◌||◌, Option, None, Some, option_map, Result, Ok, Err, unwrap_or, refl, ap, ◌∙◌}
+use Rattle.std.proofs.Common.{◌≡◌, ℕ, Bool, if◌then◌else◌, List, ◌||◌, Option, None, Some, option_map, Result, Ok, Err, unwrap_or, refl, ap}
 use Rattle.std.specs.List.{list_any}
 use Rattle.attr_value.specs.Tree.{Attributes}
 use Rattle.attr_value.specs.declared.value.Value.{Value}
@@ -12,15 +12,14 @@ use Rattle.item_keys.specs.ItemKey.{both, key_from, key_in, part_in, sort_in}
 use Rattle.item_keys.specs.Row.{is_kept, only}
 use Rattle.item_keys.specs.Unfit.{is_bad, is_bad_sort}
 use Rattle.row_keys.specs.Rows.{index_keys, is_refused, position_if}
-use Rattle.table_model.specs.Outcome.{Outcome, becomes, is_faulty, fit, fit_if, is_too_large, where_met}
-use Rattle.cell_model.specs.declared.key.CellKey.{CellKey}
+use Rattle.table_model.specs.Outcome.{becomes, is_faulty, fit, fit_if, is_too_large, where_met}
 use Rattle.cell_model.specs.declared.key.CellKey.TheVariants.{Row}
 use Rattle.cell_model.specs.declared.key.ItemKey.{ItemKey}
 use Rattle.cell_model.specs.declared.catalog.CatalogTable.{CatalogTable}
 use Rattle.cell_model.specs.Actions.{ItemAction, ItemChange, Put, Update, Delete, Check, change_outcome, is_met, outcome_in, outcome_of, updated_by}
 use Rattle.cell_model.specs.Catalogs.{index_at, numbered_indexes}
 use Rattle.cell_model.specs.Commands.{expiring, expiring_table}
-use Rattle.cell_model.specs.IndexRows.{row_at, row_if, row_in}
+use Rattle.cell_model.specs.IndexRows.{row_if, row_in}
 
 module _ (schema : Schema) (attribute : List ℕ) (enabled : Bool) where
   abbrev later : Schema

@@ -42,7 +42,8 @@ impl<R: PageRules> Model for Cluster<R> {
 
     ghost view = { λ c. c.turnstile };
 
-    ghost invariant = { λ c. (2 ≤ c.turnstile.id.slots) × (c.turnstile.id.slots ≤ 65) × (c.room.items ≡ []) × (c.turnstile.id.slots ≤ vec_capacity c.room + 1) };
+    ghost invariant = { λ c. (2 ≤ c.turnstile.id.slots) × (c.turnstile.id.slots ≤ 65) × (c.room.items ≡ [])
+        × (c.turnstile.id.slots ≤ vec_capacity c.room + 1) };
 }
 
 impl<R: PageRules> Cluster<R> {

@@ -16,9 +16,9 @@ use Rattle.txn_core.specs.declared.answer.Answer.{Answer}
 use Rattle.txn_core.specs.declared.message.Message.{Message}
 use Rattle.txn_core.specs.Indexing.{indexed}
 use Rattle.txn_core.specs.Feeding.{feed_after}
-use Rattle.txn_core.specs.Legal.{IsAnswer, due_among, expired_keys, is_due, only_expired, state}
+use Rattle.txn_core.specs.Legal.{IsAnswer, due_among, expired_keys, is_due, state}
 use Rattle.txn_core.specs.Service.{Service, History, IsServiceLawful, Reply}
-use Rattle.txn_core.specs.State.{Pending as Held, Spot, State}
+use Rattle.txn_core.specs.State.{Pending as Held, State}
 use Rattle.item_store.specs.declared.slot.Committed.{Committed}
 use Rattle.item_store.specs.declared.slot.Slot.{Slot}
 use Rattle.item_store.specs.declared.table.TableItems.{TableItems}

@@ -1,16 +1,15 @@
 -- A list in the order of numbers is its parts of one number each, one after the other.
-use Rattle.std.proofs.Common.{◌≡◌, ◌⊎◌, inl, inr, ℕ, ◌<◌, ◌≤◌, nat_eq, nat_le, nat_lt, Bool, true, false, if◌then◌else◌, ◌&&◌, filter, map, List, [], ◌∷◌, ◌++◌, Option, None, Some, is_some, refl, sym, ap, ◌∙◌, subst, arith}
+use Rattle.std.proofs.Common.{◌≡◌, inl, inr, ℕ, ◌<◌, ◌≤◌, nat_eq, nat_lt, Bool, true, false, if◌then◌else◌, filter, map, List, [], ◌∷◌, ◌++◌, Option, None, Some, is_some, refl, sym, ap, ◌∙◌, subst, arith}
 use Rattle.std.proofs.Common.{Less, Equal, Greater}
 use Rattle.std.specs.List.{flat_map}
 use Rattle.std.specs.Ordering.{is_eq, nat_cmp}
 use Rattle.std.specs.BTreeMap.{is_at}
 use Rattle.std.specs.Map.{lookup}
-use Rattle.std.proofs.lemmas.Bool.{cases_Bool, cond_both, cond-false, cond-true, eqb-true, eqb-false, le-leb, lt-leb, lt-ltb, ltb-true}
+use Rattle.std.proofs.lemmas.Bool.{cases_Bool, cond_both, eqb-true, eqb-false, le-leb, lt-leb, ltb-true}
 use Rattle.std.proofs.lemmas.Map.Entries.{lookup_tail}
 use Rattle.index_feed.specs.Feed.{Each}
 use Rattle.index_feed.proofs.Overlays.{each_weaker}
 use Rattle.txn_core.specs.Legal.{in_order_of, placed_by}
-use Rattle.index_changes.proofs.Basics.{some_is}
 use Rattle.partition.proofs.Lists.{Ascend, each_append, each_flat_map, looked}
 
 pub less_is : (x y : ℕ) → nat_cmp x y ≡ Less → x < y

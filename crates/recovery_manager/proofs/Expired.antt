@@ -1,5 +1,5 @@
 -- Expired items are removed, one after another.
-use Rattle.std.proofs.Common.{◌≡◌, ◌↔◌, ℕ, ◌+◌, ◌<◌, ◌≤◌, Bool, true, false, cond, List, [], ◌∷◌, ◌++◌, length, map, reverse, get_or, Option, Some, slice_get, inl, inr, refl, sym, ap, ◌∙◌, subst, arith, append-nil, length-append}
+use Rattle.std.proofs.Common.{◌≡◌, ◌↔◌, ℕ, ◌+◌, ◌<◌, ◌≤◌, Bool, true, false, cond, List, [], ◌∷◌, ◌++◌, length, reverse, get_or, Some, slice_get, inl, inr, refl, sym, ap, ◌∙◌, subst, arith, append-nil, length-append}
 use Rattle.std.proofs.lemmas.List.{length-take}
 use Rattle.std.proofs.lemmas.List.Sums.{sum_by_push}
 use Rattle.std.proofs.lemmas.Option.{slice_get_read}
@@ -8,13 +8,13 @@ use Rattle.txn_core.specs.declared.message.Message.{Message}
 use Rattle.txn_core.specs.declared.answer.Answer.{Answer}
 use Rattle.txn_core.specs.History.{is_expired}
 use Rattle.txn_core.specs.Legal.{expired_keys}
-use Rattle.txn_core.specs.Service.{Service, Reply, Event, History}
+use Rattle.txn_core.specs.Service.{Service, Reply, Event}
 use Rattle.cluster.specs.declared.step.StepError.{StepError}
 use Rattle.cluster.specs.Events.{event_of}
 use Rattle.cluster.specs.Steps.{IsLater}
 use Rattle.cluster.specs.Counts.{Counts, CountsUntil}
 use Rattle.cluster.proofs.OwnEntries.{counts_none, counts_on, counts_until, same_event}
-use Rattle.recovery_manager.specs.Expiries.{lists_expired, expires, expires_each, removals, ListsExpired, ExpiresOne, ExpiresFirst, ExpiresAll, ExpiresSome, Expires, IsCutOff, ExpiresPartly}
+use Rattle.recovery_manager.specs.Expiries.{lists_expired, expires, expires_each, removals, ListsExpired, ExpiresOne, ExpiresFirst, ExpiresAll, ExpiresSome, Expires, ExpiresPartly}
 
 -- an answer that is none of a removal tells none
 pub not_expired : {K V A F B : Type 0} (a : Answer K V A F B) → ((old : V) → a ≡ Answer.Expired old → ⊥) → is_expired a ≡ false

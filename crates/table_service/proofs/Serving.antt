@@ -1,5 +1,5 @@
 -- What is told of a request, by what its reply tells.
-use Rattle.std.proofs.Common.{◌≡◌, ◌⊎◌, ℕ, refl, inl, inr}
+use Rattle.std.proofs.Common.{ℕ, refl, inl, inr}
 use Rattle.http_front.specs.Replies.{IsReplyStatus}
 use Rattle.table_request.specs.declared.request.Request.{Request}
 use Rattle.table_model.specs.declared.reply.Reply.{Reply}

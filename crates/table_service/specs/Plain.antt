@@ -1,5 +1,5 @@
 -- The steps of a session that has a database of its own.
-use Rattle.std.specs.Prelude.{◌≡◌, ◌⊎◌, ℕ, List}
+use Rattle.std.specs.Prelude.{◌≡◌, ◌⊎◌, ℕ}
 use Rattle.http_front.specs.declared.message.Message.{Message}
 use Rattle.http_session.specs.Exchanges.{Ways}
 use Rattle.table_request.specs.declared.request.Request.{Request}

@@ -1,5 +1,4 @@
-use Rattle.std.proofs.Common.{◌++◌, [], sym, ap, ◌∙◌, take}
-use Rattle.partition.specs.Expiry.{due_in}
+use Rattle.std.proofs.Common.{◌++◌, sym, ap, ◌∙◌, take}
 use Rattle.partition.proofs.Expired.{all_due, never_due}
 use Rattle.partition.proofs.expiry.add_due_of_table.Goals as goal
 

@@ -1,5 +1,4 @@
 use Rattle.std.proofs.Common.{◌∙◌, subst, sym}
-use Rattle.txn_core.specs.History.{is_expired}
 use Rattle.partition.specs.Knows.{LeftByWrite}
 use Rattle.partition.proofs.Evaluated.{expire_answers, expire_leaves, expire_removes, removed_is, removed_says}
 use Rattle.partition.proofs.Moved.{if_ok_with, if_ok_and}

@@ -3,7 +3,7 @@ use Rattle.std.specs.BTreeMap.{IsOrdered}
 use Rattle.std.specs.List.{flat_map}
 use Rattle.index_feed.specs.Feed.{Each}
 use Rattle.partition.specs.Expiry.{AreAtHome, due_in}
-use Rattle.partition.proofs.Expired.{last_due, next_due}
+use Rattle.partition.proofs.Expired.{next_due}
 use Rattle.partition.proofs.expiry.first_due.Goals as goal
 
 pub loop-number-preserved : goal.loop-number-preserved

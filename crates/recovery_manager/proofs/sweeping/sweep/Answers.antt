@@ -7,7 +7,7 @@ use Rattle.recovery_manager.specs.Lists.{numbers_in, AreTheNumbers}
 use Rattle.recovery_manager.specs.Sweeps.{Sweeps, SweepsPartly}
 use Rattle.cluster.proofs.Handed.{handed_on}
 use Rattle.recovery_manager.proofs.Told.{held_until}
-use Rattle.recovery_manager.proofs.Swept.{drives_pass, releases_pass, left_in_lists, left_at_numbers, numbers_begun, left_in_drives, left_in_releases, swept, never_stopped, never_stopped_by_memory}
+use Rattle.recovery_manager.proofs.Swept.{left_in_lists, left_at_numbers, numbers_begun, left_in_drives, left_in_releases, swept, never_stopped, never_stopped_by_memory}
 use Rattle.recovery_manager.proofs.sweeping.sweep.Goals as goal
 
 pub drive_all-driven-requires-clause-begun : goal.drive_all-driven-requires-clause-begun
