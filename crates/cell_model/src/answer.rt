@@ -1,5 +1,8 @@
 //! What is told of the catalog, and of pages.
 
+ghost use Rattle.std.specs.Prelude.{◌≡◌};
+ghost use Rattle.cell_model.specs.Told.{look_in, names_in, part_in, schema_in};
+
 use crate::question::PageRoom;
 use attr_value::SharedItem;
 use base_types::{Seq, Text};
@@ -96,6 +99,89 @@ impl Drop for CatalogAnswer {
                 room: _,
                 stopped: _,
             } => {}
+        }
+    }
+}
+
+/// A table as a Look is told of it.
+#[derive(Drop)]
+pub struct TableLook {
+    pub number: u64,
+    pub schema: Schema,
+    /// The numbers of its global indexes, in the order of the schema.
+    pub indexes: Seq<u64>,
+}
+
+/// Names of tables, in the order of their bytes, and whether more follow.
+#[derive(Drop)]
+pub struct NameList {
+    pub names: Seq<Text>,
+    pub more: bool,
+}
+
+/// A cell's part of a page: its rows, what the page may still take, and whether it has ended.
+#[derive(Drop)]
+pub struct Part {
+    pub rows: Seq<PageRow>,
+    pub room: PageRoom,
+    pub stopped: bool,
+}
+
+// Other modules can't take an answer apart, since it has a `drop` of its own.
+impl CatalogAnswer {
+    /// The table that a Look is told of.
+    pub fn into_look(self) -> Option<TableLook>
+        ensures { result ≡ look_in self }
+    {
+        match self {
+            CatalogAnswer::Table {
+                table,
+                schema,
+                indexes,
+            } => Some(TableLook {
+                number: table,
+                schema,
+                indexes,
+            }),
+            _ => None,
+        }
+    }
+
+    /// The schema that was dropped, or that a table has now.
+    pub fn into_schema(self) -> Option<Schema>
+        ensures { result ≡ schema_in self }
+    {
+        match self {
+            CatalogAnswer::Dropped { schema } | CatalogAnswer::Changed { schema } => Some(schema),
+            _ => None,
+        }
+    }
+
+    /// The names that a Names is told.
+    pub fn into_names(self) -> Option<NameList>
+        ensures { result ≡ names_in self }
+    {
+        match self {
+            CatalogAnswer::NameList { names, more } => Some(NameList { names, more }),
+            _ => None,
+        }
+    }
+
+    /// The part of a page.
+    pub fn into_part(self) -> Option<Part>
+        ensures { result ≡ part_in self }
+    {
+        match self {
+            CatalogAnswer::Part {
+                rows,
+                room,
+                stopped,
+            } => Some(Part {
+                rows,
+                room,
+                stopped,
+            }),
+            _ => None,
         }
     }
 }

@@ -17,7 +17,7 @@ mod laws;
 mod question;
 
 pub use action::{KeyedAction, StatedChange, Statement};
-pub use answer::{CatalogAnswer, PageRow};
+pub use answer::{CatalogAnswer, NameList, PageRow, Part, TableLook};
 pub use catalog::{Catalog, CatalogTable};
 pub use command::CatalogCommand;
 pub use key::{CellKey, IndexRowKey, ItemKey};
