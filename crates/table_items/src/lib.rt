@@ -9,6 +9,7 @@
 //!   Where memory is refused the table is as it was.
 //! - Where it is asked what a request uses of the table's capacity, its items are measured and that is told; else nothing is.
 //!   [`bytes_of`], [`read_mode`] and [`halves_written`] are for those who read or write many items.
+//! - [`Telling`], [`condition_failed`], [`put_fault`] and [`told_read`] make the replies, for those whose items are elsewhere.
 //! - [`put_outcome`], [`update_outcome`] and [`delete_outcome`] tell what becomes of one item and change nothing, for
 //!   those who make many changes together. [`touched_key`] is the key attribute that an update would write.
 //!
@@ -27,7 +28,8 @@ mod write;
 
 pub use key::{key_of_item, key_of_key};
 pub use outcome::{Outcome, delete_outcome, is_met, is_too_large, put_outcome, update_outcome};
-pub use read::{get_item, view};
+pub use read::{get_item, told_read, view};
 pub use returned::{shown, shown_old, touched_key};
+pub use telling::Telling;
 pub use used::{bytes_of, halves_written, read_mode};
-pub use write::{delete_item, put_item, update_item};
+pub use write::{condition_failed, delete_item, put_fault, put_item, update_item};

@@ -57,7 +57,11 @@ fn used(request: &GetItem, item: Option<&SharedItem>) -> Result<Option<Consumed>
 }
 
 /// What is told of an item that may be there.
-fn told(alloc: Global, request: &GetItem, item: Option<&SharedItem>) -> Result<Reply, NoMemory>
+pub fn told_read(
+    alloc: Global,
+    request: &GetItem,
+    item: Option<&SharedItem>,
+) -> Result<Reply, NoMemory>
     ensures { IfOk result (λ reply. reply ≡ told_read request.now (option_copied item.entry)) }
 {
     let shown = view_if(alloc, request.projection.as_ref(), item)?;
@@ -70,7 +74,7 @@ pub fn get_item(table: &TableRows, alloc: Global, request: &GetItem) -> Result<R
     ensures { IfOk result (IsTold request.now.table (λ db. get_item db request.now) table.now) }
 {
     match key_of_key(alloc, table.schema(), &request.key)? {
-        Ok(key) => told(alloc, request, table.get(&key)),
+        Ok(key) => told_read(alloc, request, table.get(&key)),
         Err(fault) => Ok(Reply::Refused(Refusal::Invalid(Invalid::Key(fault)))),
     }
 }

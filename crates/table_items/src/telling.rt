@@ -16,19 +16,19 @@ use table_request::{Consumed, ReturnValues};
 
 /// What a request wants to be told of its write.
 #[derive(Drop)]
-pub(crate) struct Telling {
+pub struct Telling {
     /// The name of the table.
-    pub(crate) table: Text,
-    pub(crate) return_values: ReturnValues,
+    pub table: Text,
+    pub return_values: ReturnValues,
     /// Whether the item is shown where the condition is false of it.
-    pub(crate) show_old: bool,
+    pub show_old: bool,
     /// Whether the capacity that was used is told.
-    pub(crate) capacity: bool,
+    pub capacity: bool,
 }
 
 impl Telling {
     /// The reply to a write that was made. The table's name moves into it.
-    pub(crate) fn written(
+    pub fn written(
         self,
         alloc: Global,
         update: Option<&Update>,

@@ -47,7 +47,7 @@ fn invalid(why: Invalid) -> Reply
 }
 
 /// Why an item can't be put: its size has a text of its own.
-fn put_fault(fault: EvalFault) -> Invalid
+pub fn put_fault(fault: EvalFault) -> Invalid
     ensures { result ≡ put_fault fault }
 {
     match fault {
@@ -57,7 +57,7 @@ fn put_fault(fault: EvalFault) -> Invalid
 }
 
 /// What is told where the condition is false of the item that may be there.
-fn failed(show_old: bool, old: Option<&SharedItem>) -> Result<Reply, NoMemory>
+pub fn condition_failed(show_old: bool, old: Option<&SharedItem>) -> Result<Reply, NoMemory>
     ensures { IfOk result (λ reply. reply ≡ Reply.Refused (Refusal.ConditionFailed (shown_if show_old (option_copied old.entry)))) }
 {
     let old = shown_old(show_old, old)?;
@@ -85,7 +85,7 @@ fn put_at(
             let told = telling.written(alloc, None, old, new.as_ref())?;
             make(table, alloc, key, new, told)
         }
-        Outcome::False => failed(telling.show_old, old),
+        Outcome::False => condition_failed(telling.show_old, old),
         Outcome::Faulty(fault) => Ok(invalid(put_fault(fault))),
     }
 }
@@ -164,7 +164,7 @@ fn update_row(
             let told = telling.written(alloc, update, old, new.as_ref())?;
             make(table, alloc, row, new, told)
         }
-        Outcome::False => failed(telling.show_old, old),
+        Outcome::False => condition_failed(telling.show_old, old),
         Outcome::Faulty(fault) => Ok(invalid(Invalid::Evaluation(fault))),
     }
 }
@@ -278,7 +278,7 @@ fn delete_at(
             let told = telling.written(alloc, None, old, new.as_ref())?;
             make(table, alloc, row, new, told)
         }
-        Outcome::False => failed(telling.show_old, old),
+        Outcome::False => condition_failed(telling.show_old, old),
         Outcome::Faulty(fault) => Ok(invalid(Invalid::Evaluation(fault))),
     }
 }
