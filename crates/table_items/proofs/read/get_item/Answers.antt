@@ -13,9 +13,9 @@ returns-in-Err c =
 
 pub returns-in-Ok : goal.returns-in-Ok
 returns-in-Ok c =
-    IfOk-weaker c.told.result _ _
+    IfOk-weaker c.told_read.result _ _
     (λ reply told.
     get_told c.args.request.now c.args.table.now c.in-Ok.key reply
     (sym c.in-Ok.is ∙ c.in_ok-key.ensures ∙ (λ i. row_key_if (key_alone (c.schema.ensures i) (c.schema.ensures i).keys c.args.request.now.key)))
     (told ∙ ap (told_read c.args.request.now) c.get.ensures))
-    c.told.ensures
+    c.told_read.ensures

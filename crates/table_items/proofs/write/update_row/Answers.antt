@@ -18,11 +18,11 @@ returns-in-False-clause-done c =
     let old = c.args.table.now in
     let item = item_at old.rows c.args.row in
     let same = ap outcome_of (sym c.in-False.is) ∙ c.in_ok-outcome.ensures ∙ (λ i. where_met (is_met (option_copied c.args.condition) c.args.values.now (c.get-old.ensures i)) (update_outcome (c.schema.ensures i) (option_copied c.args.update) c.args.values.now c.args.key (c.get-old.ensures i))) in
-    IfOk-weaker c.failed.result _ _
+    IfOk-weaker c.condition_failed.result _ _
     (λ reply lost.
     along_outcome old old c.args.row (shown_if c.args.telling.show_old item) invalid.Evaluation (told_of c.args.telling (option_copied c.args.update) item) reply is_false _ same
     (refl, lost ∙ ap (λ (o : Option Attributes). Refused (refusal.ConditionFailed (shown_if c.args.telling.show_old o))) c.get-old.ensures))
-    c.failed.ensures
+    c.condition_failed.ensures
 
 pub returns-in-Faulty-clause-done : goal.returns-in-Faulty-clause-done
 returns-in-Faulty-clause-done c =
