@@ -1,5 +1,6 @@
 pub mod Parts
 pub mod Told
+pub mod Ascending
 pub mod Elements
 pub mod Changes
 pub mod Messages

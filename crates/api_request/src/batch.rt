@@ -1,7 +1,8 @@
 //! Requests on many items, each of which is done by itself.
 
-ghost use Rattle.std.specs.Prelude.{◌≡◌, IfOk};
+ghost use Rattle.std.specs.Prelude.{◌≡◌, IfOk, IsTrue};
 ghost use Rattle.serde_json.specs.View.{view, members_view};
+ghost use Rattle.table_request.specs.Batches.{ascend};
 ghost use Rattle.api_form.specs.declared.name.Name.TheVariants as name;
 ghost use Rattle.request_parts.specs.Ends.{IsToldOf};
 ghost use Rattle.request_parts.specs.Members.{inside, item_at};
@@ -105,10 +106,13 @@ pub fn batch_write(alloc: Global, json: &Value) -> Result<BatchWrite, NoMemory>
     }
 }
 
-/// The writes of all tables.
+/// The writes of all tables, whose names ascend.
 fn all_writes(alloc: Global, members: &Map<String, Value>) -> Result<Seq<TableWrites>, NoMemory>
-    ensures { IfOk result (λ tables. tables ≡ table_writes (members_view members.now.entries)) }
+    ensures tables { IfOk result (λ tables. tables ≡ table_writes (members_view members.now.entries)) }
+    ensures ascending { IfOk result (λ tables. IsTrue (ascend tables)) }
 {
+    // What `len` tells of a map: that its keys ascend.
+    let _ = members.len();
     let mut tables = Seq::new(alloc);
     for (key, json) in members.iter() {
         let table = Text::copied(alloc, key)?;

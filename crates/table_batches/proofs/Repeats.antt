@@ -14,11 +14,12 @@ use Rattle.row_keys.specs.declared.row_key.RowKey.{RowKey}
 use Rattle.row_keys.specs.Keys.{row_order}
 use Rattle.table_request.specs.declared.batches.TableWrites.{TableWrites}
 use Rattle.table_request.specs.declared.batches.WriteRequest.{WriteRequest}
+use Rattle.table_request.specs.Batches.{is_before, ascend}
 use Rattle.table_model.specs.Database.{Database, Table, table_named}
 use Rattle.table_model.specs.Batches.{place_if, has_twice, write_key, write_keys, write_keys_if, write_image}
 use Rattle.numbered_tables.specs.declared.change.TableChange.{TableChange}
 use Rattle.numbered_tables.specs.Changes.{is_same, has_repeat}
-use Rattle.table_batches.specs.Writes.{change_if, changes_if, changes_in, is_before, ascend}
+use Rattle.table_batches.specs.Writes.{change_if, changes_if, changes_in}
 
 either_false : (a b : Bool) → (a || b) ≡ false → (a ≡ false) × (b ≡ false)
 either_false true b is = absurd (cc)

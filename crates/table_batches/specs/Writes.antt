@@ -1,8 +1,6 @@
 -- What a BatchWriteItem changes, as the code goes over it.
-use Rattle.std.specs.Prelude.{ℕ, List, [], ◌∷◌, filter_map, Bool, true, ◌&&◌, Option, None, Some}
+use Rattle.std.specs.Prelude.{ℕ, List, [], ◌∷◌, filter_map, Option, None, Some}
 use Rattle.std.specs.List.{list_any}
-use Rattle.std.specs.Ordering.{nat_cmp, is_lt}
-use Rattle.std.specs.Cmp.Lexicographic.{slice_cmp}
 use Rattle.update_eval.specs.declared.fault.EvalFault.TheVariants.{IndexKey}
 use Rattle.row_keys.specs.declared.row_key.RowKey.{RowKey}
 use Rattle.table_request.specs.declared.batches.TableWrites.{TableWrites}
@@ -37,13 +35,3 @@ items_refusal db ts =
     (where_true (list_any (λ t. list_any is_oversized t.writes) ts) (Invalid invalid.ItemTooLarge)
     ∷ where_true (list_any (λ t. list_any (is_unfit_write (table_named db t.table)) t.writes) ts) (Invalid (invalid.Evaluation IndexKey))
     ∷ [])
-
--- the first name comes before the next one
-abbrev pub is_before : TableWrites → List TableWrites → Bool
-is_before t [] = true
-is_before t (u ∷ ts) = is_lt (slice_cmp nat_cmp t.table u.table)
-
--- the names of the tables ascend, so that each stands once
-abbrev pub ascend : List TableWrites → Bool
-ascend [] = true
-ascend (t ∷ ts) = is_before t ts && ascend ts

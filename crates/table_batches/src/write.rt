@@ -1,12 +1,13 @@
 //! BatchWriteItem.
 
-ghost use Rattle.std.specs.Prelude.{◌≡◌, [], false, None, Some, IfOk, OnErr, MatchResult};
+ghost use Rattle.std.specs.Prelude.{◌≡◌, false, None, Some, IsTrue, IfOk, OnErr, MatchResult};
 ghost use Rattle.std.specs.List.{flat_map};
+ghost use Rattle.table_request.specs.Batches.{ascend};
 ghost use Rattle.table_model.specs.Batches.{batch_write_refusal};
 ghost use Rattle.numbered_tables.specs.Tables.{AreIdle};
 ghost use Rattle.numbered_tables.specs.Changes.{has_repeat};
 ghost use Rattle.table_batches.specs.Answers.{IsWritten, tables_alone};
-ghost use Rattle.table_batches.specs.Writes.{changes_in, ascend};
+ghost use Rattle.table_batches.specs.Writes.{changes_in};
 
 use crate::change::changes_of_all;
 use crate::fit::{some_oversized, some_unfit};
@@ -20,28 +21,14 @@ use table_model::{Invalid, Refusal, Reply};
 use table_request::{BatchWrite, TableWrites};
 use update_eval::EvalFault;
 
-/// Whether the names of the tables ascend, so that each stands once.
-fn ascend(requests: &[TableWrites]) -> bool
-    ensures { result ≡ ascend requests.now }
-{
-    let mut rest = requests;
-    while let Some((first, others)) = rest.split_first() {
-        if let Some(next) = others.first() {
-            if first.table >= next.table {
-                return false;
-            }
-        }
-        rest = others;
-    }
-    true
-}
-
-/// The changes that a request is, or its refusal.
+/// The changes that a request is, or its refusal. The names of its tables ascend, so that the changes of one table are of
+/// other items than those of another.
 fn changes_asked(
     tables: &BTreeMap<Text, NumberedTable>,
     alloc: Global,
     requests: Seq<TableWrites>,
 ) -> Result<Result<Seq<TableChange>, Refusal>, NoMemory>
+    requires ascending { IsTrue (ascend requests) }
     ensures { IfOk result (λ asked. MatchResult asked
         (λ changes. (batch_write_refusal (tables_alone tables.now.entries) requests ≡ None)
         × (changes ≡ flat_map (changes_in (tables_alone tables.now.entries)) requests) × (has_repeat changes ≡ false))
@@ -53,7 +40,6 @@ fn changes_asked(
     }
     let oversized = some_oversized(requests.as_slice());
     let unfit = some_unfit(tables, requests.as_slice());
-    let apart = ascend(requests.as_slice());
     let changes = match changes_of_all(tables, alloc, requests)? {
         Ok(changes) => changes,
         Err(why) => return Ok(Err(Refusal::Invalid(why))),
@@ -66,19 +52,12 @@ fn changes_asked(
         drop(changes);
         return Ok(Err(Refusal::Invalid(Invalid::Evaluation(EvalFault::IndexKey))));
     }
-    if !apart {
-        drop(changes);
-        return Err(NoMemory);
-    }
     Ok(Ok(changes))
 }
 
 /// Makes and drops items of several tables (API Reference: BatchWriteItem). It is refused, in this order, for a table that
 /// is not there, for the form of a key, for a key that stands twice in a table, for an item of more than 409,600 bytes, and
-/// for the key of an index. Otherwise all writes are made.
-///
-/// Where memory is refused nothing changes. So it is where the names of the tables do not ascend: those of a message do,
-/// and it is by their order that no two writes are known to be of one item, which could not be made together.
+/// for the key of an index. Otherwise all writes are made. Where memory is refused nothing changes.
 pub fn batch_write(
     tables: &mut BTreeMap<Text, NumberedTable>,
     alloc: Global,

@@ -103,6 +103,7 @@ abbrev pub write_two : BatchWrite
 write_two = record {
   tables = record { table = tab; writes = write.Put (item (codes "a") (codes "1")) ∷ write.Put (item (codes "b") (codes "2")) ∷ [] } ∷ [];
   capacity = false;
+  ascending = refl;
 }
 
 abbrev pub read_three : BatchGet

@@ -1,2 +1,3 @@
--- What was used of tables, added up.
+-- What requests state of many items, and what was used of tables.
+pub mod Batches
 pub mod Usage

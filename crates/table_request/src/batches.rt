@@ -1,5 +1,8 @@
 //! Requests on many items, each of which is done by itself.
 
+ghost use Rattle.std.specs.Prelude.{IsTrue};
+ghost use Rattle.table_request.specs.Batches.{ascend};
+
 use attr_value::Item;
 use base_types::{Seq, Text};
 use expr_words::{NamePair, Paths};
@@ -41,6 +44,7 @@ pub struct BatchWrite {
     pub tables: Seq<TableWrites>,
     /// Whether the capacity that was used is told (ReturnConsumedCapacity, TOTAL or INDEXES).
     pub capacity: bool,
+    pub ghost ascending: { IsTrue (ascend tables) },
 }
 
 /// The items of a table that are made and dropped.

@@ -1,11 +1,10 @@
-use Rattle.std.proofs.Common.{◌≡◌, map, true, false, None, sym, ap, ◌∙◌}
+use Rattle.std.proofs.Common.{◌≡◌, map, false, None, sym, ap, ◌∙◌}
 use Rattle.std.specs.List.{list_any}
 use Rattle.table_request.specs.declared.batches.TableWrites.{TableWrites}
 use Rattle.table_model.specs.Database.{table_named, first}
 use Rattle.table_model.specs.Batches.{missing, is_oversized, is_unfit_write}
 use Rattle.numbered_tables.specs.Changes.{has_repeat}
 use Rattle.table_batches.specs.Answers.{tables_alone}
-use Rattle.table_batches.specs.Writes.{ascend}
 use Rattle.table_batches.proofs.Repeats.{no_repeat}
 use Rattle.table_batches.proofs.Writing.{items_refuse, items_are, none_twice}
 use Rattle.table_batches.proofs.write.changes_asked.Goals as goal
@@ -20,9 +19,8 @@ returns c =
     let small : false ≡ list_any (λ t. list_any is_oversized t.writes) ts =
     c.if-oversized.ensures ∙ ap (list_any (λ t. list_any is_oversized t.writes)) c.as_slice-2.ensures in
     let fit : false ≡ list_any (λ t. list_any (is_unfit_write (table_named db t.table)) t.writes) ts =
-    c.if-unfit.ensures ∙ ap (list_any (λ t. list_any (is_unfit_write (table_named db t.table)) t.writes)) c.as_slice-3.ensures in
-    let names : ascend ts ≡ true = sym (c.if-not-apart.ensures ∙ ap ascend c.as_slice-4.ensures) in (
+    c.if-unfit.ensures ∙ ap (list_any (λ t. list_any (is_unfit_write (table_named db t.table)) t.writes)) c.as_slice-3.ensures in (
       items_refuse db ts there asked.0 ∙ items_are db ts false false small fit,
       asked.1,
-      ap has_repeat asked.1 ∙ no_repeat db ts names (none_twice db ts asked.0),
+      ap has_repeat asked.1 ∙ no_repeat db ts c.requires.ascending (none_twice db ts asked.0),
     )
