@@ -1,5 +1,5 @@
 -- Worked examples: what the definitions say of small requests, one after the other.
-use Rattle.std.specs.Prelude.{◌≡◌, ℕ, pos, Bool, List, [], ◌∷◌, replicate, Option, None, Some, codes, true, false}
+use Rattle.std.specs.Prelude.{◌≡◌, ℕ, pos, Bool, List, [], ◌∷◌, replicate, Option, None, Some, codes, true, false, refl}
 use Rattle.attr_value.specs.Tree.{Tree, Attributes, no_attributes, attribute, text, number}
 use Rattle.base_types.specs.declared.path.Step.TheVariants as step
 use Rattle.expr_words.specs.declared.tree.Condition.{Condition}
