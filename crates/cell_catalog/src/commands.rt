@@ -12,7 +12,7 @@ use crate::copies::{copy_of_table, copy_of_update};
 use crate::tables::{has_name, index_numbers, last_drawn, numbers_beside, table_named};
 use base_types::{Seq, Text};
 use cell_model::{Catalog, CatalogAnswer, CatalogCommand, CatalogTable};
-use schema_update::{expiring, updated};
+use schema_update::{expiring, stated_schema};
 use std::alloc::{AllocError as NoMemory, Global};
 use table_request::{IndexChange, TableUpdate};
 use table_schema::{KeyNames, Schema};
@@ -137,18 +137,11 @@ pub(crate) fn is_typed(schema: &Schema) -> bool
     are_locals_typed(schema) && are_globals_typed(schema)
 }
 
-/// The schema as the update states it. It is answered for an update that is not refused; of one that is there is no such
-/// schema here, and the answer is `NoMemory`.
+/// The schema as the update states it.
 fn updated_schema(alloc: Global, schema: &Schema, update: &TableUpdate) -> Result<Schema, NoMemory>
     ensures { IfOk result (λ after. after ≡ updated_schema schema.now update.now) }
 {
-    match updated(alloc, schema, copy_of_update(update)?)? {
-        Ok(schema) => Ok(schema),
-        Err(refusal) => {
-            drop(refusal);
-            Err(NoMemory)
-        }
-    }
+    stated_schema(alloc, schema, copy_of_update(update)?)
 }
 
 /// The numbers of a table's global indexes after a change of them, of which one that is made has this number.
@@ -364,8 +357,7 @@ fn drawn_after(command: &CatalogCommand, drawn: u64) -> Option<u64>
     }
 }
 
-/// The catalog after a command that is carried out at a moment. `NoMemory` is for want of memory or of numbers, and for an
-/// update that its ruling refuses.
+/// The catalog after a command that is carried out at a moment. `NoMemory` is for want of memory or of numbers.
 pub fn catalog_after(
     alloc: Global,
     command: &CatalogCommand,

@@ -3,7 +3,8 @@
 //! [`updated`] gets the schema that a table has and what an update states, and answers the schema that the table is to
 //! have, or the refusal. `specs/Updated.antt` says which: first an index that goes and is not there, or comes and is; then
 //! a definition whose name does not have 1 to 255 bytes, or that gives a name another type; then the first fault of the
-//! schema that is stated. Nothing is changed here, so where memory is refused nothing is half done.
+//! schema that is stated. Nothing is changed here, so where memory is refused nothing is half done. [`stated_schema`] is the
+//! schema that is stated, of an update that is judged already.
 //!
 //! An update may state many definitions. They are looked at once, each for the logarithm of their number, and those that
 //! no key uses are left out before the rest are joined, so that the schema has no more than its keys have names.
@@ -18,4 +19,4 @@ mod time_to_live;
 mod update;
 
 pub use time_to_live::{expiring, ttl_fault};
-pub use update::updated;
+pub use update::{stated_schema, updated};

@@ -30,7 +30,7 @@ pub fn updated(
     if let Some(refusal) = refusal_of(alloc, schema, &update)? {
         return Ok(Err(refusal));
     }
-    let stated = stated(alloc, schema, update)?;
+    let stated = stated_schema(alloc, schema, update)?;
     match check_schema(&stated) {
         Ok(()) => Ok(Ok(stated)),
         Err(fault) => Ok(Err(Refusal::Invalid(Invalid::Schema(fault)))),
@@ -57,8 +57,13 @@ fn refusal_of(
     Ok(None)
 }
 
-/// The schema as the update states it.
-fn stated(alloc: Global, schema: &Schema, update: TableUpdate) -> Result<Schema, NoMemory>
+/// The schema as an update states it, whether or not the update is refused. Definitions that no key uses are dropped.
+/// `NoMemory` is for want of memory.
+pub fn stated_schema(
+    alloc: Global,
+    schema: &Schema,
+    update: TableUpdate,
+) -> Result<Schema, NoMemory>
     ensures { IfOk result (λ stated. stated ≡ updated_schema schema.now update) }
 {
     let mut stated = schema.try_clone()?;
