@@ -1,5 +1,7 @@
--- The definitions in reading order: what requests answer; keys with their faults; what is read and changed in turn.
+-- The definitions in reading order: what requests answer, and what refuses them; keys with their faults; what is read and
+-- changed in turn.
 pub mod Answers
+pub mod Refusals
 pub mod Keys
 pub mod Reads
 pub mod Writes

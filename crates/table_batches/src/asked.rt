@@ -1,11 +1,12 @@
 //! The items that a BatchGetItem asks for.
 
-ghost use Rattle.std.specs.Prelude.{◌≡◌, map, ◌++◌, None, Some, IfOk, OnOk, MatchResult};
+ghost use Rattle.std.specs.Prelude.{◌≡◌, map, ◌++◌, IfOk, OnOk};
 ghost use Rattle.std.specs.List.{flat_map};
 ghost use Rattle.std.specs.Option.{option_copied};
 ghost use Rattle.row_keys.specs.Rows.{item_at};
 ghost use Rattle.table_model.specs.Batches.{asked_keys, asked_items, batch_get_refusal};
 ghost use Rattle.table_batches.specs.Answers.{tables_alone};
+ghost use Rattle.table_batches.specs.Refusals.{RefusesOr};
 ghost use Rattle.table_batches.specs.Keys.{IsAsked, keys_refusal};
 
 use crate::keys::{has_twice, row_keys};
@@ -57,27 +58,25 @@ fn items_of<'t>(
     Ok(Ok(has_twice(alloc, keys.as_slice())?))
 }
 
-/// The items that are asked of all tables, each where it is there, or why a key is refused.
+/// The items that are asked of all tables, each where it is there, or the refusal of a key.
 fn items_of_all<'t>(
     tables: &'t BTreeMap<Text, NumberedTable>,
     alloc: Global,
     requests: &[TableKeys],
-) -> Result<Result<Vec<Option<&'t SharedItem>>, Invalid>, NoMemory>
-    ensures { IfOk result (λ asked. MatchResult asked
-        (λ items. (keys_refusal (asked_keys (tables_alone tables.now.entries)) requests.now ≡ None)
-        × (map option_copied items.items ≡ flat_map (asked_items (tables_alone tables.now.entries)) requests.now))
-        (λ why. keys_refusal (asked_keys (tables_alone tables.now.entries)) requests.now ≡ Some (Refusal.Invalid why))) }
+) -> Result<Result<Vec<Option<&'t SharedItem>>, Refusal>, NoMemory>
+    ensures { let db = tables_alone tables.now.entries in IfOk result (RefusesOr (keys_refusal (asked_keys db) requests.now)
+        (λ items. map option_copied items.items ≡ flat_map (asked_items db) requests.now)) }
 {
     let mut items = Vec::new(alloc);
     let mut twice = false;
     for asked in requests {
         match items_of(tables, alloc, asked, &mut items)? {
             Ok(repeats) => twice |= repeats,
-            Err(fault) => return Ok(Err(Invalid::Key(fault))),
+            Err(fault) => return Ok(Err(Refusal::Invalid(Invalid::Key(fault)))),
         }
     }
     if twice {
-        return Ok(Err(Invalid::Twice));
+        return Ok(Err(Refusal::Invalid(Invalid::Twice)));
     }
     Ok(Ok(items))
 }
@@ -88,16 +87,11 @@ pub(crate) fn asked_items<'t>(
     alloc: Global,
     requests: &[TableKeys],
 ) -> Result<Result<Vec<Option<&'t SharedItem>>, Refusal>, NoMemory>
-    ensures { IfOk result (λ asked. MatchResult asked
-        (λ items. (batch_get_refusal (tables_alone tables.now.entries) requests.now ≡ None)
-        × (map option_copied items.items ≡ flat_map (asked_items (tables_alone tables.now.entries)) requests.now))
-        (λ refusal. batch_get_refusal (tables_alone tables.now.entries) requests.now ≡ Some refusal)) }
+    ensures { let db = tables_alone tables.now.entries in IfOk result (RefusesOr (batch_get_refusal db requests.now)
+        (λ items. map option_copied items.items ≡ flat_map (asked_items db) requests.now)) }
 {
     if let Some(refusal) = missing(tables, requests)? {
         return Ok(Err(refusal));
     }
-    match items_of_all(tables, alloc, requests)? {
-        Ok(items) => Ok(Ok(items)),
-        Err(why) => Ok(Err(Refusal::Invalid(why))),
-    }
+    items_of_all(tables, alloc, requests)
 }

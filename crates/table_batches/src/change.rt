@@ -1,13 +1,13 @@
 //! The changes that writes are.
 
-ghost use Rattle.std.specs.Prelude.{◌≡◌, ◌∷◌, [], ◌++◌, map, None, Some, IfOk, OnOk, MatchResult};
+ghost use Rattle.std.specs.Prelude.{◌≡◌, ◌∷◌, [], ◌++◌, map, IfOk, OnOk};
 ghost use Rattle.std.specs.List.{flat_map};
 ghost use Rattle.row_keys.specs.declared.row_key.RowKey.{RowKey};
 ghost use Rattle.table_items.specs.Outcomes.{row_key_if};
-ghost use Rattle.table_model.specs.declared.refusal.Refusal.TheVariants as refusal;
 ghost use Rattle.table_model.specs.Batches.{write_key, write_keys, write_image};
 ghost use Rattle.numbered_tables.specs.Tables.{table_in};
 ghost use Rattle.table_batches.specs.Answers.{tables_alone};
+ghost use Rattle.table_batches.specs.Refusals.{RefusesOr};
 ghost use Rattle.table_batches.specs.Keys.{IsAsked, AreAsked, keys_refusal};
 ghost use Rattle.table_batches.specs.Writes.{changes_of, changes_in};
 
@@ -20,7 +20,7 @@ use row_keys::RowKey;
 use std::alloc::{AllocError as NoMemory, Global};
 use std::collections::BTreeMap;
 use table_items::{key_of_item, key_of_key};
-use table_model::Invalid;
+use table_model::{Invalid, Refusal};
 use table_request::{TableWrites, WriteRequest};
 
 impl Keyed for TableChange {
@@ -118,27 +118,25 @@ fn changes_of(
     }
 }
 
-/// The changes that all writes are, or why a key is refused.
+/// The changes that all writes are, or the refusal of a key.
 pub(crate) fn changes_of_all(
     tables: &BTreeMap<Text, NumberedTable>,
     alloc: Global,
     requests: Seq<TableWrites>,
-) -> Result<Result<Seq<TableChange>, Invalid>, NoMemory>
-    ensures { IfOk result (λ asked. MatchResult asked
-        (λ changes. (keys_refusal (write_keys (tables_alone tables.now.entries)) requests ≡ None)
-        × (changes ≡ flat_map (changes_in (tables_alone tables.now.entries)) requests))
-        (λ why. keys_refusal (write_keys (tables_alone tables.now.entries)) requests ≡ Some (refusal.Invalid why))) }
+) -> Result<Result<Seq<TableChange>, Refusal>, NoMemory>
+    ensures { let db = tables_alone tables.now.entries in IfOk result (RefusesOr (keys_refusal (write_keys db) requests)
+        (λ changes. changes ≡ flat_map (changes_in db) requests)) }
 {
     let mut changes = Seq::new(alloc);
     let mut twice = false;
     for asked in Vec::from(requests) {
         match changes_of(tables, alloc, asked, &mut changes)? {
             Ok(repeats) => twice |= repeats,
-            Err(fault) => return Ok(Err(Invalid::Key(fault))),
+            Err(fault) => return Ok(Err(Refusal::Invalid(Invalid::Key(fault)))),
         }
     }
     if twice {
-        return Ok(Err(Invalid::Twice));
+        return Ok(Err(Refusal::Invalid(Invalid::Twice)));
     }
     Ok(Ok(changes))
 }

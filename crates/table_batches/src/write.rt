@@ -1,12 +1,13 @@
 //! BatchWriteItem.
 
-ghost use Rattle.std.specs.Prelude.{◌≡◌, false, None, Some, IsTrue, IfOk, OnErr, MatchResult};
+ghost use Rattle.std.specs.Prelude.{◌≡◌, false, IsTrue, IfOk, OnErr};
 ghost use Rattle.std.specs.List.{flat_map};
 ghost use Rattle.table_request.specs.Batches.{ascend};
 ghost use Rattle.table_model.specs.Batches.{batch_write_refusal};
 ghost use Rattle.numbered_tables.specs.Tables.{AreIdle};
 ghost use Rattle.numbered_tables.specs.Changes.{has_repeat};
 ghost use Rattle.table_batches.specs.Answers.{IsWritten, tables_alone};
+ghost use Rattle.table_batches.specs.Refusals.{RefusesOr};
 ghost use Rattle.table_batches.specs.Writes.{changes_in};
 
 use crate::change::changes_of_all;
@@ -29,10 +30,8 @@ fn changes_asked(
     requests: Seq<TableWrites>,
 ) -> Result<Result<Seq<TableChange>, Refusal>, NoMemory>
     requires ascending { IsTrue (ascend requests) }
-    ensures { IfOk result (λ asked. MatchResult asked
-        (λ changes. (batch_write_refusal (tables_alone tables.now.entries) requests ≡ None)
-        × (changes ≡ flat_map (changes_in (tables_alone tables.now.entries)) requests) × (has_repeat changes ≡ false))
-        (λ refusal. batch_write_refusal (tables_alone tables.now.entries) requests ≡ Some refusal)) }
+    ensures { let db = tables_alone tables.now.entries in IfOk result (RefusesOr (batch_write_refusal db requests)
+        (λ changes. (changes ≡ flat_map (changes_in db) requests) × (has_repeat changes ≡ false))) }
 {
     if let Some(refusal) = missing(tables, requests.as_slice())? {
         drop(requests);
@@ -42,7 +41,7 @@ fn changes_asked(
     let unfit = some_unfit(tables, requests.as_slice());
     let changes = match changes_of_all(tables, alloc, requests)? {
         Ok(changes) => changes,
-        Err(why) => return Ok(Err(Refusal::Invalid(why))),
+        Err(refusal) => return Ok(Err(refusal)),
     };
     if oversized {
         drop(changes);

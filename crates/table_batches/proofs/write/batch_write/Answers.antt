@@ -15,5 +15,5 @@ returns-in_ok-change_all-in-Ok-clause-ok c = λ tokens made.
     let used =
     c.in_ok-consumed.ensures
     ∙ ap (λ ts. where_asked c.args.request.capacity (used_by_writes (tables_alone old) ts)) c.as_slice.ensures in
-    answered old new c.args.request c.in-Ok.changes asked.0 asked.1 c.in_ok-change_all-in-Ok.ensures.ok tokens made
+    answered old new c.args.request c.in-Ok.changes asked.0 asked.1.0 c.in_ok-change_all-in-Ok.ensures.ok tokens made
     ∙ (λ i. (database_in new tokens made, BatchWritten (sym c.new-unwritten.ensures i) (sym used i)))
