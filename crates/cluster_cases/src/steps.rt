@@ -58,7 +58,7 @@ fn put_item<R: Wait>(
     ensures rests { IsAtRest caller.now pass.new }
 {
     let action = put_at(key, Condition::Always, amount);
-    let cell = caller.cell_of(&key);
+    let cell = caller.cell_of(&action.key);
     match caller.ask(pass, cell, Message::Write { action }) {
         Ok(Answer::Written { .. }) => Became::Done,
         _ => Became::Else,
