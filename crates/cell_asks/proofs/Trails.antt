@@ -7,7 +7,7 @@ use Rattle.txn_core.specs.Legal.{sent_to, IsLegal}
 use Rattle.txn_core.proofs.Exports.{newest}
 use Rattle.cluster.specs.declared.step.StepError.{StepError}
 use Rattle.cluster.specs.Counts.{Counts}
-use Rattle.cluster.proofs.OwnEntries.{counts_one, counts_on, counts_until}
+use Rattle.cluster.proofs.OwnEntries.{counts_one, counts_until}
 use Rattle.cell_model.specs.declared.answer.TableLook.{TableLook}
 use Rattle.cell_model.specs.declared.question.CatalogQuestion.TheVariants.{Look}
 use Rattle.cell_model.specs.Service.{service}

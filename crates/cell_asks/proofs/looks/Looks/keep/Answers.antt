@@ -1,4 +1,3 @@
-use Rattle.cell_asks.proofs.Trails.{looked}
 use Rattle.std.proofs.Common.{sym, ap, ◌∙◌}
 use Rattle.std.specs.Ordering.{nat_cmp}
 use Rattle.std.specs.Cmp.Lexicographic.{slice_cmp}
