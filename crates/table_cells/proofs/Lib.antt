@@ -1,0 +1,5 @@
+pub mod Adding
+pub mod Steps
+pub mod Resting
+pub mod Rested
+pub mod Crossings

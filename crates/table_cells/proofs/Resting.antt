@@ -1,0 +1,18 @@
+-- A pass that a message or several left is at rest where it was before.
+use Rattle.std.proofs.Common.{ℕ, List, inl, inr}
+use Rattle.turnstile.specs.Passes.{PassView, TurnstileView}
+use Rattle.cluster.specs.declared.step.StepError.{StepError}
+use Rattle.cluster.specs.Counts.{Counts, CountsUntil}
+use Rattle.cluster.specs.Steps.{IsAtRest}
+use Rattle.cluster.proofs.Rest.{still_at_rest}
+use Rattle.cell_model.specs.Service.{service}
+use Rattle.table_history.specs.Entries.{TableEvent}
+
+module _ (n : ℕ) (t : TurnstileView) (p q : PassView TableEvent) (rests : IsAtRest t p) where
+  pub after_counts : (own : List TableEvent) (more : ℕ) → Counts (service n) p own more q → IsAtRest t q
+  after_counts own more counts = still_at_rest t p q counts.pass rests
+
+  pub after_until : (own : List TableEvent) (why : StepError) → CountsUntil (service n) p own why q → IsAtRest t q
+  after_until own StepError.Spent counts = after_counts own 0 counts.0
+  after_until own StepError.NoMemory (inl counts) = after_counts own 0 counts
+  after_until own StepError.NoMemory (inr counts) = after_counts own 1 counts

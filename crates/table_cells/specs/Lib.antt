@@ -1,0 +1,2 @@
+-- Which answers a message can have.
+pub mod Kinds

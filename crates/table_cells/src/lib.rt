@@ -1,0 +1,16 @@
+//! The cells of real tables: partitions and the control cell, behind what calls ask of them.
+//!
+//! [`TableCells`] is a cluster of the tables of `cell_rules`. A [`TableCaller`] is what a thread calls on it with, beside a pass of its own. It
+//! meets [`Asks`](cell_asks::Asks), so that each message is one entry of the one history, and no call above knows of a cluster. The calls
+//! of several messages, which the crates over `cluster` make for any rules, are handed on here, one name each, with what they promise.
+//!
+//! The cells may be lent to several threads, and a pass may go to a thread of its own (`proofs/Crossings.antt`).
+#![tactic(auto)]
+
+mod asked;
+mod asks;
+mod cells;
+mod several;
+
+pub use cells::{TableCaller, TableCells, TablePass};
+pub use several::{drain, expire, sweep, transact_get, transact_write};
