@@ -2,7 +2,6 @@
 
 ghost use Rattle.std.specs.Prelude.{◌≡◌, IfOk, IfErr};
 ghost use Rattle.txn_core.specs.declared.message.Message.{Message};
-ghost use Rattle.txn_core.specs.declared.answer.Answer.{Answer as Answered};
 ghost use Rattle.cell_model.specs.declared.question.CatalogQuestion.TheVariants.{Look, Names, Page};
 ghost use Rattle.cluster.specs.Steps.{IsAtRest, partitions_of};
 ghost use Rattle.cell_asks.specs.Steps.{One, Stops};

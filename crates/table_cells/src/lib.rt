@@ -4,7 +4,7 @@
 //! meets [`Asks`](cell_asks::Asks), so that each message is one entry of the one history, and no call above knows of a cluster. The calls
 //! of several messages, which the crates over `cluster` make for any rules, are handed on here, one name each, with what they promise.
 //!
-//! The cells may be lent to several threads, and a pass may go to a thread of its own (`proofs/Crossings.antt`).
+//! That the cells may be lent to several threads is a lemma (`cells_sync` of `proofs/Crossings.antt`). No call here lends them yet.
 #![tactic(auto)]
 
 mod asked;

@@ -1,0 +1,108 @@
+//! What is replied to a request over cells.
+
+ghost use Rattle.std.specs.Prelude.{reverse};
+ghost use Rattle.cell_asks.specs.Told.{AreTold};
+
+use api_reply::body;
+use api_request::read;
+use cell_asks::{Asks, Looks, StepError, Tried};
+use item_calls::{delete_item, get_item, put_item, update_item};
+use table_calls::{
+    create_table, delete_table, describe_table, describe_time_to_live, list_tables, update_table,
+    update_time_to_live,
+};
+use table_model::Reply;
+use table_request::Request;
+
+/// One try of a request on one item.
+fn item_tried<C: Asks>(
+    cells: &C,
+    pass: &mut C::Pass,
+    looks: &mut Looks,
+    request: Request,
+) -> Result<Tried, StepError>
+    requires fits { C.fits cells.now pass.old }
+    requires told { AreTold (reverse (C.seen pass.old).front) looks.old }
+    ensures fits { C.fits cells.now pass.new }
+    ensures told { AreTold (reverse (C.seen pass.new).front) looks.new }
+{
+    match request {
+        Request::GetItem(request) => get_item(cells, pass, looks, &request),
+        Request::PutItem(request) => put_item(cells, pass, looks, request),
+        Request::UpdateItem(request) => update_item(cells, pass, looks, request),
+        Request::DeleteItem(request) => delete_item(cells, pass, looks, request),
+        _ => Err(StepError::Spent),
+    }
+}
+
+/// The reply to a request on tables.
+fn table_reply<C: Asks>(cells: &C, pass: &mut C::Pass, request: Request) -> Result<Reply, StepError>
+    requires fits { C.fits cells.now pass.old }
+    ensures fits { C.fits cells.now pass.new }
+{
+    match request {
+        Request::CreateTable(request) => create_table(cells, pass, request),
+        Request::DeleteTable(request) => delete_table(cells, pass, request),
+        Request::UpdateTable(request) => update_table(cells, pass, request),
+        Request::DescribeTable(request) => describe_table(cells, pass, request),
+        Request::ListTables(request) => list_tables(cells, pass, request),
+        Request::UpdateTimeToLive(request) => update_time_to_live(cells, pass, request),
+        Request::DescribeTimeToLive(request) => describe_time_to_live(cells, pass, request),
+        _ => Err(StepError::Spent),
+    }
+}
+
+/// Whether the reply has this body.
+fn is_text<C: Asks>(cells: &C, reply: &Reply, expected: &str) -> bool {
+    match body(cells.alloc(), reply) {
+        Ok(text) => text.as_str() == expected,
+        Err(_) => false,
+    }
+}
+
+/// Whether the reply to a message on tables has this body.
+pub(crate) fn is_told<C: Asks>(
+    cells: &C,
+    pass: &mut C::Pass,
+    target: &str,
+    json: &str,
+    expected: &str,
+) -> bool
+    requires fits { C.fits cells.now pass.old }
+    ensures fits { C.fits cells.now pass.new }
+{
+    let Ok(request) = read(cells.alloc(), Some(target.as_bytes()), json.as_bytes()) else {
+        return false;
+    };
+    match table_reply(cells, pass, request) {
+        Ok(reply) => is_text(cells, &reply, expected),
+        Err(_) => false,
+    }
+}
+
+/// Whether the reply to a message on one item has this body, at this try.
+pub(crate) fn is_shown<C: Asks>(
+    cells: &C,
+    pass: &mut C::Pass,
+    looks: &mut Looks,
+    target: &str,
+    json: &str,
+    expected: Option<&str>,
+) -> bool
+    requires fits { C.fits cells.now pass.old }
+    requires told { AreTold (reverse (C.seen pass.old).front) looks.old }
+    ensures fits { C.fits cells.now pass.new }
+    ensures told { AreTold (reverse (C.seen pass.new).front) looks.new }
+{
+    let Ok(request) = read(cells.alloc(), Some(target.as_bytes()), json.as_bytes()) else {
+        return false;
+    };
+    match item_tried(cells, pass, looks, request) {
+        Ok(Tried::Reply(reply)) => match expected {
+            Some(expected) => is_text(cells, &reply, expected),
+            None => false,
+        },
+        Ok(Tried::Again) => expected.is_none(),
+        Err(_) => false,
+    }
+}

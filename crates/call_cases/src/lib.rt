@@ -1,0 +1,7 @@
+//! Requests over cells of real tables, read from their bodies and told as bodies.
+#![tactic(auto)]
+
+#[cfg(test)]
+mod calls;
+#[cfg(test)]
+mod sessions;
