@@ -12,7 +12,7 @@ use table_cells::TableCells;
 
 /// A message, by its operation and body, and the body of the reply.
 #[derive(Clone, Copy)]
-enum Line {
+pub(crate) enum Line {
     /// On tables.
     Table(&'static str, &'static str, &'static str),
     /// On an item.
@@ -21,9 +21,9 @@ enum Line {
     Again(&'static str, &'static str),
 }
 
-const CREATE: &str = "DynamoDB_20120810.CreateTable";
+pub(crate) const CREATE: &str = "DynamoDB_20120810.CreateTable";
 
-const DROP: &str = "DynamoDB_20120810.DeleteTable";
+pub(crate) const DROP: &str = "DynamoDB_20120810.DeleteTable";
 
 const DESCRIBE: &str = "DynamoDB_20120810.DescribeTable";
 
@@ -33,9 +33,9 @@ const EXPIRE: &str = "DynamoDB_20120810.UpdateTimeToLive";
 
 const EXPIRY: &str = "DynamoDB_20120810.DescribeTimeToLive";
 
-const GET: &str = "DynamoDB_20120810.GetItem";
+pub(crate) const GET: &str = "DynamoDB_20120810.GetItem";
 
-const PUT: &str = "DynamoDB_20120810.PutItem";
+pub(crate) const PUT: &str = "DynamoDB_20120810.PutItem";
 
 const UPDATE: &str = "DynamoDB_20120810.UpdateItem";
 
@@ -179,7 +179,7 @@ fn is_right<C: Asks>(
 }
 
 /// Whether so it is with each line, one after another.
-fn are_right<C: Asks>(
+pub(crate) fn are_right<C: Asks>(
     cells: &C,
     tables: &mut C::Pass,
     items: &mut C::Pass,
@@ -189,6 +189,9 @@ fn are_right<C: Asks>(
     requires tables { C.fits cells.now tables.old }
     requires items { C.fits cells.now items.old }
     requires told { AreTold (reverse (C.seen items.old).front) looks.old }
+    ensures tables { C.fits cells.now tables.new }
+    ensures items { C.fits cells.now items.new }
+    ensures told { AreTold (reverse (C.seen items.new).front) looks.new }
 {
     for line in lines {
         if !is_right(cells, tables, items, looks, *line) {
