@@ -9,13 +9,13 @@ use Rattle.table_request.specs.declared.batches.TableKeys.{TableKeys}
 use Rattle.table_request.specs.declared.batches.TableWrites.{TableWrites}
 use Rattle.table_request.specs.declared.batches.WriteRequest.{WriteRequest}
 use Rattle.table_request.specs.declared.batches.WriteRequest.TheVariants as write
-use Rattle.table_model.specs.declared.reply.TableItems.{TableItems}
+use Rattle.table_model.specs.declared.reply.FoundItems.{FoundItems}
 use Rattle.api_reply.specs.Json.{optional, list_of, object_of}
 
 abbrev pub item : Attributes → Data
 item attributes = object (members_of attributes)
 
-abbrev pub items : TableItems → Data
+abbrev pub items : FoundItems → Data
 items t = list_of item t.items
 
 -- the names that placeholders stand for

@@ -15,7 +15,7 @@ use Rattle.table_model.specs.declared.refusal.Refusal.TheVariants as refusal
 use Rattle.table_model.specs.declared.reply.Page.{Page}
 use Rattle.table_model.specs.declared.reply.Reply.{Reply}
 use Rattle.table_model.specs.declared.reply.Reply.TheVariants as reply
-use Rattle.table_model.specs.declared.reply.TableItems.{TableItems}
+use Rattle.table_model.specs.declared.reply.FoundItems.{FoundItems}
 use Rattle.table_model.specs.declared.reply.TableNames.{TableNames}
 use Rattle.request_parts.specs.declared.refusal.Refusal.{Refusal as EdgeRefusal}
 use Rattle.api_reply.specs.declared.kind.ErrorKind.TheVariants as kind
@@ -82,7 +82,7 @@ tables t =
     (optional (codes "LastEvaluatedTableName") (option_map string t.last)
     (member (codes "TableNames") (list_of string t.names) no_members))
 
-abbrev pub batch_read : List TableItems → List TableKeys → Data
+abbrev pub batch_read : List FoundItems → List TableKeys → Data
 batch_read found rest =
     object
     (member (codes "Responses") (object_of (λ t. t.table) items found)

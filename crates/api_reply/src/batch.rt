@@ -14,10 +14,10 @@ use base_types::{Seq, Text};
 use expr_words::NamePair;
 use json::Writer;
 use std::alloc::{AllocError as NoMemory, Global};
-use table_model::TableItems;
+use table_model::FoundItems;
 use table_request::{TableKeys, TableWrites, WriteRequest};
 
-impl ToJson for TableItems {
+impl ToJson for FoundItems {
     ghost use Rattle.api_reply.specs.Batches.{items};
 
     ghost as_data = { items };
@@ -27,7 +27,7 @@ impl ToJson for TableItems {
     }
 }
 
-impl Entry for TableItems {
+impl Entry for FoundItems {
     ghost key = { λ t. t.table };
 
     fn key(&self) -> &str {

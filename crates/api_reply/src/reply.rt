@@ -25,7 +25,7 @@ use base_types::Seq;
 use json::Writer;
 use request_parts::Refusal as EdgeRefusal;
 use std::alloc::{AllocError as NoMemory, Global};
-use table_model::{Page, Reply, TableItems, TableNames};
+use table_model::{FoundItems, Page, Reply, TableNames};
 use table_request::{Consumed, TableKeys, TableWrites};
 
 /// The status of a reply: 200, or that of its error.
@@ -173,7 +173,7 @@ impl ToJson for Option<SharedItem> {
 fn write_batch_read(
     alloc: Global,
     writer: &mut Writer,
-    found: &Seq<TableItems>,
+    found: &Seq<FoundItems>,
     unread: &Seq<TableKeys>,
     consumed: &Option<Seq<Consumed>>,
 ) -> Result<(), NoMemory>

@@ -9,8 +9,8 @@ use Rattle.api_form.specs.declared.name.Name.TheVariants as name
 use Rattle.table_request.specs.declared.transactions.TransactWrite.{TransactWrite}
 use Rattle.table_request.specs.declared.transactions.TransactAction.{TransactAction}
 use Rattle.table_request.specs.declared.transactions.TransactRead.{TransactRead}
-use Rattle.table_request.specs.declared.transactions.Change.{Change}
-use Rattle.table_request.specs.declared.transactions.Change.TheVariants as change
+use Rattle.table_request.specs.declared.transactions.ActionChange.{ActionChange}
+use Rattle.table_request.specs.declared.transactions.ActionChange.TheVariants as change
 use Rattle.request_parts.specs.declared.refusal.Refusal.{Refusal}
 use Rattle.base_types.specs.declared.end.End.{End}
 use Rattle.base_types.specs.declared.end.End.TheVariants.{Fault, NoMemory}
@@ -48,7 +48,7 @@ sizes_of vs = sum_by-map size tree_of vs
 
 -- ---- an action that was read is as large as the one that is stated
 
-size_same : (a : Action) (n m : ℕ) (c : Change) → n ≡ m → m ≡ sum_by size (known (body_of a)).values → IsChangeOf a c → size_of a ≡ size_beside n c
+size_same : (a : Action) (n m : ℕ) (c : ActionChange) → n ≡ m → m ≡ sum_by size (known (body_of a)).values → IsChangeOf a c → size_of a ≡ size_beside n c
 size_same (APut d) n m (change.Put new) beside values is = ap item_size (sym is)
 size_same (APut d) n m (change.Update key update) beside values is = absurd is
 size_same (APut d) n m (change.Delete key) beside values is = absurd is

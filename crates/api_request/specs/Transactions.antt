@@ -13,8 +13,8 @@ use Rattle.table_request.specs.Usage.{by_table}
 use Rattle.table_request.specs.declared.consumed.Consumed.{Consumed}
 use Rattle.table_request.specs.declared.transactions.TransactWrite.{TransactWrite}
 use Rattle.table_request.specs.declared.transactions.TransactAction.{TransactAction}
-use Rattle.table_request.specs.declared.transactions.Change.{Change}
-use Rattle.table_request.specs.declared.transactions.Change.TheVariants as change
+use Rattle.table_request.specs.declared.transactions.ActionChange.{ActionChange}
+use Rattle.table_request.specs.declared.transactions.ActionChange.TheVariants as change
 use Rattle.table_request.specs.declared.transactions.TransactGet.{TransactGet}
 use Rattle.table_request.specs.declared.transactions.TransactRead.{TransactRead}
 use Rattle.request_parts.specs.declared.refusal.Refusal.{Refusal}
@@ -73,7 +73,7 @@ asks_of (ADelete d) = condition_asks d
 asks_of (ACheck d) = condition_asks d
 
 -- what becomes of the item
-abbrev pub IsChangeOf : Action → Change → Type 0
+abbrev pub IsChangeOf : Action → ActionChange → Type 0
 IsChangeOf (APut d) (change.Put new) = new ≡ item_at name.Item d
 IsChangeOf (AnUpdate d) (change.Update key update) =
     (key ≡ item_at name.Key d) × UpdateOf (known d) name.UpdateExpression (text_at name.UpdateExpression d) (Ok (update_tree update))
@@ -115,7 +115,7 @@ abbrev pub value_size : Value → ℕ
 value_size v = size (tree_of v)
 
 -- the size of a change, beside values of this size
-abbrev pub size_beside : ℕ → Change → ℕ
+abbrev pub size_beside : ℕ → ActionChange → ℕ
 size_beside n (change.Put new) = item_size new
 size_beside n (change.Update key update) = item_size key + n
 size_beside n (change.Delete key) = item_size key + n

@@ -20,7 +20,7 @@ use request_parts::{
 };
 use serde_json::Value as Json;
 use std::alloc::{AllocError as NoMemory, Global};
-use table_request::{Change, TransactAction};
+use table_request::{ActionChange, TransactAction};
 
 /// The member of an element that is there.
 #[derive(Clone, Copy)]
@@ -74,7 +74,7 @@ fn put_action(alloc: Global, json: &Json) -> Result<TransactAction, RequestEnd>
     let parts = Conditional::read(alloc, json, Name::Item)?;
     Ok(TransactAction {
         table: parts.placed.table,
-        change: Change::Put(parts.placed.item),
+        change: ActionChange::Put(parts.placed.item),
         condition: parts.condition,
         values: parts.values,
         show_old: shows_old(json),
@@ -88,7 +88,7 @@ fn delete_action(alloc: Global, json: &Json) -> Result<TransactAction, RequestEn
     let parts = Conditional::read(alloc, json, Name::Key)?;
     Ok(TransactAction {
         table: parts.placed.table,
-        change: Change::Delete(parts.placed.item),
+        change: ActionChange::Delete(parts.placed.item),
         condition: parts.condition,
         values: parts.values,
         show_old: shows_old(json),
@@ -102,7 +102,7 @@ fn check_action(alloc: Global, json: &Json) -> Result<TransactAction, RequestEnd
     let parts = Conditional::read(alloc, json, Name::Key)?;
     Ok(TransactAction {
         table: parts.placed.table,
-        change: Change::Check(parts.placed.item),
+        change: ActionChange::Check(parts.placed.item),
         condition: parts.condition,
         values: parts.values,
         show_old: shows_old(json),
@@ -120,7 +120,7 @@ fn update_action(alloc: Global, json: &Json) -> Result<TransactAction, RequestEn
     let trees = read_change(alloc, &placeholders, update, condition)?;
     Ok(TransactAction {
         table: placed.table,
-        change: Change::Update {
+        change: ActionChange::Update {
             key: placed.item,
             update: trees.update,
         },
@@ -181,10 +181,10 @@ pub(crate) fn read_size(action: &TransactAction) -> u64
     ensures { result ≡ min (read_size action.now) u64.MAX }
 {
     match &action.change {
-        Change::Put(item) => item.size(),
-        Change::Update { key, update: _ } => with_values(key, action.values.as_slice()),
-        Change::Delete(key) => with_values(key, action.values.as_slice()),
-        Change::Check(key) => with_values(key, action.values.as_slice()),
+        ActionChange::Put(item) => item.size(),
+        ActionChange::Update { key, update: _ } => with_values(key, action.values.as_slice()),
+        ActionChange::Delete(key) => with_values(key, action.values.as_slice()),
+        ActionChange::Check(key) => with_values(key, action.values.as_slice()),
     }
 }
 

@@ -1,3 +1,5 @@
+-- A shop as tables: keys, catalogs, actions, rows and the parameters of transactions, each with its laws behind it; then the shop as the
+-- protocol sees it, its entries and the targets of its commands.
 pub mod Keys
 pub mod KeyLaws
 pub mod Catalogs

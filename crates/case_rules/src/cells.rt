@@ -6,7 +6,7 @@ ghost use Rattle.case_rules.specs.EntryLaws.{entries_lawful};
 
 use crate::action::Action;
 use crate::catalog::Catalog;
-use crate::entry::Entry;
+use crate::entry::ShopEntry;
 use crate::item::Item;
 use crate::key::Key;
 use crate::rules::Shop;
@@ -14,7 +14,7 @@ use partition::CellRules;
 use std::alloc::{AllocError as NoMemory, Global};
 
 impl CellRules for Shop {
-    type Entry = Entry;
+    type LocalEntry = ShopEntry;
 
     ghost locals = { local_entries };
 
@@ -31,9 +31,9 @@ impl CellRules for Shop {
         _catalog: &Catalog,
         key: &Key,
         item: &Item,
-    ) -> Result<Vec<Entry>, NoMemory> {
+    ) -> Result<Vec<ShopEntry>, NoMemory> {
         let mut entries = Vec::new(alloc);
-        if let Some(entry) = Entry::of(key, item) {
+        if let Some(entry) = ShopEntry::of(key, item) {
             entries.push(entry)?;
         }
         Ok(entries)

@@ -9,21 +9,21 @@ use crate::key::Key;
 
 /// Where an item stands in the local order of its table: by its amount, and then by the item.
 #[derive(Clone, Copy, PartialEq, Eq, PartialOrd, Ord, Drop)]
-pub struct Entry {
+pub struct ShopEntry {
     /// The item's amount.
     pub amount: u64,
     /// Which item.
     pub item: Key,
 }
 
-impl Entry {
+impl ShopEntry {
     /// The entry of an item. One whose customer is not known has none.
-    pub(crate) fn of(key: &Key, item: &Item) -> Option<Entry>
+    pub(crate) fn of(key: &Key, item: &Item) -> Option<ShopEntry>
         ensures { option_to_list result ≡ entries_of key.now item.now }
     {
         match item.customer {
             None => None,
-            Some(_) => Some(Entry {
+            Some(_) => Some(ShopEntry {
                 amount: item.amount,
                 item: *key,
             }),

@@ -22,7 +22,7 @@ mod targets;
 
 pub use action::{Action, Condition, Deed, Fault};
 pub use catalog::{Catalog, Command, Table};
-pub use entry::Entry;
+pub use entry::ShopEntry;
 pub use item::Item;
 pub use key::{Key, Name};
 pub use question::{Question, Told};

@@ -6,7 +6,7 @@ ghost use Rattle.case_rules.specs.Rows.{is_of, page, page_table};
 ghost use Rattle.case_rules.specs.PageLaws.{own_rows};
 
 use crate::catalog::Catalog;
-use crate::entry::Entry;
+use crate::entry::ShopEntry;
 use crate::item::Item;
 use crate::key::Key;
 use crate::question::{Question, Told};
@@ -59,7 +59,7 @@ impl PageRules for Shop {
         alloc: Global,
         _catalog: &Catalog,
         items: &BTreeMap<Key, Slot<Item>>,
-        _entries: &BTreeMap<Entry, Claim>,
+        _entries: &BTreeMap<ShopEntry, Claim>,
         page: &Question,
     ) -> Result<Told, NoMemory> {
         let mut shown = Seq::new(alloc);

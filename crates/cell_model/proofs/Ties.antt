@@ -12,8 +12,8 @@ use Rattle.attr_value.specs.declared.value.Value.{Value}
 use Rattle.table_schema.specs.declared.index.GlobalIndex.{GlobalIndex}
 use Rattle.table_schema.specs.declared.schema.Schema.{Schema}
 use Rattle.table_request.specs.declared.transactions.TransactAction.{TransactAction}
-use Rattle.table_request.specs.declared.transactions.Change.{Change}
-use Rattle.table_request.specs.declared.transactions.Change.TheVariants.{Put, Update, Delete, Check}
+use Rattle.table_request.specs.declared.transactions.ActionChange.{ActionChange}
+use Rattle.table_request.specs.declared.transactions.ActionChange.TheVariants.{Put, Update, Delete, Check}
 use Rattle.expr_parse.specs.declared.tree.Update.{Update as ItemUpdate}
 use Rattle.expr_parse.specs.Update.{update_tree}
 use Rattle.expr_words.specs.declared.tree.Condition.{Condition}
@@ -43,7 +43,7 @@ pub updated_alike : (update : Option ItemUpdate) (values : List Value) (item : A
 updated_alike None values item = refl
 updated_alike (Some update) values item = refl
 
-changed_alike : (schema : Schema) (action : TransactAction) (old : Option Attributes) (change : Change)
+changed_alike : (schema : Schema) (action : TransactAction) (old : Option Attributes) (change : ActionChange)
     → change_outcome schema action.values old (stated_change change) ≡ database.change_outcome schema action old change
 changed_alike schema action old (Put item) = refl
 changed_alike schema action old (Update key update) = refl

@@ -11,13 +11,13 @@ use Rattle.table_request.specs.declared.items.PutItem.{PutItem}
 use Rattle.table_request.specs.declared.items.UpdateItem.{UpdateItem}
 use Rattle.table_request.specs.declared.items.DeleteItem.{DeleteItem}
 use Rattle.table_request.specs.declared.transactions.TransactAction.{TransactAction}
-use Rattle.table_request.specs.declared.transactions.Change.{Change}
-use Rattle.table_request.specs.declared.transactions.Change.TheVariants as change
+use Rattle.table_request.specs.declared.transactions.ActionChange.{ActionChange}
+use Rattle.table_request.specs.declared.transactions.ActionChange.TheVariants as change
 use Rattle.condition_eval.specs.Truth.{true_of}
 use Rattle.update_eval.specs.Updated.{updated}
 use Rattle.update_eval.specs.declared.fault.EvalFault.{EvalFault}
 use Rattle.table_schema.specs.declared.schema.Schema.{Schema}
-use Rattle.table_model.specs.Outcome.{Outcome as TableOutcome, becomes, is_false, is_faulty, or_empty, where_met, fit_if, put_outcome, delete_outcome}
+use Rattle.table_model.specs.Outcome.{ItemOutcome, becomes, is_false, is_faulty, or_empty, where_met, fit_if, put_outcome, delete_outcome}
 use Rattle.txn_core.specs.declared.outcome.Outcome.{Outcome}
 use Rattle.txn_core.specs.declared.outcome.Outcome.TheVariants.{New, Unmet, Fails}
 use Rattle.cell_model.specs.declared.action.Statement.{Statement}
@@ -78,7 +78,7 @@ abbrev pub stated_delete : CellKey → DeleteItem → ItemAction
 stated_delete key r = action_saying key r.table (Delete r.key) r.condition r.values r.show_old
 
 -- an action of a transaction always has a tree where it updates
-abbrev pub stated_change : Change → ItemChange
+abbrev pub stated_change : ActionChange → ItemChange
 stated_change (change.Put item) = Put item
 stated_change (change.Update key update) = Update key (Some (update_tree update))
 stated_change (change.Delete key) = Delete key
@@ -104,19 +104,19 @@ updated_by None values item = Ok item
 updated_by (Some update) values item = updated values item update
 
 -- what a change makes of an item that may be there; an update works on the key alone where the item is absent
-abbrev pub change_outcome : Schema → List Value → Option Attributes → ItemChange → TableOutcome
+abbrev pub change_outcome : Schema → List Value → Option Attributes → ItemChange → ItemOutcome
 change_outcome schema values old (Put item) = put_outcome schema item
 change_outcome schema values old (Update key update) = fit_if schema (updated_by update values (unwrap_or old key))
 change_outcome schema values old (Delete key) = delete_outcome
 change_outcome schema values old (Check key) = becomes old
 
 -- the same of an action, in a table of this schema
-abbrev pub action_outcome : Schema → ItemAction → Option Attributes → TableOutcome
+abbrev pub action_outcome : Schema → ItemAction → Option Attributes → ItemOutcome
 action_outcome schema action old =
     where_met (is_met action.condition action.values old) (change_outcome schema action.values old action.change)
 
 -- in the words of the protocol
-abbrev pub outcome_of : TableOutcome → Outcome Attributes EvalFault
+abbrev pub outcome_of : ItemOutcome → Outcome Attributes EvalFault
 outcome_of (becomes item) = New item
 outcome_of is_false = Unmet
 outcome_of (is_faulty fault) = Fails fault

@@ -9,7 +9,7 @@ use base_types::{Seq, Text};
 use expr_parse::Update;
 use expr_words::Condition;
 use std::marker::Model;
-use table_request::{Change, TransactAction};
+use table_request::{ActionChange, TransactAction};
 
 /// What becomes of an item.
 pub enum StatedChange {
@@ -146,17 +146,17 @@ impl KeyedAction {
 
 impl StatedChange {
     /// What an action of a transaction makes of its item.
-    fn of_transaction(change: Change) -> StatedChange
+    fn of_transaction(change: ActionChange) -> StatedChange
         ensures { change_of result ≡ stated_change change }
     {
         match change {
-            Change::Put(item) => StatedChange::Put(item),
-            Change::Update { key, update } => StatedChange::Update {
+            ActionChange::Put(item) => StatedChange::Put(item),
+            ActionChange::Update { key, update } => StatedChange::Update {
                 key,
                 update: Some(update),
             },
-            Change::Delete(key) => StatedChange::Delete(key),
-            Change::Check(key) => StatedChange::Check(key),
+            ActionChange::Delete(key) => StatedChange::Delete(key),
+            ActionChange::Check(key) => StatedChange::Check(key),
         }
     }
 }

@@ -15,21 +15,21 @@ use cell_model::{Catalog, KeyedAction, StatedChange, Statement};
 use expr_parse::Update as ItemUpdate;
 use expr_words::Condition;
 use std::alloc::{AllocError as NoMemory, Global};
-use table_items::{Outcome as TableOutcome, is_met, put_outcome, update_outcome};
+use table_items::{ItemOutcome, is_met, put_outcome, update_outcome};
 use table_schema::Schema;
 use txn_core::Outcome;
 use update_eval::EvalFault;
 
 /// An outcome in the words of the protocol.
-fn told(alloc: Global, outcome: TableOutcome) -> Result<Outcome<SharedItem, EvalFault>, NoMemory>
+fn told(alloc: Global, outcome: ItemOutcome) -> Result<Outcome<SharedItem, EvalFault>, NoMemory>
     ensures { IfOk result (λ told. told ≡ outcome_of (items.outcome_of outcome)) }
 {
     match outcome {
-        TableOutcome::Becomes(item) => Ok(Outcome::New {
+        ItemOutcome::Becomes(item) => Ok(Outcome::New {
             item: kept(alloc, item)?,
         }),
-        TableOutcome::False => Ok(Outcome::Unmet),
-        TableOutcome::Faulty(fault) => Ok(Outcome::Fails { fault }),
+        ItemOutcome::False => Ok(Outcome::Unmet),
+        ItemOutcome::Faulty(fault) => Ok(Outcome::Fails { fault }),
     }
 }
 

@@ -23,7 +23,7 @@ use std::alloc::{AllocError as NoMemory, Global};
 use std::collections::BTreeMap;
 
 impl CellRules for TableRules {
-    type Entry = LocalEntry;
+    type LocalEntry = LocalEntry;
 
     ghost locals = { table_entries };
 

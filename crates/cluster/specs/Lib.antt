@@ -1,3 +1,5 @@
+-- The definitions in reading order: events, for which the cells stand; the one history as a world of turns; one message at its cell;
+-- and what a step, a close and a command add to the history.
 pub mod Events
 pub mod Standing
 pub mod World

@@ -1,3 +1,4 @@
+-- The definitions in reading order: gates and what a stop counts; how one transaction is driven; and how it is written whole.
 pub mod Gates
 pub mod Stops
 pub mod Driving

@@ -1,3 +1,5 @@
+-- The definitions in reading order: trees, and the placeholders that they mention; words and the grammar (`Words`, `Grammar`), which
+-- say what an expression is; its faults and marks; and how the parser reads (`Machine` to `Fronts`). Equality of trees comes last.
 pub mod Trees
 pub mod Given
 pub mod Ascending

@@ -46,11 +46,11 @@ fn enter<R: CellRules>(
     catalog: &R::Catalog,
     key: &R::Key,
     item: &R::Value,
-    entries: &mut BTreeMap<R::Entry, Claim>,
+    entries: &mut BTreeMap<R::LocalEntry, Claim>,
 ) -> Result<(), NoMemory>
-    ensures { OnOk result ((q : R.Entry) → get R.Entry.cmp entries.new q
-        ≡ (if is_among R.Entry.cmp (R.locals.entries catalog.now key.now item.now) q then Some Committed
-        else get R.Entry.cmp entries.old q)) }
+    ensures { OnOk result ((q : R.LocalEntry) → get R.LocalEntry.cmp entries.new q
+        ≡ (if is_among R.LocalEntry.cmp (R.locals.entries catalog.now key.now item.now) q then Some Committed
+        else get R.LocalEntry.cmp entries.old q)) }
 {
     let come = R::entries_of(alloc, catalog, key, item)?;
     commit_all(entries, come)
@@ -61,8 +61,8 @@ pub(crate) fn entries_of_items<R: CellRules>(
     alloc: Global,
     catalog: &R::Catalog,
     items: &TableItems<R::Key, R::Value>,
-) -> Result<BTreeMap<R::Entry, Claim>, NoMemory>
-    ensures { IfOk result (λ entries. AreCommittedOf R.locals R.Key.cmp R.Entry.cmp catalog.now items.now.slots entries) }
+) -> Result<BTreeMap<R::LocalEntry, Claim>, NoMemory>
+    ensures { IfOk result (λ entries. AreCommittedOf R.locals R.Key.cmp R.LocalEntry.cmp catalog.now items.now.slots entries) }
 {
     items.are_in_order();
     let mut entries = BTreeMap::new(alloc);

@@ -17,7 +17,7 @@ use txn_core::Rules;
 pub type IndexChangesOf<R> = IndexChanges<
     <R as Rules>::Key,
     <R as Rules>::Value,
-    <R as CellRules>::Entry,
+    <R as CellRules>::LocalEntry,
 >;
 
 /// The local entries of an item that may be absent.
@@ -26,7 +26,7 @@ fn entries_at<R: CellRules>(
     catalog: &R::Catalog,
     key: &R::Key,
     item: Option<&R::Value>,
-) -> Result<Vec<R::Entry>, NoMemory>
+) -> Result<Vec<R::LocalEntry>, NoMemory>
     ensures { IfOk result (λ entries. entries.items ≡ entries_at R.locals catalog.now key.now (option_copied item.entry)) }
 {
     match item {

@@ -104,7 +104,7 @@ fn founded<R: CommandRules>(
     alloc: Global,
     before: &R::Catalog,
     after: &R::Catalog,
-    made: &MadeTable<R::Key, R::Value, R::Entry>,
+    made: &MadeTable<R::Key, R::Value, R::LocalEntry>,
 ) -> Result<ChangesOf<R>, NoMemory>
     ensures { IfOk result (λ changes. (n : ℕ) → changes.items
         ≡ founding_in (R.protocol n) before.now after.now made.now.items.slots.entries) }
@@ -121,7 +121,7 @@ fn queued_by<R: CommandRules>(
     items: &ItemStore<R::Key, R::Value>,
     after: &R::Catalog,
     change: TableChange,
-    made: Option<&MadeTable<R::Key, R::Value, R::Entry>>,
+    made: Option<&MadeTable<R::Key, R::Value, R::LocalEntry>>,
 ) -> Result<ChangesOf<R>, NoMemory>
     ensures changes { IfOk result (λ changes. (n : ℕ) → changes.items
         ≡ queued_for (R.protocol n) R.numbers change before.now after.now items.now.tables (option_copied made.entry)) }
@@ -145,7 +145,7 @@ fn made_by<R: CommandRules>(
     change: TableChange,
     stamp: Stamp,
     version: u64,
-) -> Result<Option<MadeTable<R::Key, R::Value, R::Entry>>, NoMemory>
+) -> Result<Option<MadeTable<R::Key, R::Value, R::LocalEntry>>, NoMemory>
     requires { 1 ≤ partitions }
     ensures items { IfOk result (λ made. IsMade change
         (brought (R.protocol partitions) here command.now before.now after.now stamp version) made) }
@@ -175,7 +175,7 @@ pub fn plan_of<R: CommandRules>(
     items: &ItemStore<R::Key, R::Value>,
     command: &R::Command,
     moment: u64,
-) -> Result<CatalogPlan<R::Key, R::Value, R::Catalog, R::Entry>, NoMemory>
+) -> Result<CatalogPlan<R::Key, R::Value, R::Catalog, R::LocalEntry>, NoMemory>
     requires { 1 ≤ partitions }
     ensures plan { IfOk result (λ plan.
         IsPlan (R.protocol partitions) R.target R.numbers here before.now items.now command.now moment plan) }

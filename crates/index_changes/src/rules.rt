@@ -9,10 +9,10 @@ use txn_core::Rules;
 /// item is, where it stands in the local indexes of its table, and which tables have items that expire.
 pub trait CellRules: Rules<Key: Ord> {
     /// An entry of a local index: the index, and where an item stands in its order. It names the item.
-    type Entry: Ord + Clone + Drop;
+    type LocalEntry: Ord + Clone + Drop;
 
     /// The entries of items, and the item that an entry names.
-    ghost locals: { LocalEntries Self.Key Self.Value Self.Catalog Self.Entry };
+    ghost locals: { LocalEntries Self.Key Self.Value Self.Catalog Self.LocalEntry };
 
     /// The number of the table of a key's item.
     fn table_of(key: &Self::Key) -> u64
@@ -28,7 +28,7 @@ pub trait CellRules: Rules<Key: Ord> {
         catalog: &Self::Catalog,
         key: &Self::Key,
         item: &Self::Value,
-    ) -> Result<Vec<Self::Entry>, NoMemory>
+    ) -> Result<Vec<Self::LocalEntry>, NoMemory>
         ensures { IfOk result (λ entries. entries.items ≡ locals.entries catalog.now key.now item.now) };
 
     /// Whether items of the table of this number may expire. Where they may not, no item of it is looked at for it.
@@ -39,8 +39,8 @@ pub trait CellRules: Rules<Key: Ord> {
     ghost ordered: { (partitions : ℕ) (x y : Self.Key) → (Self.protocol partitions).index.cmp x y ≡ Self.Key.cmp x y };
 
     /// An item's entries name it, and a command leaves the entries of tables alone that it doesn't concern.
-    ghost entries_lawful: { (partitions : ℕ) → AreEntriesLawful (Self.protocol partitions) locals Self.Entry.cmp };
+    ghost entries_lawful: { (partitions : ℕ) → AreEntriesLawful (Self.protocol partitions) locals Self.LocalEntry.cmp };
 
     /// A copy of an entry is equal to it.
-    ghost copied: { (entry copy : Self.Entry) → Self.Entry.is_clone entry copy → copy ≡ entry };
+    ghost copied: { (entry copy : Self.LocalEntry) → Self.LocalEntry.is_clone entry copy → copy ≡ entry };
 }

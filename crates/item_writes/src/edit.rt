@@ -12,7 +12,7 @@ ghost use Rattle.item_writes.specs.NewTree.{new_tree, seen};
 use crate::new_value::NewValue;
 use attr_value::{Elements, Item, Value, push_some};
 use base_types::{Seq, Step};
-use path_entries::{Entry, Key, below};
+use path_entries::{Key, PathEntry, below};
 use std::alloc::{AllocError as NoMemory, Global};
 
 /// The item with all writes made at once: those that put a value, and those of `None`, which take out what is there. The
@@ -25,7 +25,7 @@ use std::alloc::{AllocError as NoMemory, Global};
 pub fn write_all(
     alloc: Global,
     item: &Item,
-    writes: &[Entry<'_, Option<&NewValue<'_>>>],
+    writes: &[PathEntry<'_, Option<&NewValue<'_>>>],
 ) -> Result<Item, NoMemory>
     requires { AreInOrder (entries_of writes.now) }
     ensures { IfOk result (λ new. new ≡ item_with_all item.now (seen (entries_of writes.now))) }
@@ -47,7 +47,7 @@ pub fn write_all(
 fn kept(
     alloc: Global,
     value: &Value,
-    writes: &[Entry<'_, Option<&NewValue<'_>>>],
+    writes: &[PathEntry<'_, Option<&NewValue<'_>>>],
 ) -> Result<Option<Value>, NoMemory>
     requires { AreInOrder (entries_of writes.now) }
     ensures { IfOk result (λ new. option_map tree_of new ≡ kept (tree_of value.now) (seen (entries_of writes.now))) }
@@ -66,7 +66,7 @@ fn kept(
 fn element(
     alloc: Global,
     value: &Value,
-    writes: &[Entry<'_, Option<&NewValue<'_>>>],
+    writes: &[PathEntry<'_, Option<&NewValue<'_>>>],
 ) -> Result<Option<Value>, NoMemory>
     requires { AreInOrder (entries_of writes.now) }
     ensures { IfOk result (λ new. option_map tree_of new ≡ element (tree_of value.now) (seen (entries_of writes.now))) }
@@ -95,7 +95,7 @@ fn built(alloc: Global, value: Option<&NewValue<'_>>) -> Result<Option<Value>, N
 fn inside(
     alloc: Global,
     value: &Value,
-    writes: &[Entry<'_, Option<&NewValue<'_>>>],
+    writes: &[PathEntry<'_, Option<&NewValue<'_>>>],
 ) -> Result<Value, NoMemory>
     requires { AreInOrder (entries_of writes.now) }
     ensures { IfOk result (λ new. tree_of new ≡ inside (tree_of value.now) (seen (entries_of writes.now))) }
@@ -137,7 +137,7 @@ fn put_one(
 fn list_of(
     alloc: Global,
     list: &Elements,
-    writes: &[Entry<'_, Option<&NewValue<'_>>>],
+    writes: &[PathEntry<'_, Option<&NewValue<'_>>>],
 ) -> Result<Elements, NoMemory>
     requires { AreInOrder (entries_of writes.now) }
     ensures { IfOk result (λ new. new ≡ list_with_all list.now (seen (entries_of writes.now))) }

@@ -15,7 +15,7 @@ ghost use Rattle.item_writes.specs.NewTree.{new_tree, seen};
 use crate::new_value::NewValue;
 use attr_value::{Elements, Item, Value};
 use base_types::{Step, Text};
-use path_entries::{Entry, Key, below};
+use path_entries::{Key, PathEntry, below};
 use std::alloc::{AllocError as NoMemory, Global};
 
 /// The bytes of something, up to a limit, and how many lists and maps lie in one another in it.
@@ -36,7 +36,7 @@ pub struct Extent {
 pub fn extent_with_all(
     alloc: Global,
     item: &Item,
-    writes: &[Entry<'_, Option<&NewValue<'_>>>],
+    writes: &[PathEntry<'_, Option<&NewValue<'_>>>],
     limit: u64,
 ) -> Result<Extent, NoMemory>
     requires in_order { AreInOrder (entries_of writes.now) }
@@ -121,7 +121,7 @@ pub(crate) fn bytes_of(value: &Value, limit: u64) -> u64
 fn attributes(
     alloc: Global,
     item: &Item,
-    writes: &[Entry<'_, Option<&NewValue<'_>>>],
+    writes: &[PathEntry<'_, Option<&NewValue<'_>>>],
     each: u64,
     limit: u64,
 ) -> Result<Extent, NoMemory>
@@ -147,7 +147,7 @@ fn attribute(
     alloc: Global,
     name: &Text,
     value: &Value,
-    writes: &[Entry<'_, Option<&NewValue<'_>>>],
+    writes: &[PathEntry<'_, Option<&NewValue<'_>>>],
     each: u64,
     limit: u64,
 ) -> Result<Extent, NoMemory>
@@ -183,7 +183,7 @@ fn name_bytes(name: &Text, each: u64, limit: u64) -> u64
 
 /// What the first write puts right here, where it ends here.
 fn written_here<'w, 'v>(
-    writes: &[Entry<'_, Option<&'w NewValue<'v>>>],
+    writes: &[PathEntry<'_, Option<&'w NewValue<'v>>>],
 ) -> Option<Option<&'w NewValue<'v>>>
     ensures { option_map (option_map (λ value. new_tree value.now)) result ≡ written_here (seen (entries_of writes.now)) }
 {
@@ -199,7 +199,7 @@ fn written_here<'w, 'v>(
 fn standing(
     alloc: Global,
     value: &Value,
-    writes: &[Entry<'_, Option<&NewValue<'_>>>],
+    writes: &[PathEntry<'_, Option<&NewValue<'_>>>],
     limit: u64,
 ) -> Result<Extent, NoMemory>
     requires in_order { AreInOrder (entries_of writes.now) }
@@ -230,7 +230,7 @@ fn standing(
 fn elements(
     alloc: Global,
     list: &Elements,
-    writes: &[Entry<'_, Option<&NewValue<'_>>>],
+    writes: &[PathEntry<'_, Option<&NewValue<'_>>>],
     limit: u64,
 ) -> Result<Extent, NoMemory>
     requires in_order { AreInOrder (entries_of writes.now) }
@@ -256,7 +256,7 @@ fn elements(
 fn one_element(
     alloc: Global,
     value: &Value,
-    writes: &[Entry<'_, Option<&NewValue<'_>>>],
+    writes: &[PathEntry<'_, Option<&NewValue<'_>>>],
     limit: u64,
 ) -> Result<Extent, NoMemory>
     requires in_order { AreInOrder (entries_of writes.now) }
@@ -288,7 +288,7 @@ fn new_element(value: Option<&NewValue<'_>>, limit: u64) -> Extent
 }
 
 /// That of what the writes append, past the end of the old list.
-fn appends(writes: &[Entry<'_, Option<&NewValue<'_>>>], end: usize, limit: u64) -> Extent
+fn appends(writes: &[PathEntry<'_, Option<&NewValue<'_>>>], end: usize, limit: u64) -> Extent
     ensures bytes { result.bytes ≡ min (list_size (appended end (seen (entries_of writes.now)))) limit }
     ensures levels { result.levels ≡ min (elements_depth (appended end (seen (entries_of writes.now)))) u32.MAX }
 {
@@ -315,7 +315,7 @@ fn append(steps: &[Step], value: Option<&NewValue<'_>>, end: usize, limit: u64) 
 }
 
 /// That of the attributes that writes put right here, so many bytes more for each.
-fn puts(writes: &[Entry<'_, Option<&NewValue<'_>>>], each: u64, limit: u64) -> Extent
+fn puts(writes: &[PathEntry<'_, Option<&NewValue<'_>>>], each: u64, limit: u64) -> Extent
     ensures bytes { result.bytes ≡ min (puts_bytes each (seen (entries_of writes.now))) limit }
     ensures levels { result.levels ≡ min (puts_levels (seen (entries_of writes.now))) u32.MAX }
 {

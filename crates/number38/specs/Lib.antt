@@ -1,3 +1,5 @@
+-- The definitions in reading order: numbers as whole numbers (`Halves` to `Scaled`); the texts that denote them, and the one text that
+-- each is printed as; and how a text is taken apart.
 pub mod Halves
 pub mod HalvesLaws
 pub mod Digits

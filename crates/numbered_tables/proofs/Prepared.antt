@@ -15,7 +15,7 @@ use Rattle.client_tokens.specs.TokenMap.{TokenMap}
 use Rattle.row_keys.specs.declared.row_key.RowKey.{RowKey}
 use Rattle.row_keys.specs.Keys.{row_order}
 use Rattle.row_keys.specs.Rows.{Rows, with_item}
-use Rattle.table_rows.specs.declared.change.Change.{Change}
+use Rattle.table_rows.specs.declared.change.RowChange.{RowChange}
 use Rattle.table_rows.specs.View.{is_pending, committed}
 use Rattle.table_model.specs.declared.action.NumberedAction.{NumberedAction}
 use Rattle.table_model.specs.Database.{Database, Table, table_named}
@@ -55,7 +55,7 @@ pub taken_last : (all left rest : List TableChange) (change : TableChange) (done
 taken_last all left rest change done split taken =
     split ∙ ap (λ (xs : List TableChange). xs ++ done) taken ∙ append_assoc rest (change ∷ []) done
 
-step_if : (b : Bool) (t : NumberedTable) (change : Change) (before : List Change)
+step_if : (b : Bool) (t : NumberedTable) (change : RowChange) (before : List RowChange)
     → cond b (with_pending (with_pending t before) (before ++ change ∷ [])) (with_pending t before)
     ≡ with_pending t (cond b (before ++ change ∷ []) before)
 step_if true t change before = refl
@@ -96,11 +96,11 @@ turned x y = both (at y x) (at x y) (λ h. subst (λ (z : List ℕ). at x z ≡ 
     both false true f g = g refl
     both false false f g = refl
 
-pending_by : (b : Bool) (ps : List Change) (key : RowKey) (change : TableChange) (others : Bool)
+pending_by : (b : Bool) (ps : List RowChange) (key : RowKey) (change : TableChange) (others : Bool)
     → is_pending ps key ≡ others
     → is_pending (cond b (ps ++ change_in change ∷ []) ps) key ≡ ((b && is_at (row_order key) change.key) || others)
 pending_by true ps key change others h =
-    list_any-append (λ (c : Change). is_at (row_order key) c.key) ps (change_in change ∷ [])
+    list_any-append (λ (c : RowChange). is_at (row_order key) c.key) ps (change_in change ∷ [])
     ∙ ap (λ (b : Bool). b || (is_at (row_order key) change.key || false)) h ∙ or_turned others (is_at (row_order key) change.key)
 pending_by false ps key change others h = h
 
@@ -116,7 +116,7 @@ apart_from [] change changes h = or_front (list_any (is_same change) changes) (h
 apart_from (first ∷ front) change changes h =
     apart_from front change changes (or_back (list_any (is_same first) (front ++ change ∷ changes)) (has_repeat (front ++ change ∷ changes)) h)
 
-free_if : (o : Option NumberedTable) (ps : List Change) (key : RowKey) → is_pending ps key ≡ false
+free_if : (o : Option NumberedTable) (ps : List RowChange) (key : RowKey) → is_pending ps key ≡ false
     → is_pending_if (option_map (λ t. with_pending t ps) o) key ≡ false
 free_if None ps key h = refl
 free_if (Some t) ps key h = h
@@ -164,7 +164,7 @@ pub idle_after : (es : Kept) → AreIdle (committed_all es)
 idle_after [] = tt
 idle_after (e ∷ es) = (refl, idle_after es)
 
-last_first : (rows : Rows) (ps : List Change) (change : Change) → committed rows (ps ++ change ∷ []) ≡ committed (with_item rows change.key change.new) ps
+last_first : (rows : Rows) (ps : List RowChange) (change : RowChange) → committed rows (ps ++ change ∷ []) ≡ committed (with_item rows change.key change.new) ps
 last_first rows [] change = refl
 last_first rows (p ∷ ps) change = ap (λ (before : Rows). with_item before p.key p.new) (last_first rows ps change)
 
@@ -177,7 +177,7 @@ abbrev made_in : List TableChange → List ℕ → Table → Table
 made_in [] name t = t
 made_in (change ∷ changes) name t = made_in changes name (where_at (at change.table) (change_made change) name t)
 
-committed_if : (b : Bool) (rows : Rows) (ps : List Change) (change : Change)
+committed_if : (b : Bool) (rows : Rows) (ps : List RowChange) (change : RowChange)
     → committed rows (cond b (ps ++ change ∷ []) ps) ≡ committed (cond b (with_item rows change.key change.new) rows) ps
 committed_if true rows ps change = last_first rows ps change
 committed_if false rows ps change = refl

@@ -5,7 +5,7 @@ use Rattle.std.specs.Cmp.Lexicographic.{slice_cmp}
 use Rattle.std.specs.Map.{lookup}
 use Rattle.std.specs.BTreeMap.{is_at}
 use Rattle.row_keys.specs.declared.row_key.RowKey.{RowKey}
-use Rattle.table_rows.specs.declared.change.Change.{Change}
+use Rattle.table_rows.specs.declared.change.RowChange.{RowChange}
 use Rattle.table_rows.specs.View.{is_pending, committed}
 use Rattle.numbered_tables.specs.declared.table.NumberedTable.{NumberedTable}
 use Rattle.numbered_tables.specs.Tables.{Kept}
@@ -16,15 +16,15 @@ abbrev pub names : TableChange → List ℕ → Bool
 names change name = is_at (slice_cmp nat_cmp change.table) name
 
 -- a change, as the table that it names has it
-abbrev pub change_in : TableChange → Change
+abbrev pub change_in : TableChange → RowChange
 change_in change = record { key = change.key; new = change.new }
 
 -- the table with these changes prepared, and no others
-abbrev pub with_pending : NumberedTable → List Change → NumberedTable
+abbrev pub with_pending : NumberedTable → List RowChange → NumberedTable
 with_pending t changes = record { number = t.number; rows = record { schema = t.rows.schema; rows = t.rows.rows; pending = changes } }
 
 -- the changes that name a table, the last one first, which is the order in which a table makes them
-abbrev pub pending_of : List ℕ → List TableChange → List Change
+abbrev pub pending_of : List ℕ → List TableChange → List RowChange
 pending_of name [] = []
 pending_of name (change ∷ changes) =
     if names change name then pending_of name changes ++ change_in change ∷ [] else pending_of name changes

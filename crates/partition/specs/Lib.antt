@@ -1,3 +1,5 @@
+-- The definitions in reading order: what a call changes in items, holds and local entries (`Stores` to `InStep`); what a message is
+-- answered and leaves (`Knows` to `Steps`); keys, pages, pendings and expired items; and commands, planned and carried out.
 pub mod Stores
 pub mod Holds
 pub mod Says

@@ -51,5 +51,5 @@ pub type PartitionOf<R> = Partition<
     <R as Rules>::Key,
     <R as Rules>::Value,
     <R as Rules>::Catalog,
-    <R as CellRules>::Entry,
+    <R as CellRules>::LocalEntry,
 >;

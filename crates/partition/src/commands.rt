@@ -40,7 +40,7 @@ fn plan_here<R: CommandRules>(
     here: u32,
     command: &R::Command,
     moment: u64,
-) -> Result<CatalogPlan<R::Key, R::Value, R::Catalog, R::Entry>, NoMemory>
+) -> Result<CatalogPlan<R::Key, R::Value, R::Catalog, R::LocalEntry>, NoMemory>
     ensures plan { IfOk result (λ plan. IsPlan (R.protocol cell.now.partitions) R.target R.numbers here
         cell.now.catalog cell.now.items command.now moment plan) }
     ensures entries { IfOk result (λ plan. AreEntered R.locals plan.catalog plan.made) }

@@ -24,11 +24,11 @@ pub trait PageRules: CellRules {
         alloc: Global,
         catalog: &Self::Catalog,
         items: &BTreeMap<Self::Key, Slot<Self::Value>>,
-        entries: &BTreeMap<Self::Entry, Claim>,
+        entries: &BTreeMap<Self::LocalEntry, Claim>,
         page: &Self::Question,
     ) -> Result<Self::Told, NoMemory>
         ensures { IfOk result (λ told. (partitions : ℕ)
-            → AreEntriesOf Self.locals Self.Key.cmp Self.Entry.cmp catalog.now items.now entries.now
+            → AreEntriesOf Self.locals Self.Key.cmp Self.LocalEntry.cmp catalog.now items.now entries.now
             → told ≡ (Self.protocol partitions).page catalog.now (committed_among items.now.entries) page.now) };
 
     /// What a page of an index tells of a cell's rows of it.

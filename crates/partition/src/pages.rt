@@ -22,7 +22,7 @@ fn told_beside<R: PageRules>(
     table: u64,
     page: &R::Question,
 ) -> Result<R::Told, NoMemory>
-    ensures { IfOk result (λ told. (n : ℕ) → AreEntriesIn R.locals R.Key.cmp R.Entry.cmp cell.now.catalog items.now
+    ensures { IfOk result (λ told. (n : ℕ) → AreEntriesIn R.locals R.Key.cmp R.LocalEntry.cmp cell.now.catalog items.now
         (get nat_cmp cell.now.locals.tables table)
         → told ≡ (R.protocol n).page cell.now.catalog (committed_among items.now.entries) page.now) }
 {

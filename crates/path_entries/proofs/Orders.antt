@@ -11,7 +11,7 @@ use Rattle.base_types.specs.declared.path.Step.{Step}
 use Rattle.base_types.specs.declared.path.Step.TheVariants.{Name, Index}
 use Rattle.path_entries.specs.Entries.{entries_of}
 use Rattle.path_entries.specs.Order.{step_order, path_order, is_before, AreInOrder}
-use Rattle.path_entries.specs.declared.key.Entry.{Entry}
+use Rattle.path_entries.specs.declared.key.PathEntry.{PathEntry}
 
 -- a step's kind, its name and its place, the latter two empty and zero at the other kind
 kind_of : Step → ℕ
@@ -82,16 +82,16 @@ above Greater e = cc
 not_above : (p q : List Step) → is_lt (path_order q p) ≡ false → is_gt (path_order p q) ≡ false
 not_above p q e = above (path_order p q) (ap is_lt (sym (path_total.antisymm q p)) ∙ e)
 
-all_behind : {A : Type 0} (p : List Step) (es : List (Entry A)) → ((k : ℕ) (d : Entry A) → k < length es → is_lt (path_order (get_or es k d).steps.now p) ≡ false)
+all_behind : {A : Type 0} (p : List Step) (es : List (PathEntry A)) → ((k : ℕ) (d : PathEntry A) → k < length es → is_lt (path_order (get_or es k d).steps.now p) ≡ false)
     → AllByRecursion (λ f. is_gt (path_order p f.0) ≡ false) (entries_of es)
 all_behind p [] h = tt
 all_behind p (e ∷ es) h = (not_above p e.steps.now (h 0 e (omega arith)), all_behind p es (λ k d within. h (suc k) d (omega arith)))
 
 -- a list whose places ascend is in order
-pub ordered : {A : Type 0} (es : List (Entry A)) → ((i j : ℕ) (d : Entry A) → i ≤ j → j < length es → is_before (get_or es j d) (get_or es i d) ≡ false) → AreInOrder (entries_of es)
+pub ordered : {A : Type 0} (es : List (PathEntry A)) → ((i j : ℕ) (d : PathEntry A) → i ≤ j → j < length es → is_before (get_or es j d) (get_or es i d) ≡ false) → AreInOrder (entries_of es)
 ordered [] h = tt
 ordered (e ∷ es) h =
     (all_behind e.steps.now es (λ k d within. h 0 (suc k) d (omega arith) (omega arith)), ordered es (λ i j d low high. h (suc i) (suc j) d (omega arith) (omega arith)))
 
-pub sorted_in_order : {A : Type 0} (es : List (Entry A)) → IsSortedBy is_before es → AreInOrder (entries_of es)
+pub sorted_in_order : {A : Type 0} (es : List (PathEntry A)) → IsSortedBy is_before es → AreInOrder (entries_of es)
 sorted_in_order es up = ordered es (sorted_far is_before before_weak es up)

@@ -12,7 +12,7 @@ use Rattle.std.proofs.lemmas.Map.Lookups.{exact_unsigned}
 use Rattle.std.specs.Cmp.Lexicographic.{slice_cmp}
 use Rattle.std.specs.List.{AllByRecursion, AllPass}
 use Rattle.std.specs.List.Sorted.{IsPartitionPoint}
-use Rattle.path_entries.specs.declared.key.Entry.{Entry}
+use Rattle.path_entries.specs.declared.key.PathEntry.{PathEntry}
 use Rattle.std.specs.Prelude.{slice_index_or, ◌==◌}
 use Rattle.std.specs.Ordering.{is_gt, is_lt, is_le, ordering_then, ordering_reverse}
 use Rattle.base_types.specs.declared.path.Step.{Step}
@@ -52,12 +52,12 @@ nothing_behind : {A : Type 0} (test : Step → Bool) (steps : List Step) (v : A)
 nothing_behind test [] v e = refl
 nothing_behind test (s ∷ steps) v e = ap (λ b. cond b (Some (steps, v)) None) e
 
-one_more : {A : Type 0} (test : Step → Bool) (e : Entry A) (es kept : List (Entry A)) → below test (entries_of kept) ≡ below test (entries_of es)
+one_more : {A : Type 0} (test : Step → Bool) (e : PathEntry A) (es kept : List (PathEntry A)) → below test (entries_of kept) ≡ below test (entries_of es)
     → (b : Bool) → begins test e.steps.now ≡ b → below test (entries_of (cond b (e ∷ kept) kept)) ≡ below test (entries_of (e ∷ es))
 one_more test e es kept same true here = ap (or_rest _) same
 one_more test e es kept same false here = same ∙ sym (ap (λ o. or_rest o (below test (entries_of es))) (nothing_behind test e.steps.now e.value here))
 
-pub below_filter : {A : Type 0} (test : Step → Bool) (es : List (Entry A)) → below test (entries_of (filter (λ e. begins test e.steps.now) es)) ≡ below test (entries_of es)
+pub below_filter : {A : Type 0} (test : Step → Bool) (es : List (PathEntry A)) → below test (entries_of (filter (λ e. begins test e.steps.now) es)) ≡ below test (entries_of es)
 below_filter test [] = refl
 below_filter test (e ∷ es) = one_more test e es (filter (λ f. begins test f.steps.now) es) (below_filter test es) (begins test e.steps.now) refl
 
@@ -195,7 +195,7 @@ first_here key steps first rest v e t = first_is key first rest v (subst (λ s. 
 
 -- ---- what two searches by halves leave
 
-module _ {A : Type 0} (key : Key) (xs rest : List (Entry A)) (from count : ℕ) (behind_from : rest ≡ drop from xs)
+module _ {A : Type 0} (key : Key) (xs rest : List (PathEntry A)) (from count : ℕ) (behind_from : rest ≡ drop from xs)
     (low : IsPartitionPoint (λ e. is_lt (key_order key e.steps.now) ≡ true) (λ e. is_lt (key_order key e.steps.now) ≡ false) xs from)
     (high : IsPartitionPoint (λ e. is_le (key_order key e.steps.now) ≡ true) (λ e. is_le (key_order key e.steps.now) ≡ false) rest count)
   where

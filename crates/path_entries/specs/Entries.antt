@@ -2,7 +2,7 @@
 use Rattle.std.specs.Prelude.{ℕ, List, [], ◌∷◌, map, Bool, false, ◌==◌, bytes_eq, if◌then◌else◌, Option, Some, None}
 use Rattle.base_types.specs.declared.path.Step.{Step}
 use Rattle.base_types.specs.declared.path.Step.TheVariants as step
-use Rattle.path_entries.specs.declared.key.Entry.{Entry}
+use Rattle.path_entries.specs.declared.key.PathEntry.{PathEntry}
 use Rattle.path_entries.specs.declared.key.Key.{Key}
 use Rattle.path_entries.specs.declared.key.Key.TheVariants.{Name, Place}
 
@@ -38,8 +38,8 @@ below test [] = []
 below test (e ∷ es) = or_rest (behind test e.0 e.1) (below test es)
 
 -- the entries of the code
-abbrev pub entry_of : {A : Type 0} → Entry A → List Step × A
+abbrev pub entry_of : {A : Type 0} → PathEntry A → List Step × A
 entry_of e = (e.steps.now, e.value)
 
-abbrev pub entries_of : {A : Type 0} → List (Entry A) → List (List Step × A)
+abbrev pub entries_of : {A : Type 0} → List (PathEntry A) → List (List Step × A)
 entries_of es = map entry_of es

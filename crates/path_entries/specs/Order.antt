@@ -7,7 +7,7 @@ use Rattle.std.specs.declared.cmp.Ordering.{Ordering}
 use Rattle.std.specs.declared.cmp.Ordering.TheVariants.{Less, Greater}
 use Rattle.base_types.specs.declared.path.Step.{Step}
 use Rattle.base_types.specs.declared.path.Step.TheVariants as step
-use Rattle.path_entries.specs.declared.key.Entry.{Entry}
+use Rattle.path_entries.specs.declared.key.PathEntry.{PathEntry}
 use Rattle.path_entries.specs.declared.key.Key.{Key}
 use Rattle.path_entries.specs.declared.key.Key.TheVariants.{Name, Place}
 
@@ -23,7 +23,7 @@ abbrev pub path_order : List Step → List Step → Ordering
 path_order = slice_cmp step_order
 
 -- an entry stands before another by their paths
-abbrev pub is_before : {A : Type 0} → Entry A → Entry A → Bool
+abbrev pub is_before : {A : Type 0} → PathEntry A → PathEntry A → Bool
 is_before e f = is_lt (path_order e.steps.now f.steps.now)
 
 -- a step beside the one that is looked for

@@ -4,16 +4,16 @@ ghost use Rattle.std.specs.Prelude.{◌≡◌, IfOk, option_map};
 ghost use Rattle.path_entries.specs.Entries.{entry_of, entries_of, behind, below, passes};
 ghost use Rattle.path_entries.specs.Order.{AreInOrder};
 
-use crate::key::{Entry, Key, key_order};
+use crate::key::{Key, PathEntry, key_order};
 use crate::search::range;
 use std::alloc::{AllocError as NoMemory, Global};
 
 /// The entries behind this key, from there on.
 pub fn below<'p, A: Copy + Drop>(
     alloc: Global,
-    entries: &[Entry<'p, A>],
+    entries: &[PathEntry<'p, A>],
     key: Key<'_>,
-) -> Result<Vec<Entry<'p, A>>, NoMemory>
+) -> Result<Vec<PathEntry<'p, A>>, NoMemory>
     requires { AreInOrder (entries_of entries.now) }
     ensures behind { IfOk result
         (λ deeper. entries_of deeper.items ≡ below (passes key.entry) (entries_of entries.now)) }
@@ -29,14 +29,14 @@ pub fn below<'p, A: Copy + Drop>(
 }
 
 /// The entry from behind this key on, if that is its first step.
-fn behind<'p, A: Copy + Drop>(entry: &Entry<'p, A>, key: Key<'_>) -> Option<Entry<'p, A>>
+fn behind<'p, A: Copy + Drop>(entry: &PathEntry<'p, A>, key: Key<'_>) -> Option<PathEntry<'p, A>>
     ensures { option_map entry_of result ≡ behind (passes key.entry) entry.now.steps.now entry.now.value }
 {
     let (_, rest) = entry.steps.split_first()?;
     if !key_order(entry.steps, key).is_eq() {
         return None;
     }
-    Some(Entry {
+    Some(PathEntry {
         steps: rest,
         value: entry.value,
     })

@@ -8,7 +8,7 @@ use std::cmp::Ordering;
 
 /// Steps that lead on from some place, with what is said of their end.
 #[derive(Clone, Copy)]
-pub struct Entry<'p, A> {
+pub struct PathEntry<'p, A> {
     pub steps: &'p [Step],
     pub value: A,
 }

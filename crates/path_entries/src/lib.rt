@@ -11,6 +11,6 @@ mod order;
 mod search;
 
 pub use group::below;
-pub use key::{Entry, Key};
+pub use key::{Key, PathEntry};
 pub use order::sorted;
 pub use search::range;

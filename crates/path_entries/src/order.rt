@@ -5,13 +5,13 @@ ghost use Rattle.std.specs.List.Sorted.{IsPermutation, IsStableBy};
 ghost use Rattle.path_entries.specs.Entries.{entries_of};
 ghost use Rattle.path_entries.specs.Order.{AreInOrder, is_before, path_order};
 
-use crate::key::Entry;
+use crate::key::PathEntry;
 use base_types::Step;
 use std::alloc::AllocError as NoMemory;
 use std::cmp::Ordering;
 
 /// The entries in order of their paths; those with one path keep their order.
-pub fn sorted<A: Drop>(entries: Vec<Entry<'_, A>>) -> Result<Vec<Entry<'_, A>>, NoMemory>
+pub fn sorted<A: Drop>(entries: Vec<PathEntry<'_, A>>) -> Result<Vec<PathEntry<'_, A>>, NoMemory>
     ensures same { IfOk result (λ ordered. IsPermutation entries.entry.items ordered.items) }
     ensures in_order { IfOk result (λ ordered. AreInOrder (entries_of ordered.items)) }
     ensures stable { IfOk result (λ ordered. IsStableBy is_before entries.entry.items ordered.items) }

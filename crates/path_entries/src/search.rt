@@ -4,10 +4,10 @@ ghost use Rattle.std.specs.Prelude.{◌≡◌, filter};
 ghost use Rattle.path_entries.specs.Entries.{entries_of, begins, passes};
 ghost use Rattle.path_entries.specs.Order.{AreInOrder};
 
-use crate::key::{Entry, Key, key_order};
+use crate::key::{Key, PathEntry, key_order};
 
 /// The entries whose first step is the key, which stand side by side where all are in order.
-pub fn range<'e, 'p, A>(entries: &'e [Entry<'p, A>], key: Key<'_>) -> &'e [Entry<'p, A>]
+pub fn range<'e, 'p, A>(entries: &'e [PathEntry<'p, A>], key: Key<'_>) -> &'e [PathEntry<'p, A>]
     requires { AreInOrder (entries_of entries.now) }
     ensures { result.now ≡ filter (λ e. begins (passes key.entry) e.steps.now) entries.now }
 {

@@ -27,7 +27,7 @@ use Rattle.table_model.specs.declared.refusal.Refusal.TheVariants.{Invalid}
 use Rattle.table_model.specs.declared.refusal.Invalid as why
 use Rattle.table_model.specs.declared.refusal.Invalid.TheVariants as invalid
 use Rattle.table_model.specs.Database.{Database, Table, Effect, table_named, in_table, at_key, unless}
-use Rattle.table_model.specs.Outcome.{Outcome, becomes, is_false, is_faulty, is_met, where_met, fit_if, is_too_large, updated_by, put_outcome, update_outcome, delete_outcome}
+use Rattle.table_model.specs.Outcome.{ItemOutcome, becomes, is_false, is_faulty, is_met, where_met, fit_if, is_too_large, updated_by, put_outcome, update_outcome, delete_outcome}
 use Rattle.table_model.specs.declared.reply.Reply.{Reply}
 use Rattle.table_model.specs.Writes.{written, old_at, put_item, touched_name, touched_key, key_update, update_at, update_item, delete_item}
 use Rattle.table_model.specs.Reads.{get_item}
@@ -54,12 +54,12 @@ unless_keyed db (Some refusal) effect all later = all
 
 -- ---- outcomes that fit a key
 
-abbrev pub FitsOutcome : Schema → RowKey → Outcome → Type 0
+abbrev pub FitsOutcome : Schema → RowKey → ItemOutcome → Type 0
 FitsOutcome schema key (becomes new) = Fits schema key new
 FitsOutcome schema key is_false = ⊤
 FitsOutcome schema key (is_faulty fault) = ⊤
 
-pub where_fits : (schema : Schema) (key : RowKey) (b : Bool) (o : Outcome) → FitsOutcome schema key o → FitsOutcome schema key (where_met b o)
+pub where_fits : (schema : Schema) (key : RowKey) (b : Bool) (o : ItemOutcome) → FitsOutcome schema key o → FitsOutcome schema key (where_met b o)
 where_fits schema key true o h = h
 where_fits schema key false o h = tt
 
@@ -143,7 +143,7 @@ at_own_key schema item key e = at_its_key schema item key (without_others (has_o
 
 -- ---- writes
 
-written_keyed : (db : Database) (name : List ℕ) (table : Table) (key : Key) (lost : Option Attributes) (fault : EvalFault → why.Invalid) (told : Option Attributes → Reply) (o : Outcome)
+written_keyed : (db : Database) (name : List ℕ) (table : Table) (key : Key) (lost : Option Attributes) (fault : EvalFault → why.Invalid) (told : Option Attributes → Reply) (o : ItemOutcome)
     → table_named db name ≡ Some table → FitsOutcome table.schema (row_key key) o → HasRowsAtKeys db → HasRowsAtKeys (written db name table key lost fault told o).0
 written_keyed db name table key lost fault told (becomes new) is fits all = row_keyed db name table (row_key key) new is fits all
 written_keyed db name table key lost fault told is_false is fits all = all

@@ -18,8 +18,8 @@ use Rattle.page_ranges.specs.AtKeys.{IsAtKey}
 use Rattle.table_schema.specs.declared.schema.Schema.{Schema}
 use Rattle.table_request.specs.declared.transactions.TransactWrite.{TransactWrite}
 use Rattle.table_request.specs.declared.transactions.TransactAction.{TransactAction}
-use Rattle.table_request.specs.declared.transactions.Change.{Change}
-use Rattle.table_request.specs.declared.transactions.Change.TheVariants.{Put, Update, Delete, Check}
+use Rattle.table_request.specs.declared.transactions.ActionChange.{ActionChange}
+use Rattle.table_request.specs.declared.transactions.ActionChange.TheVariants.{Put, Update, Delete, Check}
 use Rattle.table_request.specs.declared.transactions.TransactGet.{TransactGet}
 use Rattle.table_model.specs.declared.action.NumberedAction.{NumberedAction}
 use Rattle.table_model.specs.declared.reply.Reply.TheVariants as answer
@@ -28,7 +28,7 @@ use Rattle.table_model.specs.declared.refusal.Refusal.TheVariants.{Cancelled, In
 use Rattle.table_model.specs.declared.refusal.Invalid.TheVariants as invalid
 use Rattle.table_model.specs.Batches.{place_if, missing}
 use Rattle.table_model.specs.Database.{Database, Table, Effect, table_named, with_row, refused, first, where_true}
-use Rattle.table_model.specs.Outcome.{Outcome, becomes, is_false, is_faulty, is_met}
+use Rattle.table_model.specs.Outcome.{ItemOutcome, becomes, is_false, is_faulty, is_met}
 use Rattle.table_model.specs.Transactions.{Target, has_repeat, bad_key, change_key, target_if, target_of, change_key_update, updates_key, transact_refusal, change_outcome, action_outcome, outcome_if, outcome_of}
 use Rattle.table_model.specs.Transactions.{is_accepted, reason_of, made_if, made_all, same_action, numbered_all, with_token, kept_of, without_expired, transacted, repeated, transact_write, read_refusal, transact_get}
 use Rattle.plain_database.specs.Keyed.{IsKeyed, HasRowsAtKeys}
@@ -73,11 +73,11 @@ schema_kept db name other table key item is =
 -- ---- outcomes that fit their items
 
 -- an outcome fits the item that the action is on
-abbrev FitsKey : Schema → Option RowKey → Outcome → Type 0
+abbrev FitsKey : Schema → Option RowKey → ItemOutcome → Type 0
 FitsKey schema None outcome = ⊤
 FitsKey schema (Some key) outcome = FitsOutcome schema key outcome
 
-abbrev FitsAction : Option Schema → TransactAction → Outcome → Type 0
+abbrev FitsAction : Option Schema → TransactAction → ItemOutcome → Type 0
 FitsAction None action outcome = ⊤
 FitsAction (Some schema) action outcome = FitsKey schema (place_if (change_key schema action.change)) outcome
 
@@ -93,7 +93,7 @@ own_item schema item key is =
     let own = placed_is (key_alone schema schema.keys item) key is in
     subst (λ k. IsAtKey schema schema.keys k item) own.1.1 (at_own_key schema item own.0 own.1.0)
 
-change_fits : (schema : Schema) (action : TransactAction) (old : Option Attributes) (key : RowKey) (change : Change) → place_if (change_key schema change) ≡ Some key
+change_fits : (schema : Schema) (action : TransactAction) (old : Option Attributes) (key : RowKey) (change : ActionChange) → place_if (change_key schema change) ≡ Some key
     → change_key_update schema change ≡ None → Fits schema key old → FitsOutcome schema key (change_outcome schema action old change)
 change_fits schema action old key (Put item) is none fits = put_fits schema key item (placed_key (key_in schema schema.keys item) ∙ is)
 change_fits schema action old key (Update item update) is none fits =
@@ -125,11 +125,11 @@ outcome_fits db action all none = go (table_named db action.table) refl none
 
 -- ---- all outcomes are made
 
-abbrev AllFit : Database → List TransactAction → List Outcome → Type 0
+abbrev AllFit : Database → List TransactAction → List ItemOutcome → Type 0
 AllFit db (action ∷ actions) (outcome ∷ outcomes) = FitsAction (schema_named db action.table) action outcome × AllFit db actions outcomes
 AllFit db _ _ = ⊤
 
-still_fit : (db new : Database) (actions : List TransactAction) (outcomes : List Outcome) → ((name : List ℕ) → schema_named new name ≡ schema_named db name)
+still_fit : (db new : Database) (actions : List TransactAction) (outcomes : List ItemOutcome) → ((name : List ℕ) → schema_named new name ≡ schema_named db name)
     → AllFit db actions outcomes → AllFit new actions outcomes
 still_fit db new [] outcomes same h = tt
 still_fit db new (action ∷ actions) [] same h = tt
@@ -142,7 +142,7 @@ still_fit db new (action ∷ actions) (outcome ∷ outcomes) same h = (
 abbrev IsWell : Database → Database → Type 0
 IsWell db new = HasRowsAtKeys new × ((name : List ℕ) → schema_named new name ≡ schema_named db name)
 
-one_well : (db : Database) (action : TransactAction) (table : Table) (o : Option RowKey) (outcome : Outcome) → HasRowsAtKeys db → table_named db action.table ≡ Some table
+one_well : (db : Database) (action : TransactAction) (table : Table) (o : Option RowKey) (outcome : ItemOutcome) → HasRowsAtKeys db → table_named db action.table ≡ Some table
     → FitsKey table.schema o outcome
     → IsWell db (made_if db action.table (Some table) (option_map (λ key. let t : Target = record { name = action.table; number = table.number; key = key } in t) o) outcome)
 one_well db action table None (becomes new) all is fits = (all, λ name. refl)
@@ -152,7 +152,7 @@ one_well db action table (Some key) (becomes new) all is fits = (row_keyed db ac
 one_well db action table (Some key) is_false all is fits = (all, λ name. refl)
 one_well db action table (Some key) (is_faulty why) all is fits = (all, λ name. refl)
 
-made_well : (db : Database) (action : TransactAction) (outcome : Outcome) → HasRowsAtKeys db → FitsAction (schema_named db action.table) action outcome
+made_well : (db : Database) (action : TransactAction) (outcome : ItemOutcome) → HasRowsAtKeys db → FitsAction (schema_named db action.table) action outcome
     → IsWell db (made_if db action.table (table_named db action.table) (target_of db action) outcome)
 made_well db action outcome all fits = go (table_named db action.table) refl fits
   where
@@ -161,7 +161,7 @@ made_well db action outcome all fits = go (table_named db action.table) refl fit
     go None is h = (all, λ name. refl)
     go (Some table) is h = one_well db action table (place_if (change_key table.schema action.change)) outcome all is h
 
-all_well : (db : Database) (actions : List TransactAction) (outcomes : List Outcome) → HasRowsAtKeys db → AllFit db actions outcomes
+all_well : (db : Database) (actions : List TransactAction) (outcomes : List ItemOutcome) → HasRowsAtKeys db → AllFit db actions outcomes
     → HasRowsAtKeys (made_all db actions outcomes)
 all_well db [] outcomes all h = all
 all_well db (action ∷ actions) [] all h = all

@@ -11,7 +11,7 @@ use Rattle.attr_value.specs.View.{tree_of, attributes_of}
 use Rattle.attr_value.proofs.PartLaws.{above_first, put_first, put_behind}
 use Rattle.attr_value.proofs.Views.{Entry}
 use Rattle.path_entries.specs.Entries.{below, is_name, entries_of}
-use Rattle.path_entries.specs.declared.key.Entry.{Entry as PathEntry}
+use Rattle.path_entries.specs.declared.key.PathEntry.{PathEntry}
 use Rattle.path_entries.specs.Order.{AreInOrder, path_order}
 use Rattle.projection.specs.Picked.{Asked, is_end, leads_here, some_list, some_map, picked, picked_inside, picked_from, picked_item}
 

@@ -10,7 +10,7 @@ use Rattle.attr_value.specs.Tree.{Tree, Trees, no_trees, Attributes, no_attribut
 use Rattle.attr_value.specs.Tree.{text, number, binary, boolean, null, text_set, number_set, binary_set}
 use Rattle.attr_value.specs.Paths.{kept_attribute, kept_element}
 use Rattle.path_entries.specs.Entries.{below, or_rest, is_name, is_place, entry_of, entries_of}
-use Rattle.path_entries.specs.declared.key.Entry.{Entry}
+use Rattle.path_entries.specs.declared.key.PathEntry.{PathEntry}
 use Rattle.projection.specs.Picked.{Asked, is_end, leads_here, some_list, some_map, picked_inside, picked_from, picked_item}
 
 -- each test passes as many of the one list as of the other
@@ -20,14 +20,14 @@ AreSame ps qs = (p : Asked → Bool) → count_by p ps ≡ count_by p qs
 counted : (p : Asked → Bool) (x : Asked) (xs : List Asked) → count_by p (x ∷ xs) ≡ cond (p x) 1 0 + count_by p xs
 counted p x xs = sum_by-cons (λ y. cond (p y) 1 0) x xs
 
-counted_entries : (p : Asked → Bool) (es : List (Entry (Unit {0}))) → count_by p (entries_of es) ≡ count_by (λ e. p (entry_of e)) es
+counted_entries : (p : Asked → Bool) (es : List (PathEntry (Unit {0}))) → count_by p (entries_of es) ≡ count_by (λ e. p (entry_of e)) es
 counted_entries p [] = refl
 counted_entries p (e ∷ es) =
     counted p (entry_of e) (entries_of es) ∙ ap (λ (n : ℕ). cond (p (entry_of e)) 1 0 + n) (counted_entries p es)
     ∙ sym (sum_by-cons (λ x. cond (p (entry_of x)) 1 0) e es)
 
 -- entries in another order
-pub same_entries : (es fs : List (Entry (Unit {0}))) → IsPermutation es fs → AreSame (entries_of es) (entries_of fs)
+pub same_entries : (es fs : List (PathEntry (Unit {0}))) → IsPermutation es fs → AreSame (entries_of es) (entries_of fs)
 same_entries es fs moved p =
     counted_entries p es ∙ sym (sum_by-IsPermutation (λ e. cond (p (entry_of e)) 1 0) es fs moved) ∙ sym (counted_entries p fs)
 

@@ -9,7 +9,7 @@ ghost use Rattle.projection.specs.Picked.{asked, picked, picked_inside, picked_i
 use attr_value::{Elements, Item, Value, push_some};
 use base_types::{DocPath, Seq};
 use expr_words::Paths;
-use path_entries::{Entry, Key, below, sorted};
+use path_entries::{Key, PathEntry, below, sorted};
 use std::alloc::{AllocError as NoMemory, Global};
 
 /// The item with what the paths find, and nothing else. A path that finds nothing adds nothing.
@@ -25,13 +25,13 @@ pub fn pick(paths: &Paths, item: &Item) -> Result<Item, NoMemory>
 }
 
 /// The paths as entries, each with nothing to say of its end.
-fn entries(alloc: Global, paths: &[DocPath]) -> Result<Vec<Entry<'_, ()>>, NoMemory>
+fn entries(alloc: Global, paths: &[DocPath]) -> Result<Vec<PathEntry<'_, ()>>, NoMemory>
     ensures { IfOk result (λ entries. entries_of entries.items ≡ asked paths.now) }
 {
     let mut entries = Vec::new(alloc);
     for path in paths {
         let steps = path.steps.as_slice();
-        entries.push(Entry { steps, value: () })?;
+        entries.push(PathEntry { steps, value: () })?;
     }
     Ok(entries)
 }
@@ -41,7 +41,7 @@ fn entries(alloc: Global, paths: &[DocPath]) -> Result<Vec<Entry<'_, ()>>, NoMem
 fn value_of(
     alloc: Global,
     value: &Value,
-    paths: &[Entry<'_, ()>],
+    paths: &[PathEntry<'_, ()>],
 ) -> Result<Option<Value>, NoMemory>
     requires { AreInOrder (entries_of paths.now) }
     ensures { IfOk result (λ new. option_map tree_of new ≡ picked (tree_of value.now) (entries_of paths.now)) }
@@ -60,7 +60,7 @@ fn value_of(
 fn inside_of(
     alloc: Global,
     value: &Value,
-    paths: &[Entry<'_, ()>],
+    paths: &[PathEntry<'_, ()>],
 ) -> Result<Option<Value>, NoMemory>
     requires { AreInOrder (entries_of paths.now) }
     ensures { IfOk result (λ new. option_map tree_of new ≡ picked_inside (tree_of value.now) (entries_of paths.now)) }
@@ -101,7 +101,7 @@ fn some_list(list: Elements) -> Option<Value>
 
 /// What the paths pick of an item's attributes.
 #[cycle(pick)]
-fn item_of(alloc: Global, item: &Item, paths: &[Entry<'_, ()>]) -> Result<Item, NoMemory>
+fn item_of(alloc: Global, item: &Item, paths: &[PathEntry<'_, ()>]) -> Result<Item, NoMemory>
     requires { AreInOrder (entries_of paths.now) }
     ensures { IfOk result (λ new. new ≡ picked_item item.now (entries_of paths.now)) }
 {
@@ -116,7 +116,11 @@ fn item_of(alloc: Global, item: &Item, paths: &[Entry<'_, ()>]) -> Result<Item, 
 
 /// What the paths pick of a list's elements.
 #[cycle(pick)]
-fn list_of(alloc: Global, list: &Elements, paths: &[Entry<'_, ()>]) -> Result<Elements, NoMemory>
+fn list_of(
+    alloc: Global,
+    list: &Elements,
+    paths: &[PathEntry<'_, ()>],
+) -> Result<Elements, NoMemory>
     requires { AreInOrder (entries_of paths.now) }
     ensures { IfOk result (λ new. new ≡ picked_list list.now (entries_of paths.now)) }
 {

@@ -6,7 +6,7 @@ use Rattle.turnstile.specs.Histories.{at_cell, Trail, Ends}
 use Rattle.turnstile.specs.Passes.{PassView}
 use Rattle.turnstile.proofs.Histories.{trail_self, trail_end, ends_after}
 use Rattle.request_history.specs.declared.event.Event.{Event}
-use Rattle.request_history.specs.declared.event.Outcome.{Outcome}
+use Rattle.request_history.specs.declared.event.Handling.{Handling}
 use Rattle.request_history.specs.Effects.{Effects}
 use Rattle.request_history.specs.Events.{by_of, cell_of, event_of, outcome_of, Does, Comes, Stands, IsLegal, all_here, comes_push}
 use Rattle.request_history.specs.Steps.{Adds}
@@ -52,7 +52,7 @@ module _ {S Q A : Type 0} (effects : Effects S Q A) where
       subst (λ (z : Q × ℕ). Does effects from z.1 (outcome_of z.0 answer) to) (λ i. (same i, is i)) does
 
   -- a pass that took the turn, counted an event and left has added it
-  pub added : (p taken counted q : PassView (Event Q A)) (turns : List Ticket) (outcome : Outcome Q A) → p.turns ≡ []
+  pub added : (p taken counted q : PassView (Event Q A)) (turns : List Ticket) (outcome : Handling Q A) → p.turns ≡ []
       → taken ≡ record p { used = p.used + 1; front = taken.front; turns = turns }
       → counted ≡ record taken { front = counted.front } → q ≡ record counted { turns = [] }
       → Trail by_of p.number p.front [] taken.front
@@ -76,17 +76,17 @@ module _ {S Q A : Type 0} (effects : Effects S Q A) where
       let last = comes_last effects.empty whole.past (event_of p outcome) store.0 store.1 in
       record { pass = pass; ends = whole; from = last.0; stands = last.1; to = store.0; does = last.2 }
 
-  pub added_as : (p q : PassView (Event Q A)) (outcome same : Outcome Q A) → outcome ≡ same → Adds effects p outcome q → Adds effects p same q
+  pub added_as : (p q : PassView (Event Q A)) (outcome same : Handling Q A) → outcome ≡ same → Adds effects p outcome q → Adds effects p same q
   added_as p q outcome same is adds = subst (λ o. Adds effects p o q) is adds
 
   -- the one own entry of an event that was added
-  pub added_trail : (p q : PassView (Event Q A)) (outcome : Outcome Q A) → Adds effects p outcome q
+  pub added_trail : (p q : PassView (Event Q A)) (outcome : Handling Q A) → Adds effects p outcome q
       → Trail by_of p.number p.front (event_of p outcome ∷ []) q.front
   added_trail p q outcome adds = trail_end by_of p.number p.front (event_of p outcome) q.front refl adds.ends
 
   -- a message that was answered by one event of its own, or by none
   pub added_is_step : (Right : Rightness (Event Q A)) (p q : PassView (Event Q A)) (message : Message) (moment status : ℕ)
-      (body : List ℕ) (outcome : Outcome Q A) → Adds effects (at_moment p moment) outcome q
+      (body : List ℕ) (outcome : Handling Q A) → Adds effects (at_moment p moment) outcome q
       → Right (at_moment p moment) (event_of (at_moment p moment) outcome ∷ []) q message status body
       → IsStep by_of Right p message moment status body q
   added_is_step Right p q message moment status body outcome adds right =

@@ -4,8 +4,8 @@ use Rattle.std.specs.Prelude.{◌≡◌, ℕ, ◌<◌, ⊤, List, [], ◌∷◌,
 use Rattle.turnstile.specs.Histories.{at_cell, IsBeginning, SeesAll}
 use Rattle.turnstile.specs.Passes.{PassView}
 use Rattle.request_history.specs.declared.event.Event.{Event}
-use Rattle.request_history.specs.declared.event.Outcome.{Outcome}
-use Rattle.request_history.specs.declared.event.Outcome.TheVariants.{Applied, LeftOut}
+use Rattle.request_history.specs.declared.event.Handling.{Handling}
+use Rattle.request_history.specs.declared.event.Handling.TheVariants.{Applied, LeftOut}
 use Rattle.request_history.specs.Effects.{Effects}
 
 module _ {Q A : Type 0} where
@@ -17,14 +17,14 @@ module _ {Q A : Type 0} where
   cell_of e = Some 0
 
   -- what a pass counts at its moment
-  abbrev pub event_of : PassView (Event Q A) → Outcome Q A → Event Q A
+  abbrev pub event_of : PassView (Event Q A) → Handling Q A → Event Q A
   event_of p outcome = record { pass = p.number; moment = p.moment; outcome = outcome }
 
   abbrev pub some_event : Event Q A
   some_event = record { pass = 0; moment = 0; outcome = LeftOut }
 
   -- what became of a request that was answered so, or for which memory was refused
-  abbrev pub outcome_of : {E : Type 0} → Q → Result A E → Outcome Q A
+  abbrev pub outcome_of : {E : Type 0} → Q → Result A E → Handling Q A
   outcome_of request (Ok reply) = Applied request reply
   outcome_of request (Err refused) = LeftOut
 
@@ -35,7 +35,7 @@ module _ {Q A : Type 0} where
 
 module _ {S Q A : Type 0} (effects : Effects S Q A) where
   -- what an outcome at a moment may make of a store
-  abbrev pub Does : S → ℕ → Outcome Q A → S → Type 0
+  abbrev pub Does : S → ℕ → Handling Q A → S → Type 0
   Does from moment (Applied request reply) to = effects.applies from request moment to reply
   Does from moment LeftOut to = effects.leaves_out from moment to
 

@@ -4,15 +4,15 @@ use Rattle.std.specs.List.{AllByRecursion}
 use Rattle.turnstile.specs.Histories.{Trail, Ends}
 use Rattle.turnstile.specs.Passes.{PassView, TurnstileView}
 use Rattle.request_history.specs.declared.event.Event.{Event}
-use Rattle.request_history.specs.declared.event.Outcome.{Outcome}
-use Rattle.request_history.specs.declared.event.Outcome.TheVariants.{Applied, LeftOut}
+use Rattle.request_history.specs.declared.event.Handling.{Handling}
+use Rattle.request_history.specs.declared.event.Handling.TheVariants.{Applied, LeftOut}
 use Rattle.request_history.specs.Effects.{Effects}
 use Rattle.request_history.specs.Events.{by_of, event_of, Does, Stands}
 
 module _ {S Q A : Type 0} (effects : Effects S Q A) where
   -- from p to q one event was added, at the moment of the pass and for one unit, and others' alone came in before it: its
   -- outcome is what may become of a store that stands for all events before it
-  pub record Adds (p : PassView (Event Q A)) (outcome : Outcome Q A) (q : PassView (Event Q A)) : Type 0 where
+  pub record Adds (p : PassView (Event Q A)) (outcome : Handling Q A) (q : PassView (Event Q A)) : Type 0 where
     pub pass : q ≡ record p { used = p.used + 1; front = q.front }
     pub ends : Ends by_of p.number p.front (event_of p outcome) q.front
     pub from : S

@@ -5,7 +5,7 @@ use std::marker::{Brand, PhantomData};
 use turnstile::{EntryOf, World};
 
 /// What became of a request.
-pub enum Outcome<Q, A> {
+pub enum Handling<Q, A> {
     /// It was applied whole.
     Applied { request: Q, reply: A },
     /// Memory was refused, and it was left out.
@@ -16,7 +16,7 @@ pub enum Outcome<Q, A> {
 pub struct Event<Q, A> {
     pub pass: u64,
     pub moment: u64,
-    pub outcome: Outcome<Q, A>,
+    pub outcome: Handling<Q, A>,
 }
 
 /// The world of one cell, which is the whole store. It lies in a box, so that a turn moves a pointer.

@@ -19,7 +19,7 @@ mod session;
 mod shared;
 mod store;
 
-pub use event::{Event, OneStore, Outcome};
+pub use event::{Event, Handling, OneStore};
 pub use session::{SessionKind, session_law};
 pub use shared::{SharedStore, StepError};
 pub use store::Store;

@@ -7,7 +7,7 @@ ghost use Rattle.turnstile.specs.Kept.{ticket};
 ghost use Rattle.turnstile.specs.Passes.{most_units, first_passes};
 ghost use Rattle.request_history.specs.Events.{Does, IsLegal, Stands, by_of, cell_of, event_of, outcome_of};
 ghost use Rattle.request_history.specs.Steps.{Adds, AreAll, HaveOneFront, IsAtRest, IsWhole, SeesMore};
-ghost use Rattle.request_history.specs.declared.event.Outcome.TheVariants.{Applied, LeftOut};
+ghost use Rattle.request_history.specs.declared.event.Handling.TheVariants.{Applied, LeftOut};
 
 use crate::event::{Event, OneStore};
 use crate::store::Store;

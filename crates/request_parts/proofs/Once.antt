@@ -12,7 +12,7 @@ use Rattle.std.proofs.lemmas.Map.Keys.{sorted_head, sorted_tail}
 use Rattle.serde_json.specs.View.{members_view}
 use Rattle.serde_json.specs.declared.value.Value.{Value}
 use Rattle.legacy_params.specs.declared.part.LegacyChange.{LegacyChange}
-use Rattle.request_parts.specs.Legacy.{Change, changes_in, shown_change}
+use Rattle.request_parts.specs.Legacy.{ShownChange, changes_in, shown_change}
 
 -- a member of an object, as the code keeps it
 abbrev pub Entry : Type 0
@@ -26,11 +26,11 @@ abbrev Above : List ℕ → List (String Global) → Type 0
 Above n [] = Unit {0}
 Above n (k ∷ ks) = (slice_cmp nat_cmp n (string_bytes k) ≡ Less) × Above n ks
 
-first_name : List Change → List ℕ
+first_name : List ShownChange → List ℕ
 first_name [] = []
 first_name (c ∷ cs) = c.name
 
-behind : List Change → List Change
+behind : List ShownChange → List ShownChange
 behind [] = []
 behind (c ∷ cs) = cs
 

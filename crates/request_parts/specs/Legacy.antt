@@ -74,7 +74,7 @@ pub record Test : Type 0 where
   pub values : List Value
   pub exists : Option Bool
 
-pub record Change : Type 0 where
+pub record ShownChange : Type 0 where
   pub name : List ℕ
   pub action : List ℕ
   pub value : Option Value
@@ -107,16 +107,16 @@ tests_in expected no_members = []
 tests_in expected (member k d ms) = test_in expected k d ∷ tests_in expected ms
 
 -- (API Reference: AttributeValueUpdate)
-abbrev pub change_in : List ℕ → Data → Change
+abbrev pub change_in : List ℕ → Data → ShownChange
 change_in n d = record { name = n; action = text_at name.Action d; value = stated_value name.Value d }
 
-abbrev pub changes_in : Members → List Change
+abbrev pub changes_in : Members → List ShownChange
 changes_in no_members = []
 changes_in (member k d ms) = change_in k d ∷ changes_in ms
 
 -- ---- what a request states
 
-abbrev pub changes_of : LegacyKind → Data → List Change
+abbrev pub changes_of : LegacyKind → Data → List ShownChange
 changes_of kind.Update d = changes_in (members_in name.AttributeUpdates d)
 changes_of k d = []
 
@@ -159,7 +159,7 @@ shown_test t = record {
   exists = t.exists;
 }
 
-abbrev pub shown_change : LegacyChange → Change
+abbrev pub shown_change : LegacyChange → ShownChange
 shown_change c = record { name = c.name; action = c.action; value = option_map tree_of c.value }
 
 pub record AreLegacyParts (k : LegacyKind) (d : Data) (p : LegacyParts) : Type 0 where

@@ -13,7 +13,7 @@ use Rattle.table_request.specs.declared.batches.TableKeys.{TableKeys}
 use Rattle.table_request.specs.declared.consumed.Consumed.{Consumed}
 use Rattle.table_model.specs.declared.reply.Reply.{Reply}
 use Rattle.table_model.specs.declared.reply.Reply.TheVariants.{BatchRead, Refused}
-use Rattle.table_model.specs.declared.reply.TableItems.{TableItems}
+use Rattle.table_model.specs.declared.reply.FoundItems.{FoundItems}
 use Rattle.table_model.specs.declared.refusal.Refusal.{Refusal}
 use Rattle.table_model.specs.Database.{Database, Table, table_named, first, unless}
 use Rattle.table_model.specs.Batches.{missing, missing_if, key_refusal, place_if, asked_keys, asked_keys_if, asked_items, asked_items_if, most_batch_bytes, read_count, found, found_in, unread, unread_in, used_by_keys, used_by_reads, batch_get, batch_get_refusal}
@@ -125,8 +125,8 @@ found_is db (t ∷ ts) count all =
     ap (λ (n : ℕ). take n (take count (xs ++ ys))) (sym all.0) ∙ front xs ys count in
     let rest : drop (length t.keys) (take count (xs ++ ys)) ≡ take (count - length t.keys) ys =
     ap (λ (n : ℕ). drop n (take count (xs ++ ys))) (sym all.0) ∙ back xs ys count ∙ ap (λ (n : ℕ). take (count - n) ys) all.0 in
-    (λ i. (let r : TableItems = record { table = t.table; items = shown t.projection (here i) } in r) ∷ found_among ts (rest i))
-    ∙ ap (λ (fs : List TableItems). found_in db count t ∷ fs) (found_is db ts (count - length t.keys) all.1)
+    (λ i. (let r : FoundItems = record { table = t.table; items = shown t.projection (here i) } in r) ∷ found_among ts (rest i))
+    ∙ ap (λ (fs : List FoundItems). found_in db count t ∷ fs) (found_is db ts (count - length t.keys) all.1)
 
 pub used_is :
     (db : Database) (ts : List TableKeys) (count : ℕ) → HaveItems db ts

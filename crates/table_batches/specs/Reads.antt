@@ -6,7 +6,7 @@ use Rattle.table_request.specs.declared.batches.TableKeys.{TableKeys}
 use Rattle.table_request.specs.declared.consumed.Consumed.{Consumed}
 use Rattle.table_model.specs.declared.reply.Reply.{Reply}
 use Rattle.table_model.specs.declared.reply.Reply.TheVariants.{BatchRead}
-use Rattle.table_model.specs.declared.reply.TableItems.{TableItems}
+use Rattle.table_model.specs.declared.reply.FoundItems.{FoundItems}
 use Rattle.table_model.specs.Reads.{view}
 use Rattle.table_model.specs.Batches.{most_batch_bytes, read_count, unread, used_by_keys}
 use Rattle.table_model.specs.Consumed.{where_asked}
@@ -16,7 +16,7 @@ abbrev pub shown : Option Paths → List (Option Attributes) → List Attributes
 shown projection items = map (view projection) (filter_map (λ item. item) items)
 
 -- of each table what is shown of its items, as far as these items go
-abbrev pub found_among : List TableKeys → List (Option Attributes) → List TableItems
+abbrev pub found_among : List TableKeys → List (Option Attributes) → List FoundItems
 found_among [] items = []
 found_among (t ∷ ts) items =
     record { table = t.table; items = shown t.projection (take (length t.keys) items) }

@@ -19,7 +19,7 @@ use numbered_tables::NumberedTable;
 use std::alloc::{AllocError as NoMemory, Global};
 use std::collections::BTreeMap;
 use table_items::{bytes_of, read_mode, view};
-use table_model::{Reply, TableItems};
+use table_model::{FoundItems, Reply};
 use table_request::{BatchGet, Consumed, TableKeys};
 
 /// The most bytes of the items that are read together.
@@ -63,12 +63,12 @@ fn shown_of(
     alloc: Global,
     asked: &TableKeys,
     items: &[Option<&SharedItem>],
-) -> Result<TableItems, NoMemory>
+) -> Result<FoundItems, NoMemory>
     ensures { IfOk result (λ found. found ≡ record { table = asked.now.table; items = shown asked.now.projection (map option_copied items.now) }) }
 {
     let table = asked.table.try_clone()?;
     let items = shown(alloc, asked.projection.as_ref(), items)?;
-    Ok(TableItems { table, items })
+    Ok(FoundItems { table, items })
 }
 
 /// Of each table what is shown of those of its items that are among these, which are the first of all.
@@ -76,7 +76,7 @@ fn found(
     alloc: Global,
     requests: &[TableKeys],
     items: &[Option<&SharedItem>],
-) -> Result<Seq<TableItems>, NoMemory>
+) -> Result<Seq<FoundItems>, NoMemory>
     ensures { IfOk result (λ found. found ≡ found_among requests.now (map option_copied items.now)) }
 {
     let mut found = Seq::with_capacity(alloc, requests.len())?;

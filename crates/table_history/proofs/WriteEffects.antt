@@ -19,7 +19,7 @@ use Rattle.table_model.specs.declared.reply.Reply.TheVariants.{Refused}
 use Rattle.table_model.specs.declared.refusal.Refusal.TheVariants as refusal
 use Rattle.table_model.specs.declared.refusal.Invalid as why
 use Rattle.table_model.specs.declared.refusal.Invalid.TheVariants as invalid
-use Rattle.table_model.specs.Outcome.{Outcome as TableOutcome, becomes, is_false, is_faulty, is_met, where_met, put_outcome, update_outcome, delete_outcome}
+use Rattle.table_model.specs.Outcome.{ItemOutcome, becomes, is_false, is_faulty, is_met, where_met, put_outcome, update_outcome, delete_outcome}
 use Rattle.table_model.specs.Database.{Database, Table, table_named, with_row, in_table, at_key, unless}
 use Rattle.table_model.specs.Effect.{IsEffect}
 use Rattle.table_model.specs.Writes.{told_written, key_update, put_fault, shown_if, written, old_at, put_at, update_at, delete_at}
@@ -83,17 +83,17 @@ module _ (c : Catalog) (was : IsKept c) (f g : CellKey → Option Attributes) (t
 
 -- ---- a write's outcome by its answer
 
-new_outcome : (w : TableOutcome) (new : Option Attributes) → outcome_of w ≡ New new → w ≡ becomes new
+new_outcome : (w : ItemOutcome) (new : Option Attributes) → outcome_of w ≡ New new → w ≡ becomes new
 new_outcome (becomes item) new e = let same : item ≡ new = cc in ap becomes same
 new_outcome is_false new e = absurd (cc)
 new_outcome (is_faulty fault) new e = absurd (cc)
 
-unmet_outcome : (w : TableOutcome) → outcome_of w ≡ Unmet → w ≡ is_false
+unmet_outcome : (w : ItemOutcome) → outcome_of w ≡ Unmet → w ≡ is_false
 unmet_outcome (becomes item) e = absurd (cc)
 unmet_outcome is_false e = refl
 unmet_outcome (is_faulty fault) e = absurd (cc)
 
-faulty_outcome : (w : TableOutcome) (fault : EvalFault) → outcome_of w ≡ Fails fault → w ≡ is_faulty fault
+faulty_outcome : (w : ItemOutcome) (fault : EvalFault) → outcome_of w ≡ Fails fault → w ≡ is_faulty fault
 faulty_outcome (becomes item) fault e = absurd (cc)
 faulty_outcome is_false fault e = absurd (cc)
 faulty_outcome (is_faulty other) fault e = let same : other ≡ fault = cc in ap is_faulty same
@@ -116,7 +116,7 @@ module _ (n : ℕ) (es : List TableEvent) (legal : IsLegal (service n) es) (e : 
 
   module _ (t : CatalogTable) (found : numbered before.tables t.number ≡ Some t) (key : Key) (action : ItemAction) (on : action.key ≡ item_key t key) (table : Table)
       (is : table_named db t.schema.name ≡ Some table) (that : IsTableOf item t (t.schema.name, table))
-      (w : TableOutcome) (acts : action_outcome t.schema action (old_at table key) ≡ w)
+      (w : ItemOutcome) (acts : action_outcome t.schema action (old_at table key) ≡ w)
       (fault : EvalFault → why.Invalid) (show_old : Bool) (tell : Option Attributes → Option Attributes → Reply) where
     old_is : item action.key ≡ old_at table key
     old_is = ap item on ∙ sym (that.rows (row_key key))

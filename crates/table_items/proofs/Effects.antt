@@ -18,7 +18,7 @@ use Rattle.table_model.specs.declared.refusal.Refusal.{Refusal}
 use Rattle.table_model.specs.declared.refusal.Refusal.TheVariants as refusal
 use Rattle.table_model.specs.declared.refusal.Invalid as why
 use Rattle.table_model.specs.declared.refusal.Invalid.TheVariants as invalid
-use Rattle.table_model.specs.Outcome.{Outcome, becomes, is_false, is_faulty}
+use Rattle.table_model.specs.Outcome.{ItemOutcome, becomes, is_false, is_faulty}
 use Rattle.table_model.specs.Database.{Database, Table, Effect, table_named, with_table, refused, in_table, at_key}
 use Rattle.table_model.specs.Writes.{written}
 use Rattle.table_items.specs.Effects.{table_at, HasTable}
@@ -42,7 +42,7 @@ refused_is db name number old new why reply has kept =
 -- what is written at a key
 pub written_is :
     (db : Database) (name : List ℕ) (number : ℕ) (old new : TableView) (key : Key) (lost : Option Attributes) (fault : EvalFault → why.Invalid)
-    (told : Option Attributes → Reply) (outcome : Outcome) (reply : Reply)
+    (told : Option Attributes → Reply) (outcome : ItemOutcome) (reply : Reply)
     → HasTable db name number old → IsWritten old (row_key key) lost fault told outcome new reply
     → written db name (table_at number old) key lost fault told outcome ≡ (with_table db name (table_at number new), reply)
 written_is db name number old new key lost fault told (becomes item) reply has made =
@@ -57,7 +57,7 @@ written_is db name number old new key lost fault told (is_faulty why) reply has 
 -- no change is prepared after a write
 pub idle_after :
     (old new : TableView) (key : RowKey) (lost : Option Attributes) (fault : EvalFault → why.Invalid)
-    (told : Option Attributes → Reply) (outcome : Outcome) (reply : Reply) → old.pending ≡ []
+    (told : Option Attributes → Reply) (outcome : ItemOutcome) (reply : Reply) → old.pending ≡ []
     → IsWritten old key lost fault told outcome new reply → new.pending ≡ []
 idle_after old new key lost fault told (becomes item) reply idle made = ap (λ kept. kept.pending) made.0 ∙ idle
 idle_after old new key lost fault told is_false reply idle kept = ap (λ kept. kept.pending) kept.0 ∙ idle

@@ -13,7 +13,7 @@ use Rattle.base_types.specs.declared.path.Step.{Step}
 use Rattle.base_types.specs.declared.path.Step.TheVariants.{Name, Index}
 use Rattle.attr_value.specs.Tree.{Attributes}
 use Rattle.item_keys.specs.Row.{only}
-use Rattle.path_entries.specs.declared.key.Entry.{Entry}
+use Rattle.path_entries.specs.declared.key.PathEntry.{PathEntry}
 use Rattle.path_entries.specs.Entries.{begins, is_name}
 use Rattle.expr_parse.specs.declared.tree.Update.{Update}
 use Rattle.update_eval.specs.Places.{touches, begins_with, is_first}
@@ -39,7 +39,7 @@ begins_is name (Index place ∷ steps) = refl
 
 -- the names with which some entry begins are those with which some path does
 pub named_alike :
-    (name : List ℕ) (entries : List (Entry (Unit {0}))) (paths : List DocPath) → steps_of entries ≡ map (λ path. path.steps) paths
+    (name : List ℕ) (entries : List (PathEntry (Unit {0}))) (paths : List DocPath) → steps_of entries ≡ map (λ path. path.steps) paths
     → has_name entries name ≡ list_any (begins_with name) paths
 named_alike name [] [] is = refl
 named_alike name [] (path ∷ paths) is = absurd (cc)
@@ -53,7 +53,7 @@ named_alike name (entry ∷ entries) (path ∷ paths) is =
 
 -- the attributes are the same
 pub only_alike :
-    (entries ordered : List (Entry (Unit {0}))) (u : UpdateTree) (item : Attributes) → steps_of entries ≡ map (λ path. path.steps) (written u)
+    (entries ordered : List (PathEntry (Unit {0}))) (u : UpdateTree) (item : Attributes) → steps_of entries ≡ map (λ path. path.steps) (written u)
     → IsPermutation entries ordered → only (has_name ordered) item ≡ only (touches u) item
 only_alike entries ordered u item is moved =
     let same : (name : List ℕ) → has_name ordered name ≡ touches u name =

@@ -9,7 +9,7 @@ use Rattle.row_keys.specs.declared.row_key.RowKey.{RowKey}
 use Rattle.row_keys.specs.Keys.{row_key}
 use Rattle.row_keys.specs.Rows.{item_at, with_item}
 use Rattle.table_rows.specs.View.{TableView, committed}
-use Rattle.table_rows.specs.declared.change.Change.{Change}
+use Rattle.table_rows.specs.declared.change.RowChange.{RowChange}
 use Rattle.table_request.specs.declared.items.PutItem.{PutItem}
 use Rattle.table_request.specs.declared.items.UpdateItem.{UpdateItem}
 use Rattle.table_request.specs.declared.items.DeleteItem.{DeleteItem}
@@ -21,7 +21,7 @@ use Rattle.table_model.specs.declared.refusal.Refusal.TheVariants as refusal
 use Rattle.table_model.specs.declared.refusal.Invalid.TheVariants as invalid
 use Rattle.table_model.specs.declared.refusal.Invalid as why
 use Rattle.update_eval.specs.declared.fault.EvalFault.{EvalFault}
-use Rattle.table_model.specs.Outcome.{Outcome}
+use Rattle.table_model.specs.Outcome.{ItemOutcome}
 use Rattle.table_model.specs.Database.{Database, Table, Effect, unless, with_table}
 use Rattle.table_model.specs.Reads.{get_item, told_read}
 use Rattle.table_model.specs.Writes.{put_item, put_at, put_fault, update_item, update_at, delete_item, delete_at, key_update, old_at}
@@ -32,7 +32,7 @@ use Rattle.table_items.proofs.Effects.{refused_is, written_is, idle_after, keyed
 
 -- one change that is prepared and made
 pub made_one :
-    (old held new : TableView) (change : Change) → old.pending ≡ [] → held ≡ record old { pending = old.pending ++ change ∷ [] }
+    (old held new : TableView) (change : RowChange) → old.pending ≡ [] → held ≡ record old { pending = old.pending ++ change ∷ [] }
     → new ≡ record { schema = held.schema; rows = committed held.rows held.pending; pending = [] }
     → new ≡ record old { rows = with_item old.rows change.key change.new }
 made_one old held new change idle is made =
@@ -43,10 +43,10 @@ made_one old held new change idle is made =
 -- what is written goes by the outcome
 pub along_outcome :
     (old new : TableView) (key : RowKey) (lost : Option Attributes) (fault : EvalFault → why.Invalid)
-    (told : Option Attributes → Reply) (reply : Reply) (here wanted : Outcome) → here ≡ wanted
+    (told : Option Attributes → Reply) (reply : Reply) (here wanted : ItemOutcome) → here ≡ wanted
     → IsWritten old key lost fault told here new reply → IsWritten old key lost fault told wanted new reply
 along_outcome old new key lost fault told reply here wanted same =
-    let P : Outcome → Type 0 = λ outcome. IsWritten old key lost fault told outcome new reply in
+    let P : ItemOutcome → Type 0 = λ outcome. IsWritten old key lost fault told outcome new reply in
     subst P same
 
 -- ---- puts

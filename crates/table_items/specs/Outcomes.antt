@@ -5,10 +5,10 @@ use Rattle.item_keys.specs.declared.key.Key.{Key}
 use Rattle.row_keys.specs.declared.row_key.RowKey.{RowKey}
 use Rattle.row_keys.specs.Keys.{row_key}
 use Rattle.table_model.specs.Outcome as model
-use Rattle.table_items.specs.declared.outcome.Outcome.{Outcome}
-use Rattle.table_items.specs.declared.outcome.Outcome.TheVariants.{Becomes, False, Faulty}
+use Rattle.table_items.specs.declared.outcome.ItemOutcome.{ItemOutcome}
+use Rattle.table_items.specs.declared.outcome.ItemOutcome.TheVariants.{Becomes, False, Faulty}
 
-abbrev pub outcome_of : Outcome → model.Outcome
+abbrev pub outcome_of : ItemOutcome → model.ItemOutcome
 outcome_of (Becomes item) = model.becomes item
 outcome_of False = model.is_false
 outcome_of (Faulty fault) = model.is_faulty fault

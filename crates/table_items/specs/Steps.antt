@@ -17,7 +17,7 @@ use Rattle.table_model.specs.declared.refusal.Refusal.{Refusal}
 use Rattle.table_model.specs.declared.refusal.Refusal.TheVariants.{Invalid, ConditionFailed}
 use Rattle.table_model.specs.declared.refusal.Invalid as why
 use Rattle.table_model.specs.declared.refusal.Invalid.TheVariants as invalid
-use Rattle.table_model.specs.Outcome.{Outcome, becomes, is_false, is_faulty, is_met, where_met, put_outcome, update_outcome, delete_outcome}
+use Rattle.table_model.specs.Outcome.{ItemOutcome, becomes, is_false, is_faulty, is_met, where_met, put_outcome, update_outcome, delete_outcome}
 use Rattle.table_model.specs.Writes.{told_written, shown_if, put_fault, key_update}
 use Rattle.table_items.specs.declared.telling.Telling.{Telling}
 
@@ -32,7 +32,7 @@ IsMade old key item told new reply = (new ≡ record old { rows = with_item old.
 -- the outcome of a write at a key is made and told; `lost` is what is shown where the condition is false, and `told` what
 -- is told of a write that is made
 abbrev pub IsWritten :
-    TableView → RowKey → Option Attributes → (EvalFault → why.Invalid) → (Option Attributes → Reply) → Outcome → TableView → Reply → Type 0
+    TableView → RowKey → Option Attributes → (EvalFault → why.Invalid) → (Option Attributes → Reply) → ItemOutcome → TableView → Reply → Type 0
 IsWritten old key lost fault told (becomes item) new reply = IsMade old key item (told item) new reply
 IsWritten old key lost fault told is_false new reply = IsRefused old (ConditionFailed lost) new reply
 IsWritten old key lost fault told (is_faulty why) new reply = IsRefused old (Invalid (fault why)) new reply

@@ -27,7 +27,7 @@ mod used;
 mod write;
 
 pub use key::{key_of_item, key_of_key};
-pub use outcome::{Outcome, delete_outcome, is_met, is_too_large, put_outcome, update_outcome};
+pub use outcome::{ItemOutcome, delete_outcome, is_met, is_too_large, put_outcome, update_outcome};
 pub use read::{get_item, told_read, view};
 pub use returned::{shown, shown_old, touched_key};
 pub use telling::Telling;

@@ -19,7 +19,7 @@ use update_eval::{EvalEnd, EvalFault, MAX_SIZE, apply};
 
 /// What becomes of an item that may be there.
 #[derive(Drop)]
-pub enum Outcome {
+pub enum ItemOutcome {
     /// It is this one, or none.
     Becomes(Option<Item>),
     /// It stays, since the condition is false.
@@ -49,16 +49,16 @@ pub fn is_too_large(item: &Item) -> bool
 }
 
 /// An item that may stand in the table, or its fault: `ItemTooLarge`, then `IndexKey`.
-fn fit(schema: &Schema, item: Item) -> Outcome
+fn fit(schema: &Schema, item: Item) -> ItemOutcome
     ensures { outcome_of result ≡ fit schema.now item }
 {
     if is_too_large(&item) {
-        return Outcome::Faulty(EvalFault::ItemTooLarge);
+        return ItemOutcome::Faulty(EvalFault::ItemTooLarge);
     }
     if is_refused(schema, &item) {
-        return Outcome::Faulty(EvalFault::IndexKey);
+        return ItemOutcome::Faulty(EvalFault::IndexKey);
     }
-    Outcome::Becomes(Some(item))
+    ItemOutcome::Becomes(Some(item))
 }
 
 /// What a put makes of the item at its key: the new item, where the condition is true of the old one (API Reference:
@@ -69,14 +69,14 @@ pub fn put_outcome(
     values: &Seq<Value>,
     item: Item,
     old: Option<&SharedItem>,
-) -> Outcome
+) -> ItemOutcome
     ensures { outcome_of result ≡ where_met (is_met (option_copied condition.entry) values.now (option_copied old.entry))
         (model.put_outcome schema.now item) }
 {
     if is_met(condition, values, lent(old)) {
         fit(schema, item)
     } else {
-        Outcome::False
+        ItemOutcome::False
     }
 }
 
@@ -92,17 +92,17 @@ pub fn update_outcome(
     values: &Seq<Value>,
     key: Item,
     old: Option<&SharedItem>,
-) -> Result<Outcome, NoMemory>
+) -> Result<ItemOutcome, NoMemory>
     ensures { IfOk result (λ outcome. outcome_of outcome
         ≡ where_met (is_met (option_copied condition.entry) values.now (option_copied old.entry))
         (model.update_outcome schema.now (option_copied update.entry) values.now key (option_copied old.entry))) }
 {
     if !is_met(condition, values, lent(old)) {
-        return Ok(Outcome::False);
+        return Ok(ItemOutcome::False);
     }
     match updated_by(alloc, update, values, key, lent(old)) {
         Ok(item) => Ok(fit(schema, item)),
-        Err(EvalEnd::Fault(fault)) => Ok(Outcome::Faulty(fault)),
+        Err(EvalEnd::Fault(fault)) => Ok(ItemOutcome::Faulty(fault)),
         Err(EvalEnd::NoMemory) => Err(NoMemory),
     }
 }
@@ -134,12 +134,12 @@ pub fn delete_outcome(
     condition: Option<&Condition>,
     values: &Seq<Value>,
     old: Option<&SharedItem>,
-) -> Outcome
+) -> ItemOutcome
     ensures { outcome_of result ≡ where_met (is_met (option_copied condition.entry) values.now (option_copied old.entry))
         model.delete_outcome }
 {
     if !is_met(condition, values, lent(old)) {
-        return Outcome::False;
+        return ItemOutcome::False;
     }
-    Outcome::Becomes(None)
+    ItemOutcome::Becomes(None)
 }

@@ -14,7 +14,7 @@ use attr_value::Item;
 use base_types::{DocPath, Text};
 use expr_parse::Update;
 use expr_words::{PathValue, SetTo};
-use path_entries::{Entry, Key, range, sorted};
+use path_entries::{Key, PathEntry, range, sorted};
 use std::alloc::{AllocError as NoMemory, Global};
 
 /// The attributes at or below which the update writes, copied. The update's paths are put in order, and each attribute is
@@ -27,7 +27,7 @@ pub(crate) fn only_touched(alloc: Global, update: &Update, item: &Item) -> Resul
 }
 
 /// The attributes with which some path begins.
-fn only_named(alloc: Global, paths: &[Entry<'_, ()>], item: &Item) -> Result<Item, NoMemory>
+fn only_named(alloc: Global, paths: &[PathEntry<'_, ()>], item: &Item) -> Result<Item, NoMemory>
     requires { AreInOrder (entries_of paths.now) }
     ensures { IfOk result (λ named. named ≡ only (has_name paths.now) item.now) }
 {
@@ -41,7 +41,7 @@ fn only_named(alloc: Global, paths: &[Entry<'_, ()>], item: &Item) -> Result<Ite
 }
 
 /// Whether some path begins with the name.
-fn has_name(paths: &[Entry<'_, ()>], name: &Text) -> bool
+fn has_name(paths: &[PathEntry<'_, ()>], name: &Text) -> bool
     requires { AreInOrder (entries_of paths.now) }
     ensures { result ≡ has_name paths.now name.now }
 {
@@ -49,7 +49,7 @@ fn has_name(paths: &[Entry<'_, ()>], name: &Text) -> bool
 }
 
 /// The paths that the update writes.
-fn written(alloc: Global, update: &Update) -> Result<Vec<Entry<'_, ()>>, NoMemory>
+fn written(alloc: Global, update: &Update) -> Result<Vec<PathEntry<'_, ()>>, NoMemory>
     ensures { IfOk result (λ paths. steps_of paths.items ≡ map (λ path. path.steps) (written (update_tree update.now))) }
 {
     let mut paths = Vec::new(alloc);
@@ -60,7 +60,7 @@ fn written(alloc: Global, update: &Update) -> Result<Vec<Entry<'_, ()>>, NoMemor
     Ok(paths)
 }
 
-fn push_sets<'u>(paths: &mut Vec<Entry<'u, ()>>, sets: &'u [SetTo]) -> Result<(), NoMemory>
+fn push_sets<'u>(paths: &mut Vec<PathEntry<'u, ()>>, sets: &'u [SetTo]) -> Result<(), NoMemory>
     ensures { OnOk result (steps_of paths.new.items ≡ steps_of paths.old.items ++ map (λ set. set.path.steps) (map set_tree sets.now)) }
 {
     for set in sets {
@@ -69,7 +69,10 @@ fn push_sets<'u>(paths: &mut Vec<Entry<'u, ()>>, sets: &'u [SetTo]) -> Result<()
     Ok(())
 }
 
-fn push_paths<'u>(paths: &mut Vec<Entry<'u, ()>>, removes: &'u [DocPath]) -> Result<(), NoMemory>
+fn push_paths<'u>(
+    paths: &mut Vec<PathEntry<'u, ()>>,
+    removes: &'u [DocPath],
+) -> Result<(), NoMemory>
     ensures { OnOk result (steps_of paths.new.items ≡ steps_of paths.old.items ++ map (λ path. path.steps) removes.now) }
 {
     for path in removes {
@@ -78,7 +81,10 @@ fn push_paths<'u>(paths: &mut Vec<Entry<'u, ()>>, removes: &'u [DocPath]) -> Res
     Ok(())
 }
 
-fn push_pairs<'u>(paths: &mut Vec<Entry<'u, ()>>, pairs: &'u [PathValue]) -> Result<(), NoMemory>
+fn push_pairs<'u>(
+    paths: &mut Vec<PathEntry<'u, ()>>,
+    pairs: &'u [PathValue],
+) -> Result<(), NoMemory>
     ensures { OnOk result (steps_of paths.new.items ≡ steps_of paths.old.items ++ map (λ pair. pair.path.steps) pairs.now) }
 {
     for pair in pairs {
@@ -87,10 +93,10 @@ fn push_pairs<'u>(paths: &mut Vec<Entry<'u, ()>>, pairs: &'u [PathValue]) -> Res
     Ok(())
 }
 
-fn push<'u>(paths: &mut Vec<Entry<'u, ()>>, path: &'u DocPath) -> Result<(), NoMemory>
+fn push<'u>(paths: &mut Vec<PathEntry<'u, ()>>, path: &'u DocPath) -> Result<(), NoMemory>
     ensures { OnOk result (steps_of paths.new.items ≡ steps_of paths.old.items ++ path.now.steps ∷ []) }
 {
     let steps = path.steps.as_slice();
-    paths.push(Entry { steps, value: () })?;
+    paths.push(PathEntry { steps, value: () })?;
     Ok(())
 }

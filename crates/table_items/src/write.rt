@@ -8,7 +8,7 @@ ghost use Rattle.table_items.specs.Effects.{IsDone};
 ghost use Rattle.table_items.specs.Steps.{IsMade, IsPut, IsUpdate, IsUpdateAt, IsDelete, put_of, update_of, delete_of};
 
 use crate::key::{key_of_item, key_of_key};
-use crate::outcome::{Outcome, delete_outcome, put_outcome, update_outcome};
+use crate::outcome::{ItemOutcome, delete_outcome, put_outcome, update_outcome};
 use crate::returned::{shown_old, touched_key};
 use crate::telling::Telling;
 use attr_value::{Item, SharedItem, Value, kept};
@@ -80,13 +80,13 @@ fn put_at(
 {
     let old = table.get(&key);
     match put_outcome(table.schema(), condition, values, item, old) {
-        Outcome::Becomes(new) => {
+        ItemOutcome::Becomes(new) => {
             let new = kept(alloc, new)?;
             let told = telling.written(alloc, None, old, new.as_ref())?;
             make(table, alloc, key, new, told)
         }
-        Outcome::False => condition_failed(telling.show_old, old),
-        Outcome::Faulty(fault) => Ok(invalid(put_fault(fault))),
+        ItemOutcome::False => condition_failed(telling.show_old, old),
+        ItemOutcome::Faulty(fault) => Ok(invalid(put_fault(fault))),
     }
 }
 
@@ -159,13 +159,13 @@ fn update_row(
     let old = table.get(&row);
     let outcome = update_outcome(alloc, table.schema(), condition, update, values, key, old)?;
     match outcome {
-        Outcome::Becomes(new) => {
+        ItemOutcome::Becomes(new) => {
             let new = kept(alloc, new)?;
             let told = telling.written(alloc, update, old, new.as_ref())?;
             make(table, alloc, row, new, told)
         }
-        Outcome::False => condition_failed(telling.show_old, old),
-        Outcome::Faulty(fault) => Ok(invalid(Invalid::Evaluation(fault))),
+        ItemOutcome::False => condition_failed(telling.show_old, old),
+        ItemOutcome::Faulty(fault) => Ok(invalid(Invalid::Evaluation(fault))),
     }
 }
 
@@ -273,13 +273,13 @@ fn delete_at(
 {
     let old = table.get(&row);
     match delete_outcome(condition, values, old) {
-        Outcome::Becomes(new) => {
+        ItemOutcome::Becomes(new) => {
             let new = kept(alloc, new)?;
             let told = telling.written(alloc, None, old, new.as_ref())?;
             make(table, alloc, row, new, told)
         }
-        Outcome::False => condition_failed(telling.show_old, old),
-        Outcome::Faulty(fault) => Ok(invalid(Invalid::Evaluation(fault))),
+        ItemOutcome::False => condition_failed(telling.show_old, old),
+        ItemOutcome::Faulty(fault) => Ok(invalid(Invalid::Evaluation(fault))),
     }
 }
 

@@ -18,7 +18,7 @@ use Rattle.table_request.specs.declared.batches.TableKeys.{TableKeys}
 use Rattle.table_request.specs.declared.batches.TableWrites.{TableWrites}
 use Rattle.table_request.specs.declared.batches.WriteRequest.{WriteRequest}
 use Rattle.table_request.specs.declared.batches.WriteRequest.TheVariants.{Put, Delete}
-use Rattle.table_model.specs.declared.reply.TableItems.{TableItems}
+use Rattle.table_model.specs.declared.reply.FoundItems.{FoundItems}
 use Rattle.table_model.specs.declared.reply.Reply.TheVariants.{BatchRead, BatchWritten}
 use Rattle.table_model.specs.declared.refusal.Refusal.{Refusal}
 use Rattle.table_model.specs.declared.refusal.Refusal.TheVariants.{Invalid, NoTable}
@@ -83,14 +83,14 @@ read_count room (Some item ∷ items) =
     if nat_lt room (item_size item) then 0 else suc (read_count (room - item_size item) items)
 
 -- what is shown of the items of a table among the first `count` keys
-abbrev pub found_in : Database → ℕ → TableKeys → TableItems
+abbrev pub found_in : Database → ℕ → TableKeys → FoundItems
 found_in db count t = record {
   table = t.table;
   items = map (view t.projection) (filter_map (λ item. item) (take count (asked_items db t)));
 }
 
 -- of each table, what is found among the first `count` keys of all
-abbrev pub found : Database → ℕ → List TableKeys → List TableItems
+abbrev pub found : Database → ℕ → List TableKeys → List FoundItems
 found db count [] = []
 found db count (t ∷ ts) = found_in db count t ∷ found db (count - length t.keys) ts
 

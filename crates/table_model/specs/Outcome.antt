@@ -22,18 +22,18 @@ abbrev pub is_too_large : Attributes → Bool
 is_too_large item = nat_lt most_item_bytes (item_size item)
 
 -- what becomes of an item that may be there
-pub data Outcome : Type 0 where
-  becomes : Option Attributes → Outcome
-  is_false : Outcome
-  is_faulty : EvalFault → Outcome
+pub data ItemOutcome : Type 0 where
+  becomes : Option Attributes → ItemOutcome
+  is_false : ItemOutcome
+  is_faulty : EvalFault → ItemOutcome
 
 -- an item that may stand in the table, or the fault of it
-abbrev pub fit : Schema → Attributes → Outcome
+abbrev pub fit : Schema → Attributes → ItemOutcome
 fit schema item =
     if is_too_large item then is_faulty ItemTooLarge
     else (if is_refused schema item then is_faulty IndexKey else becomes (Some item))
 
-abbrev pub fit_if : Schema → Result Attributes EvalFault → Outcome
+abbrev pub fit_if : Schema → Result Attributes EvalFault → ItemOutcome
 fit_if schema (Ok item) = fit schema item
 fit_if schema (Err fault) = is_faulty fault
 
@@ -47,7 +47,7 @@ is_met None values item = true
 is_met (Some condition) values item = true_of values (or_empty item) (tree condition)
 
 -- the outcome, where the condition is true
-abbrev pub where_met : Bool → Outcome → Outcome
+abbrev pub where_met : Bool → ItemOutcome → ItemOutcome
 where_met met outcome = if met then outcome else is_false
 
 -- an update works on the item, or on its key alone where it is absent; without actions it makes that item
@@ -55,11 +55,11 @@ abbrev pub updated_by : Option Update → List Value → Attributes → Result A
 updated_by None values item = Ok item
 updated_by (Some update) values item = updated values item (update_tree update)
 
-abbrev pub put_outcome : Schema → Attributes → Outcome
+abbrev pub put_outcome : Schema → Attributes → ItemOutcome
 put_outcome schema item = fit schema item
 
-abbrev pub update_outcome : Schema → Option Update → List Value → Attributes → Option Attributes → Outcome
+abbrev pub update_outcome : Schema → Option Update → List Value → Attributes → Option Attributes → ItemOutcome
 update_outcome schema update values key item = fit_if schema (updated_by update values (unwrap_or item key))
 
-abbrev pub delete_outcome : Outcome
+abbrev pub delete_outcome : ItemOutcome
 delete_outcome = becomes None

@@ -19,8 +19,8 @@ use Rattle.table_request.specs.declared.consumed.Consumed.{Consumed}
 use Rattle.table_request.specs.Usage.{by_table}
 use Rattle.table_request.specs.declared.transactions.TransactWrite.{TransactWrite}
 use Rattle.table_request.specs.declared.transactions.TransactAction.{TransactAction}
-use Rattle.table_request.specs.declared.transactions.Change.{Change}
-use Rattle.table_request.specs.declared.transactions.Change.TheVariants.{Put, Update, Delete, Check}
+use Rattle.table_request.specs.declared.transactions.ActionChange.{ActionChange}
+use Rattle.table_request.specs.declared.transactions.ActionChange.TheVariants.{Put, Update, Delete, Check}
 use Rattle.table_request.specs.declared.transactions.TransactGet.{TransactGet}
 use Rattle.table_request.specs.declared.transactions.TransactRead.{TransactRead}
 use Rattle.table_model.specs.declared.action.NumberedAction.{NumberedAction}
@@ -33,7 +33,7 @@ use Rattle.table_model.specs.declared.refusal.Refusal.TheVariants.{Invalid, Canc
 use Rattle.table_model.specs.declared.refusal.Invalid.TheVariants as invalid
 use Rattle.row_keys.specs.Keys.{row_order}
 use Rattle.row_keys.specs.Rows.{item_at}
-use Rattle.table_model.specs.Outcome.{Outcome, becomes, is_false, is_faulty, is_met, where_met, put_outcome, update_outcome, delete_outcome}
+use Rattle.table_model.specs.Outcome.{ItemOutcome, becomes, is_false, is_faulty, is_met, where_met, put_outcome, update_outcome, delete_outcome}
 use Rattle.table_model.specs.Reads.{view}
 use Rattle.table_model.specs.Writes.{key_update, shown_if}
 use Rattle.table_model.specs.Batches.{missing, key_refusal, place_if}
@@ -59,7 +59,7 @@ has_repeat (target ∷ targets) = list_any (is_one target) targets || has_repeat
 
 -- ---- actions
 
-abbrev pub change_key : Schema → Change → Result Key KeyFault
+abbrev pub change_key : Schema → ActionChange → Result Key KeyFault
 change_key schema (Put item) = key_in schema schema.keys item
 change_key schema (Update key update) = key_alone schema schema.keys key
 change_key schema (Delete key) = key_alone schema schema.keys key
@@ -80,7 +80,7 @@ target_of db action = target_if (table_named db action.table) action
 abbrev pub bad_key : Database → TransactAction → Option Refusal
 bad_key db action = option_and_then key_refusal (key_if (table_named db action.table) action)
 
-abbrev pub change_key_update : Schema → Change → Option Refusal
+abbrev pub change_key_update : Schema → ActionChange → Option Refusal
 change_key_update schema (Update key update) = key_update schema.keys (Some update)
 change_key_update schema change = None
 
@@ -98,27 +98,27 @@ transact_refusal db actions =
 
 -- ---- what an action makes of its item
 
-abbrev pub change_outcome : Schema → TransactAction → Option Attributes → Change → Outcome
+abbrev pub change_outcome : Schema → TransactAction → Option Attributes → ActionChange → ItemOutcome
 change_outcome schema action old (Put item) = put_outcome schema item
 change_outcome schema action old (Update key update) = update_outcome schema (Some update) action.values key old
 change_outcome schema action old (Delete key) = delete_outcome
 change_outcome schema action old (Check key) = becomes old
 
-abbrev pub action_outcome : Schema → TransactAction → Option Attributes → Outcome
+abbrev pub action_outcome : Schema → TransactAction → Option Attributes → ItemOutcome
 action_outcome schema action old =
     where_met (is_met action.condition action.values old) (change_outcome schema action old action.change)
 
 -- the outcome of an action on its item, as the tables are
-abbrev pub outcome_if : Option Table → TransactAction → Option Target → Outcome
+abbrev pub outcome_if : Option Table → TransactAction → Option Target → ItemOutcome
 outcome_if (Some table) action (Some target) = action_outcome table.schema action (item_at table.rows target.key)
 outcome_if _ action _ = becomes None
 
-abbrev pub outcome_of : Database → TransactAction → Outcome
+abbrev pub outcome_of : Database → TransactAction → ItemOutcome
 outcome_of db action = outcome_if (table_named db action.table) action (target_of db action)
 
 -- ---- all or nothing
 
-abbrev pub is_accepted : Outcome → Bool
+abbrev pub is_accepted : ItemOutcome → Bool
 is_accepted (becomes new) = true
 is_accepted is_false = false
 is_accepted (is_faulty fault) = false
@@ -128,7 +128,7 @@ abbrev pub shown_old : Database → TransactAction → Option Table → Option T
 shown_old db action (Some table) (Some target) = shown_if action.show_old (item_at table.rows target.key)
 shown_old db action _ _ = None
 
-abbrev pub reason_if : Database → TransactAction → Outcome → Reason
+abbrev pub reason_if : Database → TransactAction → ItemOutcome → Reason
 reason_if db action (becomes new) = reason.None
 reason_if db action is_false =
     reason.ConditionFalse (shown_old db action (table_named db action.table) (target_of db action))
@@ -138,12 +138,12 @@ abbrev pub reason_of : Database → TransactAction → Reason
 reason_of db action = reason_if db action (outcome_of db action)
 
 -- one change is made
-abbrev pub made_if : Database → List ℕ → Option Table → Option Target → Outcome → Database
+abbrev pub made_if : Database → List ℕ → Option Table → Option Target → ItemOutcome → Database
 made_if db name (Some table) (Some target) (becomes new) = with_row db name table target.key new
 made_if db name _ _ _ = db
 
 -- the outcomes of all actions, which were taken before, are made
-abbrev pub made_all : Database → List TransactAction → List Outcome → Database
+abbrev pub made_all : Database → List TransactAction → List ItemOutcome → Database
 made_all db (action ∷ actions) (outcome ∷ outcomes) =
     made_all (made_if db action.table (table_named db action.table) (target_of db action) outcome) actions outcomes
 made_all db _ _ = db

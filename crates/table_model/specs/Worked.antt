@@ -18,7 +18,7 @@ use Rattle.table_request.specs.declared.items.DeleteItem.{DeleteItem}
 use Rattle.table_request.specs.declared.batches.WriteRequest.TheVariants as write
 use Rattle.table_request.specs.declared.batches.BatchWrite.{BatchWrite}
 use Rattle.table_request.specs.declared.batches.BatchGet.{BatchGet}
-use Rattle.table_request.specs.declared.transactions.Change.TheVariants as change
+use Rattle.table_request.specs.declared.transactions.ActionChange.TheVariants as change
 use Rattle.table_request.specs.declared.transactions.TransactAction.{TransactAction}
 use Rattle.table_request.specs.declared.transactions.TransactWrite.{TransactWrite}
 use Rattle.table_request.specs.declared.time_to_live.UpdateTimeToLive.{UpdateTimeToLive}

@@ -24,7 +24,7 @@ use Rattle.table_model.specs.declared.refusal.Invalid as why
 use Rattle.table_model.specs.declared.refusal.Invalid.TheVariants as invalid
 use Rattle.row_keys.specs.Keys.{row_key}
 use Rattle.row_keys.specs.Rows.{item_at}
-use Rattle.table_model.specs.Outcome.{Outcome, becomes, is_false, is_faulty, is_met, where_met, put_outcome, update_outcome, delete_outcome}
+use Rattle.table_model.specs.Outcome.{ItemOutcome, becomes, is_false, is_faulty, is_met, where_met, put_outcome, update_outcome, delete_outcome}
 use Rattle.table_model.specs.Database.{Database, Table, Effect, table_named, with_row, refused, in_table, at_key, unless}
 use Rattle.table_model.specs.Consumed.{where_asked, halves_written, used_of}
 
@@ -82,7 +82,7 @@ shown_if asked old = if asked then old else None
 
 -- what becomes of a table by the outcome of a write at a key; `lost` is what is shown where the condition is false, and
 -- `told` what is told of a write that is made
-abbrev pub written : Database → List ℕ → Table → Key → Option Attributes → (EvalFault → why.Invalid) → (Option Attributes → Reply) → Outcome → Effect
+abbrev pub written : Database → List ℕ → Table → Key → Option Attributes → (EvalFault → why.Invalid) → (Option Attributes → Reply) → ItemOutcome → Effect
 written db name table key lost fault told (becomes new) = (with_row db name table (row_key key) new, told new)
 written db name table key lost fault told is_false = refused db (ConditionFailed lost)
 written db name table key lost fault told (is_faulty why) = refused db (Invalid (fault why))

@@ -17,4 +17,4 @@ mod reply;
 pub use action::NumberedAction;
 pub use laws::worked;
 pub use refusal::{Invalid, Reason, Refusal, TtlFault};
-pub use reply::{Page, Reply, TableItems, TableNames};
+pub use reply::{FoundItems, Page, Reply, TableNames};

@@ -33,7 +33,7 @@ pub enum Reply {
     /// What is shown of the items that were found, each table's in the order of its keys, and the keys that were not
     /// read.
     BatchRead {
-        found: Seq<TableItems>,
+        found: Seq<FoundItems>,
         unread: Seq<TableKeys>,
         consumed: Option<Seq<Consumed>>,
     },
@@ -117,15 +117,15 @@ impl Drop for TableNames {
 }
 
 /// What was found in a table.
-pub struct TableItems {
+pub struct FoundItems {
     pub table: Text,
     pub items: Seq<SharedItem>,
 }
 
 // By hand, so that no crate above proves it again.
-impl Drop for TableItems {
+impl Drop for FoundItems {
     fn drop(self) {
-        let TableItems { table: _, items: _ } = self;
+        let FoundItems { table: _, items: _ } = self;
     }
 }
 

@@ -28,4 +28,4 @@ pub use tables::{
     CreateTable, DeleteTable, DescribeTable, IndexChange, ListTables, TableUpdate, UpdateTable,
 };
 pub use time_to_live::{DescribeTimeToLive, UpdateTimeToLive};
-pub use transactions::{Change, TransactAction, TransactGet, TransactRead, TransactWrite};
+pub use transactions::{ActionChange, TransactAction, TransactGet, TransactRead, TransactWrite};

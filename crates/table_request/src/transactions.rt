@@ -22,7 +22,7 @@ pub struct TransactWrite {
 #[derive(PartialEq, Drop)]
 pub struct TransactAction {
     pub table: Text,
-    pub change: Change,
+    pub change: ActionChange,
     /// What has to be true of the item that is there. A check states one.
     pub condition: Option<Condition>,
     /// The values that update and condition name, by their places.
@@ -33,7 +33,7 @@ pub struct TransactAction {
 
 /// What becomes of an item.
 #[derive(PartialEq, Drop)]
-pub enum Change {
+pub enum ActionChange {
     /// It is made, in place of one with its key.
     Put(Item),
     /// Attributes of it are changed, or it is made.

@@ -11,7 +11,7 @@ use Rattle.row_keys.specs.declared.row_key.RowKey.{RowKey}
 use Rattle.row_keys.specs.Keys.{row_order}
 use Rattle.row_keys.specs.KeyLaws.{row_total}
 use Rattle.row_keys.specs.Rows.{Rows, item_at, with_item}
-use Rattle.table_rows.specs.declared.change.Change.{Change}
+use Rattle.table_rows.specs.declared.change.RowChange.{RowChange}
 use Rattle.table_rows.specs.View.{is_pending, committed}
 use Rattle.table_rows.specs.Slots.{SlotList, rows_of, has_slot, KeepsOtherSlots}
 use Rattle.table_rows.specs.State.{AreDistinct, AreInStep}
@@ -32,7 +32,7 @@ or_both true b e f = absurd (cc)
 or_both false b e f = f
 
 -- what the item at a key is to be by the changes
-abbrev pub new_at : List Change → RowKey → Option (Option Attributes)
+abbrev pub new_at : List RowChange → RowKey → Option (Option Attributes)
 new_at [] k = None
 new_at (change ∷ changes) k = cond (is_at (row_order k) change.key) (Some change.new) (new_at changes k)
 
@@ -40,17 +40,17 @@ abbrev pub changed_to : Option (Option Attributes) → Option Attributes → Opt
 changed_to None old = old
 changed_to (Some new) old = new
 
-pub not_pending : (cs : List Change) (k : RowKey) → is_pending cs k ≡ false → new_at cs k ≡ None
+pub not_pending : (cs : List RowChange) (k : RowKey) → is_pending cs k ≡ false → new_at cs k ≡ None
 not_pending [] k h = refl
 not_pending (c ∷ cs) k h =
     let parts = or_none (is_at (row_order k) c.key) (is_pending cs k) h in
     cond-false (is_at (row_order k) c.key) (Some c.new) (new_at cs k) parts.0 ∙ not_pending cs k parts.1
 
-pub committed_sorted : (rows : Rows) (cs : List Change) → IsStrictlySortedBy row_order (keys_of rows) → IsStrictlySortedBy row_order (keys_of (committed rows cs))
+pub committed_sorted : (rows : Rows) (cs : List RowChange) → IsStrictlySortedBy row_order (keys_of rows) → IsStrictlySortedBy row_order (keys_of (committed rows cs))
 committed_sorted rows [] s = s
 committed_sorted rows (c ∷ cs) s = with_sorted (committed rows cs) c.key c.new (committed_sorted rows cs s)
 
-pub committed_at : (rows : Rows) (cs : List Change) → IsStrictlySortedBy row_order (keys_of rows)
+pub committed_at : (rows : Rows) (cs : List RowChange) → IsStrictlySortedBy row_order (keys_of rows)
     → (k : RowKey) → item_at (committed rows cs) k ≡ changed_to (new_at cs k) (item_at rows k)
 committed_at rows [] s k = refl
 committed_at rows (c ∷ cs) s k =
@@ -64,12 +64,12 @@ committed_at rows (c ∷ cs) s k =
     spread true n = refl
     spread false n = refl
 
-pub committed_last : (rows : Rows) (cs : List Change) (c : Change) → committed rows (cs ++ c ∷ []) ≡ committed (with_item rows c.key c.new) cs
+pub committed_last : (rows : Rows) (cs : List RowChange) (c : RowChange) → committed rows (cs ++ c ∷ []) ≡ committed (with_item rows c.key c.new) cs
 committed_last rows [] c = refl
 committed_last rows (d ∷ cs) c = ap (λ (r : Rows). with_item r d.key d.new) (committed_last rows cs c)
 
-module _ (c : Change) where
-  pub distinct_more : (cs : List Change) → AreDistinct cs → is_pending cs c.key ≡ false → AreDistinct (cs ++ c ∷ [])
+module _ (c : RowChange) where
+  pub distinct_more : (cs : List RowChange) → AreDistinct cs → is_pending cs c.key ≡ false → AreDistinct (cs ++ c ∷ [])
   distinct_more [] d h = (refl, tt)
   distinct_more (x ∷ cs) d h =
       let parts = or_none (is_at (row_order c.key) x.key) (is_pending cs c.key) h in (
@@ -79,7 +79,7 @@ module _ (c : Change) where
         distinct_more cs d.1 parts.1,
       )
 
-  pub distinct_less : (cs : List Change) → AreDistinct (cs ++ c ∷ []) → AreDistinct cs × (is_pending cs c.key ≡ false)
+  pub distinct_less : (cs : List RowChange) → AreDistinct (cs ++ c ∷ []) → AreDistinct cs × (is_pending cs c.key ≡ false)
   distinct_less [] d = (tt, refl)
   distinct_less (x ∷ cs) d =
       let rest = distinct_less cs d.1 in
@@ -89,7 +89,7 @@ module _ (c : Change) where
       ((parts.0, rest.0), or_both (is_at (row_order c.key) x.key) (is_pending cs c.key) (flip row_total row_exact c.key x.key ∙ apart.0) rest.1)
 
   -- one change more is of its own key, and of no other
-  own_pending : (cs : List Change) → is_pending (cs ++ c ∷ []) c.key ≡ true
+  own_pending : (cs : List RowChange) → is_pending (cs ++ c ∷ []) c.key ≡ true
   own_pending cs =
       list_any-append (λ change. is_at (row_order c.key) change.key) cs (c ∷ [])
       ∙ last_true (is_pending cs c.key) (is_at (row_order c.key) c.key) (at_self row_total row_exact c.key)
@@ -99,7 +99,7 @@ module _ (c : Change) where
       last_true false true e = refl
       last_true false false e = e
 
-  other_pending : (cs : List Change) (q : RowKey) → is_at (row_order c.key) q ≡ false → is_pending (cs ++ c ∷ []) q ≡ is_pending cs q
+  other_pending : (cs : List RowChange) (q : RowKey) → is_at (row_order c.key) q ≡ false → is_pending (cs ++ c ∷ []) q ≡ is_pending cs q
   other_pending cs q h =
       list_any-append (λ change. is_at (row_order q) change.key) cs (c ∷ [])
       ∙ last_false (is_pending cs q) (is_at (row_order q) c.key) (flip row_total row_exact q c.key ∙ h)
@@ -110,7 +110,7 @@ module _ (c : Change) where
       last_false false false e = refl
 
   -- a change that is prepared has a slot
-  pub slot_there : (slots : SlotList) (cs : List Change) → AreInStep slots (cs ++ c ∷ []) → has_slot slots c.key ≡ true
+  pub slot_there : (slots : SlotList) (cs : List RowChange) → AreInStep slots (cs ++ c ∷ []) → has_slot slots c.key ≡ true
   slot_there slots cs step =
       step c.key ∙ ap (λ b. is_some (item_at (rows_of slots) c.key) || b) (own_pending cs) ∙ either (is_some (item_at (rows_of slots) c.key))
     where
@@ -120,7 +120,7 @@ module _ (c : Change) where
 
   module _ (old new : SlotList) (keeps : KeepsOtherSlots c.key old new) where
     -- a step at one key keeps the others in step
-    others_in_step : (cs ds : List Change) → ((q : RowKey) → is_at (row_order c.key) q ≡ false → item_at (rows_of new) q ≡ item_at (rows_of old) q)
+    others_in_step : (cs ds : List RowChange) → ((q : RowKey) → is_at (row_order c.key) q ≡ false → item_at (rows_of new) q ≡ item_at (rows_of old) q)
         → ((q : RowKey) → is_at (row_order c.key) q ≡ false → is_pending ds q ≡ is_pending cs q) → AreInStep old cs
         → has_slot new c.key ≡ (is_some (item_at (rows_of new) c.key) || is_pending ds c.key) → AreInStep new ds
     others_in_step cs ds items changes step own = λ q. by_bool (is_at (row_order c.key) q) _
@@ -128,7 +128,7 @@ module _ (c : Change) where
         (λ h. keeps q h ∙ step q ∙ (λ i. is_some (sym (items q h) i) || sym (changes q h) i))
 
     -- one change more is prepared
-    pub more_in_step : (cs : List Change) → rows_of new ≡ rows_of old → AreInStep old cs → has_slot new c.key ≡ true → AreInStep new (cs ++ c ∷ [])
+    pub more_in_step : (cs : List RowChange) → rows_of new ≡ rows_of old → AreInStep old cs → has_slot new c.key ≡ true → AreInStep new (cs ++ c ∷ [])
     more_in_step cs rows step has =
         others_in_step cs (cs ++ c ∷ []) (λ q h. ap (λ (r : Rows). item_at r q) rows) (other_pending cs) step
         (has ∙ sym (ap (λ b. is_some (item_at (rows_of new) c.key) || b) (own_pending cs) ∙ either (is_some (item_at (rows_of new) c.key))))
@@ -138,12 +138,12 @@ module _ (c : Change) where
         either false = refl
 
     -- no change more is
-    pub same_in_step : (cs : List Change) → rows_of new ≡ rows_of old → AreInStep old cs → has_slot new c.key ≡ has_slot old c.key → AreInStep new cs
+    pub same_in_step : (cs : List RowChange) → rows_of new ≡ rows_of old → AreInStep old cs → has_slot new c.key ≡ has_slot old c.key → AreInStep new cs
     same_in_step cs rows step has =
         others_in_step cs cs (λ q h. ap (λ (r : Rows). item_at r q) rows) (λ q h. refl) step
         (has ∙ step c.key ∙ ap (λ (r : Rows). is_some (item_at r c.key) || is_pending cs c.key) (sym rows))
 
-    module _ (cs : List Change) (apart : is_pending cs c.key ≡ false) (step : AreInStep old (cs ++ c ∷ [])) where
+    module _ (cs : List RowChange) (apart : is_pending cs c.key ≡ false) (step : AreInStep old (cs ++ c ∷ [])) where
       fewer : (q : RowKey) → is_at (row_order c.key) q ≡ false → is_pending cs q ≡ is_pending (cs ++ c ∷ []) q
       fewer q h = sym (other_pending cs q h)
 

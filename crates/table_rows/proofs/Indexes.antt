@@ -15,7 +15,7 @@ use Rattle.row_keys.specs.declared.row_key.RowKey.{RowKey}
 use Rattle.row_keys.specs.Keys.{row_order, position_order}
 use Rattle.row_keys.specs.KeyLaws.{row_total, position_total}
 use Rattle.row_keys.specs.Rows.{Rows, item_at}
-use Rattle.table_rows.specs.declared.change.Change.{Change}
+use Rattle.table_rows.specs.declared.change.RowChange.{RowChange}
 use Rattle.table_rows.specs.declared.moves.Move.{Move}
 use Rattle.table_rows.specs.View.{is_pending, committed}
 use Rattle.table_rows.specs.Moves.{is_place, comes, goes, spot_of, move_in}
@@ -39,18 +39,18 @@ module _ (schema : Schema) (keys : KeyNames) (rows : Rows) (q : Position) (side 
   moved_by None = false
   moved_by (Some new) = is_place (side (move_in schema keys q.item (item_at rows q.item) new)) q
 
-  other_key : (c : Change) → is_at (row_order q.item) c.key ≡ false → is_place (side (move_in schema keys c.key (item_at rows c.key) c.new)) q ≡ false
+  other_key : (c : RowChange) → is_at (row_order q.item) c.key ≡ false → is_place (side (move_in schema keys c.key (item_at rows c.key) c.new)) q ≡ false
   other_key c h = false_from _ (λ y. clash (is_at (row_order q.item) c.key)
       (ap (λ (k : RowKey). is_at (row_order q.item) k) (keyed c.key (item_at rows c.key) c.new y) ∙ at_self row_total row_exact q.item) h)
 
-  none_moves : (cs : List Change) → is_pending cs q.item ≡ false → list_any (λ m. is_place (side m) q) (moves_by schema keys rows cs) ≡ false
+  none_moves : (cs : List RowChange) → is_pending cs q.item ≡ false → list_any (λ m. is_place (side m) q) (moves_by schema keys rows cs) ≡ false
   none_moves [] h = refl
   none_moves (c ∷ cs) h =
       let parts = or_none (is_at (row_order q.item) c.key) (is_pending cs q.item) h in
       or_both (is_place (side (move_in schema keys c.key (item_at rows c.key) c.new)) q) (list_any (λ m. is_place (side m) q) (moves_by schema keys rows cs))
       (other_key c parts.0) (none_moves cs parts.1)
 
-  all_moves : (cs : List Change) → AreDistinct cs → list_any (λ m. is_place (side m) q) (moves_by schema keys rows cs) ≡ moved_by (new_at cs q.item)
+  all_moves : (cs : List RowChange) → AreDistinct cs → list_any (λ m. is_place (side m) q) (moves_by schema keys rows cs) ≡ moved_by (new_at cs q.item)
   all_moves [] d = refl
   all_moves (c ∷ cs) d = by_bool (is_at (row_order q.item) c.key) _
       (λ h. let key : c.key ≡ q.item = sym (at_is row_total row_exact q.item c.key h) in
@@ -80,14 +80,14 @@ module _ (schema : Schema) (keys : KeyNames) (rows : Rows) (q : Position) where
   went None = false
   went (Some new) = told schema keys rows q && not (is_place (spot_of schema keys q.item new) q)
 
-  comes_are : (cs : List Change) → AreDistinct cs → comes (moves_by schema keys rows cs) q ≡ came (new_at cs q.item)
+  comes_are : (cs : List RowChange) → AreDistinct cs → comes (moves_by schema keys rows cs) q ≡ came (new_at cs q.item)
   comes_are cs d = all_moves schema keys rows q come_of (come_key schema keys q) cs d ∙ go (new_at cs q.item)
     where
       go : (new : Option (Option Attributes)) → moved_by schema keys rows q come_of (come_key schema keys q) new ≡ came new
       go None = refl
       go (Some new) = come_is (spot_of schema keys q.item (item_at rows q.item)) (spot_of schema keys q.item new) q
 
-  goes_are : (cs : List Change) → AreDistinct cs → goes (moves_by schema keys rows cs) q ≡ went (new_at cs q.item)
+  goes_are : (cs : List RowChange) → AreDistinct cs → goes (moves_by schema keys rows cs) q ≡ went (new_at cs q.item)
   goes_are cs d = all_moves schema keys rows q gone_of (gone_key schema keys q) cs d ∙ go (new_at cs q.item)
     where
       go : (new : Option (Option Attributes)) → moved_by schema keys rows q gone_of (gone_key schema keys q) new ≡ went new
@@ -120,7 +120,7 @@ module _ (schema : Schema) (keys : KeyNames) (rows : Rows) (q : Position) where
 
 -- ---- steps of an index
 
-module _ (schema : Schema) (rows : Rows) (cs : List Change) (x y : IndexView) (is : IsIndex schema rows cs x) where
+module _ (schema : Schema) (rows : Rows) (cs : List RowChange) (x y : IndexView) (is : IsIndex schema rows cs x) where
   -- all that is prepared was made
   pub settled : IsStrictlySortedBy row_order (keys_of rows) → AreDistinct cs → IsSettled x y → IsIndex schema (committed rows cs) [] y
   settled up d s = record {
@@ -146,7 +146,7 @@ module _ (schema : Schema) (rows : Rows) (cs : List Change) (x y : IndexView) (i
         ∙ sym (λ i. told schema (s.keys i) rows q || comes (s.moves i) q);
   }
 
-  module _ (c : Change) (apart : is_pending cs c.key ≡ false) where
+  module _ (c : RowChange) (apart : is_pending cs c.key ≡ false) where
     -- where a change's place comes, its key is the place's
     at_key : (q : Position) → is_place (step_in schema rows c x).come q ≡ true → c.key ≡ q.item
     at_key q h = come_key schema x.keys q c.key (item_at rows c.key) c.new h
@@ -173,7 +173,7 @@ module _ (schema : Schema) (rows : Rows) (cs : List Change) (x y : IndexView) (i
     turned false true false = refl
     turned false false false = refl
 
-    moves_more : (ds : List Change) → moves_by schema x.keys rows (ds ++ c ∷ []) ≡ moves_by schema x.keys rows ds ++ step_in schema rows c x ∷ []
+    moves_more : (ds : List RowChange) → moves_by schema x.keys rows (ds ++ c ∷ []) ≡ moves_by schema x.keys rows ds ++ step_in schema rows c x ∷ []
     moves_more [] = refl
     moves_more (d ∷ ds) = ap (λ ms. move_in schema x.keys d.key (item_at rows d.key) d.new ∷ ms) (moves_more ds)
 

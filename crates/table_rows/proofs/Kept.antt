@@ -19,7 +19,7 @@ use Rattle.item_keys.specs.ItemKey.{part_of, sort_in, both, key_from, key_in}
 use Rattle.row_keys.specs.declared.position.Position.{Position}
 use Rattle.row_keys.specs.Keys.{row_order}
 use Rattle.row_keys.specs.Rows.{Rows, item_at, position_if, index_keys}
-use Rattle.table_rows.specs.declared.change.Change.{Change}
+use Rattle.table_rows.specs.declared.change.RowChange.{RowChange}
 use Rattle.table_rows.specs.View.{is_pending, committed}
 use Rattle.table_rows.specs.Slots.{SlotList, rows_of, has_slot, KeepsOtherSlots}
 use Rattle.table_rows.specs.Places.{IndexView, index_over}
@@ -77,7 +77,7 @@ no_keys : IsStrictlySortedBy row_order []
 unfolding IsStrictlySortedBy
 no_keys = tt
 
-pub kept_new : (schema : Schema) (slots : SlotList) (pending : List Change) (indexes : List IndexView)
+pub kept_new : (schema : Schema) (slots : SlotList) (pending : List RowChange) (indexes : List IndexView)
     → slots ≡ [] → pending ≡ [] → indexes ≡ map (index_over schema (rows_of slots)) (index_keys schema) → IsKept schema slots pending indexes
 kept_new schema slots pending indexes no_slots none made =
     subst (λ p. IsKept schema slots p indexes) (sym none)
@@ -86,15 +86,15 @@ kept_new schema slots pending indexes no_slots none made =
 
 -- ---- steps
 
-module _ (schema : Schema) (slots new_slots : SlotList) (pending new_pending : List Change) (xs ys : List IndexView) (kept : IsKept schema slots pending xs) where
+module _ (schema : Schema) (slots new_slots : SlotList) (pending new_pending : List RowChange) (xs ys : List IndexView) (kept : IsKept schema slots pending xs) where
   -- the places that come by a change of another key are not there
-  pub all_fresh : (c : Change) → is_pending pending c.key ≡ false
+  pub all_fresh : (c : RowChange) → is_pending pending c.key ≡ false
       → AllByRecursion (λ index. IsFresh (step_in schema (rows_of slots) c index) index) xs
   all_fresh c apart =
       all_to (IsIndex schema (rows_of slots) pending) (λ index. IsFresh (step_in schema (rows_of slots) c index) index)
       (λ x is. fresh schema (rows_of slots) pending x x is c apart) xs kept.in_step
 
-  pub kept_prepared : (c : Change) → is_pending pending c.key ≡ false → rows_of new_slots ≡ rows_of slots → KeepsOtherSlots c.key slots new_slots
+  pub kept_prepared : (c : RowChange) → is_pending pending c.key ≡ false → rows_of new_slots ≡ rows_of slots → KeepsOtherSlots c.key slots new_slots
       → has_slot new_slots c.key ≡ true → new_pending ≡ pending ++ c ∷ []
       → AllZip (λ x y. IsHeld (step_in schema (rows_of slots) c x) x y) xs ys → IsKept schema new_slots new_pending ys
   kept_prepared c apart rows keeps has more zip =
@@ -110,7 +110,7 @@ module _ (schema : Schema) (slots new_slots : SlotList) (pending new_pending : L
       } in
       subst (λ p. IsKept schema new_slots p ys) (sym more) whole
 
-  pub kept_refused : (c : Change) → rows_of new_slots ≡ rows_of slots → KeepsOtherSlots c.key slots new_slots
+  pub kept_refused : (c : RowChange) → rows_of new_slots ≡ rows_of slots → KeepsOtherSlots c.key slots new_slots
       → has_slot new_slots c.key ≡ has_slot slots c.key → new_pending ≡ pending → ys ≡ xs → IsKept schema new_slots new_pending ys
   kept_refused c rows keeps has same back =
       let whole : IsKept schema new_slots pending xs = record {

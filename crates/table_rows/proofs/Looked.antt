@@ -15,7 +15,7 @@ use Rattle.row_keys.specs.declared.row_key.RowKey.{RowKey}
 use Rattle.row_keys.specs.Keys.{row_order, position_order}
 use Rattle.row_keys.specs.KeyLaws.{row_total, position_total}
 use Rattle.row_keys.specs.Rows.{Rows, Entries, item_at, index_of, index_keys}
-use Rattle.table_rows.specs.declared.change.Change.{Change}
+use Rattle.table_rows.specs.declared.change.RowChange.{RowChange}
 use Rattle.table_rows.specs.Found.{entry_if, found_for}
 use Rattle.table_rows.specs.Places.{PlaceList, IndexView, places_of}
 use Rattle.table_rows.specs.Slots.{SlotList, row_if, rows_of, AllFilled}
@@ -81,7 +81,7 @@ there_places : (rows : Rows) (es : Entries) → AllByRecursion (λ e. item_at ro
 there_places rows [] all = tt
 there_places rows (e ∷ es) all = (ap is_some all.0, there_places rows es all.1)
 
-module _ (schema : Schema) (slots : SlotList) (pending : List Change) (xs : List IndexView) (kept : IsKept schema slots pending xs) (none : pending ≡ [])
+module _ (schema : Schema) (slots : SlotList) (pending : List RowChange) (xs : List IndexView) (kept : IsKept schema slots pending xs) (none : pending ≡ [])
     (n : ℕ) (x : IndexView) (found : slice_get xs n ≡ Some x) (up : IsStrictlySortedBy position_order (keys_of x.places)) (low high : Bound Position) where
   between : entries_between position_order low high x.places ≡ places_of (entries_between position_order low high (index_of schema x.keys (rows_of slots)))
   between =

@@ -16,7 +16,7 @@ use Rattle.row_keys.specs.Rows.{Rows, with_item}
 use Rattle.row_keys.specs.Expiry.{is_below, is_expired}
 use Rattle.row_keys.proofs.Seconds.{greater_not_below, not_lesser_not_below}
 use Rattle.table_rows.specs.View.{TableView, committed}
-use Rattle.table_rows.specs.declared.change.Change.{Change}
+use Rattle.table_rows.specs.declared.change.RowChange.{RowChange}
 use Rattle.table_rows.specs.declared.quiet.Quiet.{Quiet}
 use Rattle.table_rows.specs.Slots.{SlotList, row_if, rows_of}
 use Rattle.table_rows.specs.Quiet.{is_up_to, is_within, expired_rows, is_expired_slot, Narrows, NarrowsTo, IsQuietFor, IsWatched, AreQuiet, IsQuiet}
@@ -57,15 +57,15 @@ module _ (quiet : Quiet) (schema : Schema) where
   with_quiet rows key (Some item) p all = inserted_all (λ item. IsQuietFor quiet schema (Some item)) row_order rows key item p all
 
   -- what is prepared is made
-  pub committed_quiet : (rows : Rows) (changes : List Change) → AreQuiet quiet schema rows
-      → AllByRecursion (λ (c : Change). IsQuietFor quiet schema c.new) changes → AreQuiet quiet schema (committed rows changes)
+  pub committed_quiet : (rows : Rows) (changes : List RowChange) → AreQuiet quiet schema rows
+      → AllByRecursion (λ (c : RowChange). IsQuietFor quiet schema c.new) changes → AreQuiet quiet schema (committed rows changes)
   committed_quiet rows [] all more = all
   committed_quiet rows (change ∷ changes) all more =
       with_quiet (committed rows changes) change.key change.new more.0 (committed_quiet rows changes all more.1)
 
   -- one more change is prepared
-  pub also_quiet : (changes : List Change) (change : Change) → AllByRecursion (λ (c : Change). IsQuietFor quiet schema c.new) changes
-      → IsQuietFor quiet schema change.new → AllByRecursion (λ (c : Change). IsQuietFor quiet schema c.new) (changes ++ change ∷ [])
+  pub also_quiet : (changes : List RowChange) (change : RowChange) → AllByRecursion (λ (c : RowChange). IsQuietFor quiet schema c.new) changes
+      → IsQuietFor quiet schema change.new → AllByRecursion (λ (c : RowChange). IsQuietFor quiet schema c.new) (changes ++ change ∷ [])
   also_quiet [] change all p = (p, tt)
   also_quiet (other ∷ changes) change all p = (all.0, also_quiet changes change all.1 p)
 
@@ -82,8 +82,8 @@ module _ (old new : Quiet) (schema : Schema) (narrower : Narrows old new) where
   still_rows [] all = tt
   still_rows (row ∷ rows) all = (still_for (Some row.1) all.0, still_rows rows all.1)
 
-  pub still_changes : (changes : List Change) → AllByRecursion (λ (c : Change). IsQuietFor old schema c.new) changes
-      → AllByRecursion (λ (c : Change). IsQuietFor new schema c.new) changes
+  pub still_changes : (changes : List RowChange) → AllByRecursion (λ (c : RowChange). IsQuietFor old schema c.new) changes
+      → AllByRecursion (λ (c : RowChange). IsQuietFor new schema c.new) changes
   still_changes [] all = tt
   still_changes (change ∷ changes) all = (still_for change.new all.0, still_changes changes all.1)
 
@@ -119,7 +119,7 @@ known_same : (a b : Quiet) → Some a ≡ Some b → a ≡ b
 known_same a b e = cc
 
 -- of the seconds that were known, those that are left where one more change is prepared
-pub watched_quiet : (known : Option Quiet) (quiet : Quiet) (view : TableView) (change : Change) → ((q : Quiet) → known ≡ Some q → IsQuiet q view)
+pub watched_quiet : (known : Option Quiet) (quiet : Quiet) (view : TableView) (change : RowChange) → ((q : Quiet) → known ≡ Some q → IsQuiet q view)
     → IsWatched known view.schema change.new quiet → IsQuiet quiet (record view { pending = view.pending ++ change ∷ [] })
 watched_quiet known quiet view change was watched =
     let kept : IsQuiet quiet view = still_quiet watched.old quiet view watched.narrower (was watched.old watched.known_is) in

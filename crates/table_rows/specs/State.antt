@@ -9,7 +9,7 @@ use Rattle.row_keys.specs.declared.position.Position.{Position}
 use Rattle.row_keys.specs.declared.row_key.RowKey.{RowKey}
 use Rattle.row_keys.specs.Keys.{row_order, position_order}
 use Rattle.row_keys.specs.Rows.{Rows, item_at, index_keys}
-use Rattle.table_rows.specs.declared.change.Change.{Change}
+use Rattle.table_rows.specs.declared.change.RowChange.{RowChange}
 use Rattle.table_rows.specs.declared.moves.Move.{Move}
 use Rattle.table_rows.specs.View.{is_pending}
 use Rattle.table_rows.specs.Slots.{SlotList, rows_of, has_slot}
@@ -21,25 +21,25 @@ abbrev pub told : Schema → KeyNames → Rows → Position → Bool
 told schema keys rows place = is_place (spot_of schema keys place.item (item_at rows place.item)) place
 
 -- what each change moves in an index
-abbrev pub moves_by : Schema → KeyNames → Rows → List Change → List Move
+abbrev pub moves_by : Schema → KeyNames → Rows → List RowChange → List Move
 moves_by schema keys rows changes = map (λ change. move_in schema keys change.key (item_at rows change.key) change.new) changes
 
 -- the index has exactly the places that the rows tell of, and those that come by what is prepared
-pub record IsIndex (schema : Schema) (rows : Rows) (pending : List Change) (index : IndexView) : Type 0 where
+pub record IsIndex (schema : Schema) (rows : Rows) (pending : List RowChange) (index : IndexView) : Type 0 where
   pub moves : index.moves ≡ moves_by schema index.keys rows pending
   pub places : (place : Position) → has_place index.places place ≡ (told schema index.keys rows place || comes index.moves place)
 
 -- no two changes are of one key
-abbrev pub AreDistinct : List Change → Type 0
+abbrev pub AreDistinct : List RowChange → Type 0
 AreDistinct [] = ⊤
 AreDistinct (change ∷ changes) = (is_pending changes change.key ≡ false) × AreDistinct changes
 
 -- a key has a slot exactly where it has an item or a change of its item is prepared
-abbrev pub AreInStep : SlotList → List Change → Type 0
+abbrev pub AreInStep : SlotList → List RowChange → Type 0
 AreInStep slots changes = (key : RowKey) → has_slot slots key ≡ (is_some (item_at (rows_of slots) key) || is_pending changes key)
 
 -- what is kept belongs together
-pub record IsKept (schema : Schema) (slots : SlotList) (pending : List Change) (indexes : List IndexView) : Type 0 where
+pub record IsKept (schema : Schema) (slots : SlotList) (pending : List RowChange) (indexes : List IndexView) : Type 0 where
   pub ordered : IsStrictlySortedBy row_order (keys_of (rows_of slots))
   pub distinct : AreDistinct pending
   pub slots_in_step : AreInStep slots pending
@@ -76,5 +76,5 @@ pub record IsUndone (old new : IndexView) : Type 0 where
   pub places : (place : Position) → has_place new.places place ≡ (has_place old.places place && not (comes old.moves place))
 
 -- what a change moves in an index, by the rows
-abbrev pub step_in : Schema → Rows → Change → IndexView → Move
+abbrev pub step_in : Schema → Rows → RowChange → IndexView → Move
 step_in schema rows change index = move_in schema index.keys change.key (item_at rows change.key) change.new

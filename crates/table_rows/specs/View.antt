@@ -12,19 +12,19 @@ use Rattle.row_keys.specs.declared.position.Position.{Position}
 use Rattle.row_keys.specs.declared.row_key.RowKey.{RowKey}
 use Rattle.row_keys.specs.Keys.{position_order, row_order}
 use Rattle.row_keys.specs.Rows.{Entries, Rows, index_of, with_item}
-use Rattle.table_rows.specs.declared.change.Change.{Change}
+use Rattle.table_rows.specs.declared.change.RowChange.{RowChange}
 
 pub record TableView : Type 0 where
   pub schema : Schema
   pub rows : Rows
-  pub pending : List Change
+  pub pending : List RowChange
 
 -- a change of the item at this key is prepared
-abbrev pub is_pending : List Change → RowKey → Bool
+abbrev pub is_pending : List RowChange → RowKey → Bool
 is_pending changes key = list_any (λ change. is_at (row_order key) change.key) changes
 
 -- the rows with these changes made, which are at keys that differ
-abbrev pub committed : Rows → List Change → Rows
+abbrev pub committed : Rows → List RowChange → Rows
 committed rows [] = rows
 committed rows (change ∷ changes) = with_item (committed rows changes) change.key change.new
 

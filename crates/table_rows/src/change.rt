@@ -8,13 +8,13 @@ use row_keys::RowKey;
 
 /// What the item at a key is to be: this one, or none.
 #[derive(Drop)]
-pub struct Change {
+pub struct RowChange {
     pub key: RowKey,
     pub new: Option<SharedItem>,
 }
 
 /// Whether one of the changes is of the item at this key.
-pub(crate) fn is_pending(changes: &[Change], key: &RowKey) -> bool
+pub(crate) fn is_pending(changes: &[RowChange], key: &RowKey) -> bool
     ensures { result ≡ is_pending changes.now key.now }
 {
     for change in changes {

@@ -12,7 +12,7 @@ ghost use Rattle.table_rows.specs.Places.{has_place, index_over};
 ghost use Rattle.table_rows.specs.Slots.{rows_of};
 ghost use Rattle.table_rows.specs.State.{empty_index, IsHeld, IsFresh, IsSettled, IsUndone};
 
-use crate::change::Change;
+use crate::change::RowChange;
 use crate::moves::Move;
 use crate::slots::Slots;
 use attr_value::{Item, lent};
@@ -180,7 +180,7 @@ impl Index {
         &mut self,
         alloc: Global,
         schema: &Schema,
-        change: &Change,
+        change: &RowChange,
         old: Option<&Item>,
     ) -> Result<(), NoMemory>
         ensures ok { OnOk result

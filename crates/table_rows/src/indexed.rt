@@ -13,7 +13,7 @@ ghost use Rattle.table_rows.specs.View.{is_pending, committed, index_between};
 ghost use Rattle.table_rows.specs.Places.{index_over};
 ghost use Rattle.table_rows.specs.Quiet.{expired_rows, is_expired_slot, AreQuiet};
 
-use crate::change::{Change, is_pending};
+use crate::change::{RowChange, is_pending};
 use crate::index::Index;
 use crate::index_range::IndexRange;
 use crate::prepare::{make_all, prepare_in, release_all, settle_all, undo_all};
@@ -104,7 +104,7 @@ fn have_same_indexes(old: &Schema, new: &Schema) -> bool
 pub(crate) struct IndexedRows {
     schema: Schema,
     slots: Slots,
-    pending: Seq<Change>,
+    pending: Seq<RowChange>,
     /// Those that are local first, each in the order of the schema.
     indexes: Seq<Index>,
 }
@@ -272,7 +272,7 @@ impl IndexedRows {
         ensures ok { OnOk result (self.new ≡ record self.old { pending = self.old.pending ++ record { key = key; new = new } ∷ [] }) }
         ensures err { OnErr result (self.new ≡ self.old) }
     {
-        let change = Change { key, new };
+        let change = RowChange { key, new };
         prepare_in(
             alloc,
             &self.schema,

@@ -28,7 +28,7 @@ mod row_range;
 mod slots;
 mod table;
 
-pub use change::Change;
+pub use change::RowChange;
 pub use index_range::IndexRange;
 pub use row_range::RowRange;
 pub use table::TableRows;

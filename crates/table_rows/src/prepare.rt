@@ -10,7 +10,7 @@ ghost use Rattle.table_rows.specs.View.{committed};
 ghost use Rattle.table_rows.specs.Slots.{rows_of, has_slot, IsFilled, KeepsOtherSlots};
 ghost use Rattle.table_rows.specs.State.{AreDistinct, AreInStep, IsFresh, IsHeld, IsSettled, IsUndone, step_in};
 
-use crate::change::Change;
+use crate::change::RowChange;
 use crate::index::Index;
 use crate::slots::Slots;
 use attr_value::lent;
@@ -19,7 +19,7 @@ use std::alloc::{AllocError as NoMemory, Global};
 use table_schema::Schema;
 
 /// Makes the slot of a change and holds the change. Where memory is refused it is not held, and no slot is left.
-fn hold(slots: &mut Slots, pending: &mut Seq<Change>, change: Change) -> Result<(), NoMemory>
+fn hold(slots: &mut Slots, pending: &mut Seq<RowChange>, change: RowChange) -> Result<(), NoMemory>
     requires { IsFilled slots.old change.key }
     ensures rows { rows_of slots.new ≡ rows_of slots.old }
     ensures others { KeepsOtherSlots change.key slots.old slots.new }
@@ -46,8 +46,8 @@ pub(crate) fn prepare_in(
     schema: &Schema,
     indexes: &mut [Index],
     slots: &mut Slots,
-    pending: &mut Seq<Change>,
-    change: Change,
+    pending: &mut Seq<RowChange>,
+    change: RowChange,
 ) -> Result<(), NoMemory>
     requires filled { IsFilled slots.old change.key }
     requires fresh { AllByRecursion (λ index. IsFresh (step_in schema.now (rows_of slots.old) change index) index) indexes.old }
@@ -97,13 +97,13 @@ pub(crate) fn undo_all(indexes: &mut [Index])
 }
 
 /// Makes a change of an item that has a slot.
-fn make(slots: &mut Slots, change: Change)
+fn make(slots: &mut Slots, change: RowChange)
     requires { has_slot slots.old change.key ≡ true }
     ensures rows { rows_of slots.new ≡ with_item (rows_of slots.old) change.key change.new }
     ensures slot { has_slot slots.new change.key ≡ is_some change.new }
     ensures others { KeepsOtherSlots change.key slots.old slots.new }
 {
-    let Change { key, new } = change;
+    let RowChange { key, new } = change;
     match new {
         Some(item) => slots.write(key, item),
         None => {
@@ -114,7 +114,7 @@ fn make(slots: &mut Slots, change: Change)
 }
 
 /// Makes what is prepared.
-pub(crate) fn make_all(slots: &mut Slots, pending: &mut Seq<Change>)
+pub(crate) fn make_all(slots: &mut Slots, pending: &mut Seq<RowChange>)
     requires ordered { IsStrictlySortedBy row_order (keys_of (rows_of slots.old)) }
     requires distinct { AreDistinct pending.old }
     requires slots { AreInStep slots.old pending.old }
@@ -128,7 +128,7 @@ pub(crate) fn make_all(slots: &mut Slots, pending: &mut Seq<Change>)
 }
 
 /// Drops what is prepared, with the slots that have no item.
-pub(crate) fn release_all(slots: &mut Slots, pending: &mut Seq<Change>)
+pub(crate) fn release_all(slots: &mut Slots, pending: &mut Seq<RowChange>)
     requires distinct { AreDistinct pending.old }
     requires slots { AreInStep slots.old pending.old }
     ensures rows { rows_of slots.new ≡ rows_of slots.old }

@@ -17,7 +17,7 @@ use Rattle.attr_value.specs.contracts.value.Value as Value
 use Rattle.attr_value.specs.contracts.shared_item.SharedItem as SharedItem
 use Rattle.expr_words.specs.contracts.tree.Condition as Condition
 use Rattle.expr_parse.specs.contracts.tree.Update as Update
-use Rattle.table_request.specs.contracts.transactions.Change as Change
+use Rattle.table_request.specs.contracts.transactions.ActionChange as ActionChange
 use Rattle.table_request.specs.contracts.transactions.TransactAction as TransactAction
 use Rattle.table_model.specs.contracts.action.NumberedAction as NumberedAction
 use Rattle.table_rows.specs.contracts.table.TableRows as TableRows
@@ -55,10 +55,10 @@ update_send = search (text.the_send, maps.crosses, owners.crosses, terms.crosses
 pub update_sync : IsSync (Update.the_field).row
 update_sync = search (text.the_sync, maps.crosses, owners.crosses, terms.crosses, sendable) depth 60 fits 20000
 
-pub change_send : IsSend (Change.the_field).row
+pub change_send : IsSend (ActionChange.the_field).row
 change_send = search (item_send, update_send, owners.crosses, sendable) depth 60 fits 20000
 
-pub change_sync : IsSync (Change.the_field).row
+pub change_sync : IsSync (ActionChange.the_field).row
 change_sync = search (item_sync, update_sync, owners.crosses, sendable) depth 60 fits 20000
 
 pub action_send : IsSend (TransactAction.the_field).row

@@ -5,7 +5,7 @@ use Rattle.turnstile.specs.Passes.{PassView, most_units}
 use Rattle.table_request.specs.declared.request.Request.{Request}
 use Rattle.table_model.specs.declared.reply.Reply.{Reply}
 use Rattle.request_parts.specs.declared.refusal.Refusal.{Refusal}
-use Rattle.request_history.specs.declared.event.Outcome.TheVariants.{Applied, LeftOut}
+use Rattle.request_history.specs.declared.event.Handling.TheVariants.{Applied, LeftOut}
 use Rattle.request_history.specs.Events.{IsLegal, by_of, event_of, nothing_is_legal}
 use Rattle.request_history.specs.PassWays.{IsStep, at_moment}
 use Rattle.request_history.specs.Steps.{Adds, HaveOneFront}

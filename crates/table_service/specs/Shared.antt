@@ -12,7 +12,7 @@ use Rattle.plain_database.specs.Left.{IsLeftOut}
 use Rattle.request_parts.specs.declared.refusal.Refusal.{Refusal}
 use Rattle.request_history.specs.declared.event.Event.{Event}
 use Rattle.request_history.specs.Effects.{Effects}
-use Rattle.request_history.specs.declared.event.Outcome.TheVariants.{LeftOut}
+use Rattle.request_history.specs.declared.event.Handling.TheVariants.{LeftOut}
 use Rattle.request_history.specs.Events.{IsLegal, event_of}
 use Rattle.request_history.specs.Steps.{Adds, IsDone}
 use Rattle.table_service.specs.declared.tables.Tables.{Tables}

@@ -11,12 +11,12 @@ use Rattle.row_keys.specs.declared.row_key.RowKey.{RowKey}
 use Rattle.row_keys.specs.Rows.{item_at}
 use Rattle.table_rows.specs.View.{TableView}
 use Rattle.table_request.specs.declared.transactions.TransactAction.{TransactAction}
-use Rattle.table_request.specs.declared.transactions.Change.{Change}
-use Rattle.table_request.specs.declared.transactions.Change.TheVariants.{Put, Update, Delete, Check}
+use Rattle.table_request.specs.declared.transactions.ActionChange.{ActionChange}
+use Rattle.table_request.specs.declared.transactions.ActionChange.TheVariants.{Put, Update, Delete, Check}
 use Rattle.table_model.specs.declared.action.NumberedAction.{NumberedAction}
 use Rattle.table_model.specs.declared.refusal.Reason.{Reason}
 use Rattle.table_model.specs.declared.refusal.Reason.TheVariants as reason
-use Rattle.table_model.specs.Outcome.{Outcome, becomes, is_false, is_faulty, is_met, where_met}
+use Rattle.table_model.specs.Outcome.{ItemOutcome, becomes, is_false, is_faulty, is_met, where_met}
 use Rattle.table_model.specs.Database.{Database, Table, table_named}
 use Rattle.table_model.specs.Transactions.{Target, target_if, target_of, action_outcome, outcome_if, outcome_of, is_accepted, shown_old, reason_if, reason_of}
 use Rattle.numbered_tables.specs.declared.change.TableChange.{TableChange}
@@ -33,7 +33,7 @@ use Rattle.transact_writes.specs.Verdicts.{verdict_of, action_of, no_verdicts, w
 -- ---- verdicts of outcomes
 
 -- the verdict of a change that writes
-verdict_is : (aim : Aim) (condition : Option Condition) (values : List Value) (change : Change) (old : Option Attributes) (outcome : Outcome)
+verdict_is : (aim : Aim) (condition : Option Condition) (values : List Value) (change : ActionChange) (old : Option Attributes) (outcome : ItemOutcome)
     → ((new : Option Attributes) → change_at aim.table aim.key change new ≡ Some (record { table = aim.table; key = aim.key; new = new }))
     → verdict_of aim old outcome ≡ judged_by aim.key (action_of aim condition values change) old outcome
 verdict_is aim condition values change old (becomes new) writes = ap Ok (sym (writes new))
@@ -41,7 +41,7 @@ verdict_is aim condition values change old is_false writes = refl
 verdict_is aim condition values change old (is_faulty fault) writes = refl
 
 -- a verdict that was made of what was looked up
-pub put_is : (rows : TableView) (aim : Aim) (condition : Option Condition) (values : List Value) (item : Attributes) (outcome : Outcome)
+pub put_is : (rows : TableView) (aim : Aim) (condition : Option Condition) (values : List Value) (item : Attributes) (outcome : ItemOutcome)
     → (let action = action_of aim condition values (Put item) in
     outcome ≡ action_outcome rows.schema action (item_at rows.rows aim.key)
     → verdict_of aim (item_at rows.rows aim.key) outcome ≡ judged_in rows aim.key action)
@@ -50,7 +50,7 @@ put_is rows aim condition values item outcome is =
     verdict_is aim condition values (Put item) old outcome (λ new. refl)
     ∙ ap (judged_by aim.key (action_of aim condition values (Put item)) old) is
 
-pub update_is : (rows : TableView) (aim : Aim) (condition : Option Condition) (values : List Value) (key : Attributes) (update : UpdateTree) (outcome : Outcome)
+pub update_is : (rows : TableView) (aim : Aim) (condition : Option Condition) (values : List Value) (key : Attributes) (update : UpdateTree) (outcome : ItemOutcome)
     → (let action = action_of aim condition values (Update key update) in
     outcome ≡ action_outcome rows.schema action (item_at rows.rows aim.key)
     → verdict_of aim (item_at rows.rows aim.key) outcome ≡ judged_in rows aim.key action)
@@ -59,7 +59,7 @@ update_is rows aim condition values key update outcome is =
     verdict_is aim condition values (Update key update) old outcome (λ new. refl)
     ∙ ap (judged_by aim.key (action_of aim condition values (Update key update)) old) is
 
-pub delete_is : (rows : TableView) (aim : Aim) (condition : Option Condition) (values : List Value) (key : Attributes) (outcome : Outcome)
+pub delete_is : (rows : TableView) (aim : Aim) (condition : Option Condition) (values : List Value) (key : Attributes) (outcome : ItemOutcome)
     → (let action = action_of aim condition values (Delete key) in
     outcome ≡ action_outcome rows.schema action (item_at rows.rows aim.key)
     → verdict_of aim (item_at rows.rows aim.key) outcome ≡ judged_in rows aim.key action)
@@ -85,13 +85,13 @@ check_failed rows aim condition values key failed =
 
 -- ---- an action of a database is one of its table
 
-change_is : (name : List ℕ) (target : Target) (change : Change) (new : Option Attributes) → change_if name change (Some target) new ≡ change_at name target.key change new
+change_is : (name : List ℕ) (target : Target) (change : ActionChange) (new : Option Attributes) → change_if name change (Some target) new ≡ change_at name target.key change new
 change_is name target (Put item) new = refl
 change_is name target (Update key update) new = refl
 change_is name target (Delete key) new = refl
 change_is name target (Check key) new = refl
 
-judged_is : (db : Database) (action : TransactAction) (t : Table) (target : Target) (outcome : Outcome) → table_named db action.table ≡ Some t
+judged_is : (db : Database) (action : TransactAction) (t : Table) (target : Target) (outcome : ItemOutcome) → table_named db action.table ≡ Some t
     → target_of db action ≡ Some target
     → judged_by target.key action (item_at t.rows target.key) outcome ≡ judged_if db action outcome
 judged_is db action t target (becomes new) here aimed =
@@ -121,12 +121,12 @@ abbrev is_good : Result (Option TableChange) Reason → Bool
 is_good (Ok change) = true
 is_good (Err why) = false
 
-reason_by : (db : Database) (action : TransactAction) (outcome : Outcome) → reason_in (judged_if db action outcome) ≡ reason_if db action outcome
+reason_by : (db : Database) (action : TransactAction) (outcome : ItemOutcome) → reason_in (judged_if db action outcome) ≡ reason_if db action outcome
 reason_by db action (becomes new) = refl
 reason_by db action is_false = refl
 reason_by db action (is_faulty fault) = refl
 
-good_by : (db : Database) (action : TransactAction) (outcome : Outcome) → is_good (judged_if db action outcome) ≡ is_accepted outcome
+good_by : (db : Database) (action : TransactAction) (outcome : ItemOutcome) → is_good (judged_if db action outcome) ≡ is_accepted outcome
 good_by db action (becomes new) = refl
 good_by db action is_false = refl
 good_by db action (is_faulty fault) = refl

@@ -24,10 +24,10 @@ use Rattle.row_keys.specs.Rows.{Rows, item_at, with_item}
 use Rattle.table_rows.proofs.Exact.{row_exact}
 use Rattle.table_rows.proofs.Entries.{by_bool, at_is, flip, same_entries, sorted_in, lookup_in, sorted_out, lookup_out}
 use Rattle.table_request.specs.declared.transactions.TransactAction.{TransactAction}
-use Rattle.table_request.specs.declared.transactions.Change.{Change}
-use Rattle.table_request.specs.declared.transactions.Change.TheVariants.{Put, Update, Delete, Check}
+use Rattle.table_request.specs.declared.transactions.ActionChange.{ActionChange}
+use Rattle.table_request.specs.declared.transactions.ActionChange.TheVariants.{Put, Update, Delete, Check}
 use Rattle.update_eval.specs.declared.fault.EvalFault.{EvalFault}
-use Rattle.table_model.specs.Outcome.{Outcome, becomes, is_false, is_faulty, is_met, where_met}
+use Rattle.table_model.specs.Outcome.{ItemOutcome, becomes, is_false, is_faulty, is_met, where_met}
 use Rattle.table_model.specs.Database.{Database, Table, table_named, with_table, with_row}
 use Rattle.table_model.specs.Batches.{place_if}
 use Rattle.table_model.specs.Transactions.{Target, is_one, has_repeat, change_key, target_if, target_of, change_outcome, outcome_if, outcome_of, made_if, made_all}
@@ -264,7 +264,7 @@ some_kind (Some t) = refl
 
 module _ (db first : Database) (action : TransactAction) (alike : IsAlike db first) (item : item_of db action ≡ item_of first action)
     (order : IsInOrder db action) where
-  made_now : Outcome → Database
+  made_now : ItemOutcome → Database
   made_now outcome = made_if db action.table (table_named db action.table) (target_of db action) outcome
 
   writes : (new : Option Attributes) → made_if db action.table (table_named db action.table) (target_of db action) (becomes new)
@@ -273,7 +273,7 @@ module _ (db first : Database) (action : TransactAction) (alike : IsAlike db fir
       written_one db action.table (table_named db action.table) (target_of db action) new refl
       ∙ ap (λ target. changed_by db (write_of action.table target new)) (same_target db first action alike)
 
-  write_is : (change : Change) (target : Option Target) (new : Option Attributes) → ((key : Attributes) → change ≡ Check key → ⊥)
+  write_is : (change : ActionChange) (target : Option Target) (new : Option Attributes) → ((key : Attributes) → change ≡ Check key → ⊥)
       → write_of action.table target new ≡ change_if action.table change target new
   write_is (Put item) None new check = refl
   write_is (Put item) (Some target) new check = refl
@@ -283,12 +283,12 @@ module _ (db first : Database) (action : TransactAction) (alike : IsAlike db fir
   write_is (Delete key) (Some target) new check = refl
   write_is (Check key) target new check = absurd (check key refl)
 
-  by_write : (change : Change) (new : Option Attributes) → ((key : Attributes) → change ≡ Check key → ⊥)
+  by_write : (change : ActionChange) (new : Option Attributes) → ((key : Attributes) → change ≡ Check key → ⊥)
       → made_if db action.table (table_named db action.table) (target_of db action) (becomes new)
       ≡ changed_by db (change_if action.table change (target_of first action) new)
   by_write change new check = writes new ∙ ap (changed_by db) (write_is change (target_of first action) new check)
 
-  by_change : (change : Change) (new : Option Attributes) → action.change ≡ change → outcome_of first action ≡ becomes new
+  by_change : (change : ActionChange) (new : Option Attributes) → action.change ≡ change → outcome_of first action ≡ becomes new
       → made_if db action.table (table_named db action.table) (target_of db action) (becomes new)
       ≡ changed_by db (change_if action.table change (target_of first action) new)
   by_change (Put item) new is made = by_write (Put item) new (λ key e. cc)
@@ -301,7 +301,7 @@ module _ (db first : Database) (action : TransactAction) (alike : IsAlike db fir
       (ap (item_if (table_named db action.table)) (sym target) ∙ item)
       (sym (some_kind (table_named db action.table)) ∙ ap is_some (alike action.table) ∙ some_kind (table_named first action.table)) is made
 
-  by_outcome : (outcome : Outcome) → outcome_of first action ≡ outcome
+  by_outcome : (outcome : ItemOutcome) → outcome_of first action ≡ outcome
       → made_if db action.table (table_named db action.table) (target_of db action) outcome ≡ changed_by db (change_in (judged_if first action outcome))
   by_outcome (becomes new) is = by_change action.change new refl is
   by_outcome is_false is = not_false db action.table (table_named db action.table) (target_of db action)
@@ -319,7 +319,7 @@ IsOf name None target = ⊤
 IsOf name (Some change) None = ⊥
 IsOf name (Some change) (Some target) = (change.table ≡ name) × (change.key ≡ target.key)
 
-of_change : (name : List ℕ) (change : Change) (target : Option Target) (new : Option Attributes) → IsOf name (change_if name change target new) target
+of_change : (name : List ℕ) (change : ActionChange) (target : Option Target) (new : Option Attributes) → IsOf name (change_if name change target new) target
 of_change name (Put item) None new = tt
 of_change name (Put item) (Some target) new = (refl, refl)
 of_change name (Update key update) None new = tt
@@ -328,7 +328,7 @@ of_change name (Delete key) None new = tt
 of_change name (Delete key) (Some target) new = (refl, refl)
 of_change name (Check key) target new = tt
 
-of_outcome : (db : Database) (action : TransactAction) (outcome : Outcome) → IsOf action.table (change_in (judged_if db action outcome)) (target_of db action)
+of_outcome : (db : Database) (action : TransactAction) (outcome : ItemOutcome) → IsOf action.table (change_in (judged_if db action outcome)) (target_of db action)
 of_outcome db action (becomes new) = of_change action.table action.change (target_of db action) new
 of_outcome db action is_false = tt
 of_outcome db action (is_faulty fault) = tt

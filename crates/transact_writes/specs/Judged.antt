@@ -8,22 +8,22 @@ use Rattle.row_keys.specs.Keys.{row_order}
 use Rattle.row_keys.specs.Rows.{item_at}
 use Rattle.table_rows.specs.View.{TableView}
 use Rattle.table_request.specs.declared.transactions.TransactAction.{TransactAction}
-use Rattle.table_request.specs.declared.transactions.Change.{Change}
-use Rattle.table_request.specs.declared.transactions.Change.TheVariants.{Check}
+use Rattle.table_request.specs.declared.transactions.ActionChange.{ActionChange}
+use Rattle.table_request.specs.declared.transactions.ActionChange.TheVariants.{Check}
 use Rattle.table_model.specs.declared.refusal.Reason.{Reason}
 use Rattle.table_model.specs.declared.refusal.Reason.TheVariants as reason
-use Rattle.table_model.specs.Outcome.{Outcome, becomes, is_false, is_faulty}
+use Rattle.table_model.specs.Outcome.{ItemOutcome, becomes, is_false, is_faulty}
 use Rattle.table_model.specs.Database.{Database, Table, table_named}
 use Rattle.table_model.specs.Transactions.{Target, target_of, action_outcome, outcome_of, reason_if}
 use Rattle.numbered_tables.specs.declared.change.TableChange.{TableChange}
 
 -- the change that an action makes where it is accepted; a check makes none
-abbrev pub change_if : List ℕ → Change → Option Target → Option Attributes → Option TableChange
+abbrev pub change_if : List ℕ → ActionChange → Option Target → Option Attributes → Option TableChange
 change_if name (Check key) target new = None
 change_if name change None new = None
 change_if name change (Some target) new = Some (record { table = name; key = target.key; new = new })
 
-abbrev pub judged_if : Database → TransactAction → Outcome → Result (Option TableChange) Reason
+abbrev pub judged_if : Database → TransactAction → ItemOutcome → Result (Option TableChange) Reason
 judged_if db action (becomes new) = Ok (change_if action.table action.change (target_of db action) new)
 judged_if db action is_false = Err (reason_if db action is_false)
 judged_if db action (is_faulty fault) = Err (reason_if db action (is_faulty fault))
@@ -42,11 +42,11 @@ changes_of db actions = filter_map (λ action. change_in (judged db action)) act
 
 -- ---- the same of an action on an item of one table
 
-abbrev pub change_at : List ℕ → RowKey → Change → Option Attributes → Option TableChange
+abbrev pub change_at : List ℕ → RowKey → ActionChange → Option Attributes → Option TableChange
 change_at name key (Check stated) new = None
 change_at name key change new = Some (record { table = name; key = key; new = new })
 
-abbrev pub judged_by : RowKey → TransactAction → Option Attributes → Outcome → Result (Option TableChange) Reason
+abbrev pub judged_by : RowKey → TransactAction → Option Attributes → ItemOutcome → Result (Option TableChange) Reason
 judged_by key action old (becomes new) = Ok (change_at action.table key action.change new)
 judged_by key action old is_false = Err (reason.ConditionFalse (if action.show_old then old else None))
 judged_by key action old (is_faulty fault) = Err (reason.Invalid fault)

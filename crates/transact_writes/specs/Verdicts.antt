@@ -6,10 +6,10 @@ use Rattle.attr_value.specs.Tree.{Attributes}
 use Rattle.attr_value.specs.declared.value.Value.{Value}
 use Rattle.expr_words.specs.declared.tree.Condition.{Condition}
 use Rattle.table_request.specs.declared.transactions.TransactAction.{TransactAction}
-use Rattle.table_request.specs.declared.transactions.Change.{Change}
+use Rattle.table_request.specs.declared.transactions.ActionChange.{ActionChange}
 use Rattle.table_model.specs.declared.refusal.Reason.{Reason}
 use Rattle.table_model.specs.declared.refusal.Reason.TheVariants as reason
-use Rattle.table_model.specs.Outcome.{Outcome, becomes, is_false, is_faulty}
+use Rattle.table_model.specs.Outcome.{ItemOutcome, becomes, is_false, is_faulty}
 use Rattle.table_model.specs.Database.{Database}
 use Rattle.table_model.specs.Transactions.{outcome_of, is_accepted, reason_of}
 use Rattle.table_model.specs.Writes.{shown_if}
@@ -19,13 +19,13 @@ use Rattle.transact_writes.specs.declared.verdicts.Verdicts.{Verdicts}
 use Rattle.transact_writes.specs.Judged.{changes_of}
 
 -- the verdict of an outcome that was taken of an item
-abbrev pub verdict_of : Aim → Option Attributes → Outcome → Result (Option TableChange) Reason
+abbrev pub verdict_of : Aim → Option Attributes → ItemOutcome → Result (Option TableChange) Reason
 verdict_of aim old (becomes new) = Ok (Some (record { table = aim.table; key = aim.key; new = new }))
 verdict_of aim old is_false = Err (reason.ConditionFalse (shown_if aim.show_old old))
 verdict_of aim old (is_faulty fault) = Err (reason.Invalid fault)
 
 -- the action of these parts
-abbrev pub action_of : Aim → Option Condition → List Value → Change → TransactAction
+abbrev pub action_of : Aim → Option Condition → List Value → ActionChange → TransactAction
 action_of aim condition values change =
     record { table = aim.table; change = change; condition = condition; values = values; show_old = aim.show_old }
 

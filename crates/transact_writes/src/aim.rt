@@ -20,7 +20,7 @@ use std::alloc::{AllocError as NoMemory, Global};
 use std::collections::BTreeMap;
 use table_items::{key_of_item, key_of_key, touched_key};
 use table_model::{Invalid, NumberedAction, Refusal};
-use table_request::{Change, TransactAction};
+use table_request::{ActionChange, TransactAction};
 use table_schema::Schema;
 use transact_reads::has_repeat;
 
@@ -50,15 +50,15 @@ fn missing_table(
 fn row_key(
     alloc: Global,
     schema: &Schema,
-    change: &Change,
+    change: &ActionChange,
 ) -> Result<Result<RowKey, KeyFault>, NoMemory>
     ensures { IfOk result (λ key. key ≡ row_key_if (change_key schema.now change.now)) }
 {
     match change {
-        Change::Put(item) => key_of_item(alloc, schema, item),
-        Change::Update { key, .. } => key_of_key(alloc, schema, key),
-        Change::Delete(key) => key_of_key(alloc, schema, key),
-        Change::Check(key) => key_of_key(alloc, schema, key),
+        ActionChange::Put(item) => key_of_item(alloc, schema, item),
+        ActionChange::Update { key, .. } => key_of_key(alloc, schema, key),
+        ActionChange::Delete(key) => key_of_key(alloc, schema, key),
+        ActionChange::Check(key) => key_of_key(alloc, schema, key),
     }
 }
 
@@ -140,10 +140,10 @@ fn updated_key<'a>(
         return None;
     };
     match &action.change {
-        Change::Update { update, .. } => touched_key(&table.rows.schema().keys, Some(update)),
-        Change::Put(_) => None,
-        Change::Delete(_) => None,
-        Change::Check(_) => None,
+        ActionChange::Update { update, .. } => touched_key(&table.rows.schema().keys, Some(update)),
+        ActionChange::Put(_) => None,
+        ActionChange::Delete(_) => None,
+        ActionChange::Check(_) => None,
     }
 }
 

@@ -3,7 +3,7 @@
 ghost use Rattle.std.specs.Prelude.{◌≡◌, IfOk};
 ghost use Rattle.std.specs.Option.{option_copied};
 ghost use Rattle.table_items.specs.Outcomes.{outcome_of};
-ghost use Rattle.table_request.specs.declared.transactions.Change.TheVariants as kind;
+ghost use Rattle.table_request.specs.declared.transactions.ActionChange.TheVariants as kind;
 ghost use Rattle.attr_value.specs.Tree.{Attributes};
 ghost use Rattle.transact_writes.specs.Judged.{judged, judged_in, IsAt};
 ghost use Rattle.transact_writes.specs.Aimed.{database_of, action_in, IsTarget};
@@ -19,9 +19,9 @@ use numbered_tables::{NumberedTable, TableChange};
 use row_keys::RowKey;
 use std::alloc::{AllocError as NoMemory, Global};
 use std::collections::BTreeMap;
-use table_items::{Outcome, delete_outcome, is_met, put_outcome, shown_old, update_outcome};
+use table_items::{ItemOutcome, delete_outcome, is_met, put_outcome, shown_old, update_outcome};
 use table_model::{NumberedAction, Reason};
-use table_request::{Change, TransactAction};
+use table_request::{ActionChange, TransactAction};
 use table_rows::TableRows;
 
 /// The item that an action is of, and whether it is shown where the condition is false.
@@ -34,7 +34,7 @@ struct Aim {
 
 impl Aim {
     /// The verdict of an outcome that was taken of this item.
-    fn verdict(self, outcome: Outcome, old: Option<&SharedItem>) -> Result<Verdict, NoMemory>
+    fn verdict(self, outcome: ItemOutcome, old: Option<&SharedItem>) -> Result<Verdict, NoMemory>
         ensures { IfOk result (λ verdict. verdict ≡ verdict_of self (option_copied old.entry) (outcome_of outcome)) }
     {
         let Aim {
@@ -43,11 +43,11 @@ impl Aim {
             show_old,
         } = self;
         match outcome {
-            Outcome::Becomes(new) => Ok(Ok(Some(TableChange { table, key, new }))),
-            Outcome::False => Ok(Err(Reason::ConditionFalse {
+            ItemOutcome::Becomes(new) => Ok(Ok(Some(TableChange { table, key, new }))),
+            ItemOutcome::False => Ok(Err(Reason::ConditionFalse {
                 old: shown_old(show_old, old)?,
             })),
-            Outcome::Faulty(fault) => Ok(Err(Reason::Invalid(fault))),
+            ItemOutcome::Faulty(fault) => Ok(Err(Reason::Invalid(fault))),
         }
     }
 }
@@ -115,7 +115,7 @@ fn judge_check(
     if is_met(condition, values, lent(old)) {
         return Ok(Ok(None));
     }
-    aim.verdict(Outcome::False, old)
+    aim.verdict(ItemOutcome::False, old)
 }
 
 /// What is made of a change whose item moves.
@@ -125,22 +125,22 @@ fn judge_change(
     aim: Aim,
     condition: Option<&Condition>,
     values: &Seq<Value>,
-    change: Change,
+    change: ActionChange,
 ) -> Result<Verdict, NoMemory>
     ensures { IfOk result (λ verdict. verdict ≡ judged_in rows.now aim.key (action_of aim (option_copied condition.entry) values.now change)) }
 {
     match change {
-        Change::Put(item) => judge_put(rows, aim, condition, values, item),
-        Change::Update { key, update } => {
+        ActionChange::Put(item) => judge_put(rows, aim, condition, values, item),
+        ActionChange::Update { key, update } => {
             let verdict = judge_update(rows, alloc, aim, condition, values, key, &update);
             drop(update);
             verdict
         }
-        Change::Delete(key) => {
+        ActionChange::Delete(key) => {
             drop(key);
             judge_delete(rows, aim, condition, values)
         }
-        Change::Check(key) => {
+        ActionChange::Check(key) => {
             drop(key);
             judge_check(rows, aim, condition, values)
         }
@@ -154,18 +154,18 @@ fn judge_copy(
     aim: Aim,
     condition: Option<&Condition>,
     values: &Seq<Value>,
-    change: &Change,
+    change: &ActionChange,
 ) -> Result<Verdict, NoMemory>
     ensures { IfOk result (λ verdict. verdict ≡ judged_in rows.now aim.key (action_of aim (option_copied condition.entry) values.now change.now)) }
 {
     match change {
-        Change::Put(item) => judge_put(rows, aim, condition, values, item.try_clone()?),
-        Change::Update { key, update } => {
+        ActionChange::Put(item) => judge_put(rows, aim, condition, values, item.try_clone()?),
+        ActionChange::Update { key, update } => {
             let key = key.try_clone()?;
             judge_update(rows, alloc, aim, condition, values, key, update)
         }
-        Change::Delete(_) => judge_delete(rows, aim, condition, values),
-        Change::Check(_) => judge_check(rows, aim, condition, values),
+        ActionChange::Delete(_) => judge_delete(rows, aim, condition, values),
+        ActionChange::Check(_) => judge_check(rows, aim, condition, values),
     }
 }
 

@@ -1,3 +1,5 @@
+-- The definitions in reading order: what the protocol asks of tables; the state of the cells and its runs; the one serial order;
+-- what each message is answered, and so which histories are legal; what drivers do and know; and the laws, one a definition.
 pub mod Stamps
 pub mod Protocol
 pub mod Indexing

@@ -1,2 +1,3 @@
+-- Reasons first: what two reads of one item tell. Then the two rounds of reads.
 pub mod Reasons
 pub mod Reads

@@ -14,7 +14,7 @@ use Rattle.base_types.specs.declared.path.Step.TheVariants.{Name, Index}
 use Rattle.expr_parse.proofs.Ordered.{step_cmp, step_total}
 use Rattle.path_entries.specs.Entries.{entry_of, entries_of}
 use Rattle.path_entries.specs.Order.{step_order, path_order, AreInOrder}
-use Rattle.path_entries.specs.declared.key.Entry.{Entry}
+use Rattle.path_entries.specs.declared.key.PathEntry.{PathEntry}
 use Rattle.item_writes.specs.Apart.{same_step, overlap, AreApart, paths_of}
 use Rattle.item_writes.specs.NewTree.{Written, see, seen}
 use Rattle.item_writes.specs.declared.new_value.NewValue.{NewValue}
@@ -76,7 +76,7 @@ seen_in_order [] up = tt
 seen_in_order (e ∷ es) up = (all_seen e.0 es up.0, seen_in_order es up.1)
 
 -- what is sorted is apart where it was before
-pub ordered_apart : (made ordered : List (Entry (Option (Bor NewValue)))) → IsPermutation made ordered → AreApart (paths_of (seen (entries_of made)))
+pub ordered_apart : (made ordered : List (PathEntry (Option (Bor NewValue)))) → IsPermutation made ordered → AreApart (paths_of (seen (entries_of made)))
     → AreApart (paths_of (seen (entries_of ordered)))
 ordered_apart made ordered moved apart =
     let ws = seen (entries_of made) in
@@ -84,7 +84,7 @@ ordered_apart made ordered moved apart =
     let along : IsPermutation ws vs = IsPermutation-map see (entries_of made) (entries_of ordered) (IsPermutation-map entry_of made ordered moved) in
     apart_permuted (paths_of ws) (paths_of vs) (IsPermutation-map (λ (w : Written). w.0) ws vs along) apart
 
-pub by_path_is : (made ordered : List (Entry (Option (Bor NewValue)))) → IsPermutation made ordered → AreInOrder (entries_of ordered) → AreApart (paths_of (seen (entries_of made)))
+pub by_path_is : (made ordered : List (PathEntry (Option (Bor NewValue)))) → IsPermutation made ordered → AreInOrder (entries_of ordered) → AreApart (paths_of (seen (entries_of made)))
     → by_path (seen (entries_of made)) ≡ seen (entries_of ordered)
 by_path_is made ordered moved up apart =
     let ws = seen (entries_of made) in

@@ -21,7 +21,7 @@ use base_types::{DocPath, Seq};
 use expr_parse::Update;
 use expr_words::{PathValue, SetTo};
 use item_writes::{NewValue, extent_with_all, write_all};
-use path_entries::{Entry, sorted};
+use path_entries::{PathEntry, sorted};
 use std::alloc::{AllocError as NoMemory, Global};
 
 /// The most bytes of an item (DynamoDB Developer Guide, "Service, account, and table quotas").
@@ -49,7 +49,7 @@ pub fn apply(alloc: Global, tree: &Update, values: &Seq<Value>, old: &Item) -> R
 fn new_item(
     alloc: Global,
     old: &Item,
-    writes: &[Entry<'_, Option<&NewValue<'_>>>],
+    writes: &[PathEntry<'_, Option<&NewValue<'_>>>],
 ) -> Result<Item, EvalEnd>
     requires in_order { AreInOrder (entries_of writes.now) }
     requires apart { AreApart (paths_of (seen (entries_of writes.now))) }
@@ -69,12 +69,12 @@ fn new_item(
 fn entries<'w, 'u>(
     alloc: Global,
     writes: &'w [Write<'u>],
-) -> Result<Vec<Entry<'u, Option<&'w NewValue<'u>>>>, NoMemory>
+) -> Result<Vec<PathEntry<'u, Option<&'w NewValue<'u>>>>, NoMemory>
     ensures { IfOk result (λ entries. seen (entries_of entries.items) ≡ seen_writes writes.now) }
 {
     let mut entries = Vec::new(alloc);
     for write in writes {
-        entries.push(Entry {
+        entries.push(PathEntry {
             steps: write.steps,
             value: write.value.as_ref(),
         })?;

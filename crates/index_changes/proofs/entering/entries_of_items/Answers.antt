@@ -7,14 +7,14 @@ use Rattle.index_changes.proofs.entering.entries_of_items.Goals as goal
 
 pub loop-key-preserved-in-Continue-1 : goal.loop-key-preserved-in-Continue-1
 loop-key-preserved-in-Continue-1 g c = λ q.
-    let cmp = g.R.Entry.Ord.cmp in
+    let cmp = g.R.LocalEntry.Ord.cmp in
     entered g.R.CellRules.locals cmp c.args.catalog.now q c.loop-key.key-iterator c.next.new.self (c.in-Some.key.now, c.in-Some.slot.now) c.in-Some.ensures.steps
     (get cmp c.loop-key.entries q) _ (c.loop-key.invariant q) (get cmp c.enter.new.entries q) c.in-Some-committed.committed c.in-Some-committed.is
     (c.in_ok-enter.ensures q)
 
 pub loop-key-preserved : goal.loop-key-preserved
 loop-key-preserved g c = λ q.
-    let cmp = g.R.Entry.Ord.cmp in
+    let cmp = g.R.LocalEntry.Ord.cmp in
     let none : c.in-Some.slot.now.committed ≡ None = search rules in
     free g.R.CellRules.locals cmp c.args.catalog.now q c.loop-key.key-iterator c.next.new.self (c.in-Some.key.now, c.in-Some.slot.now) c.in-Some.ensures.steps
     (get cmp c.loop-key.entries q) _ (c.loop-key.invariant q) none
@@ -22,7 +22,7 @@ loop-key-preserved g c = λ q.
 pub returns : goal.returns
 returns g c = λ q.
     let by = g.R.Key.Ord.cmp in
-    let cmp = g.R.Entry.Ord.cmp in
+    let cmp = g.R.LocalEntry.Ord.cmp in
     let L = g.R.CellRules.locals in
     let S = g.R.Rules.protocol 1 in
     let law = g.met.R.Rules.lawful 1 in

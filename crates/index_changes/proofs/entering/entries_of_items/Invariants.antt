@@ -6,6 +6,6 @@ use Rattle.index_changes.proofs.entering.entries_of_items.Given as goal
 
 abbrev pub invariant-loop-key : goal.invariant-loop-key
 invariant-loop-key g l =
-    (q : _) → let has = some_has g.R.CellRules.locals g.R.Entry.Ord.cmp l.catalog q in
-    (if has l.key-iterator then Some Committed else get g.R.Entry.Ord.cmp l.entries q)
+    (q : _) → let has = some_has g.R.CellRules.locals g.R.LocalEntry.Ord.cmp l.catalog q in
+    (if has l.key-iterator then Some Committed else get g.R.LocalEntry.Ord.cmp l.entries q)
     ≡ (if has l.items.slots.entries then Some Committed else None)

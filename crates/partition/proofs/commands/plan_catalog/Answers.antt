@@ -39,7 +39,7 @@ returns-clause-in_step g c = λ n step.
     let law = g.met.R.Rules.lawful n in
     let ordered = g.met.R.CellRules.ordered n in
     let fair = g.met.R.CellRules.entries_lawful n in
-    let total = g.met.R.Entry.Ord.total in
+    let total = g.met.R.LocalEntry.Ord.total in
     let kept = c.make_place.ensures.kept in
     but_plan_stays S law ordered g.R.CellRules.locals fair total c.make_place.new.cell c.put_plan.new.self c.put_plan.ensures.kept
     (same_stays S law ordered g.R.CellRules.locals fair total c.args.cell.now c.make_place.new.cell kept.beside.catalog kept.slots c.make_place.ensures.entries step)

@@ -77,9 +77,9 @@ returns-then-is_empty-clause-in_step g c = λ n.
     let no : no_moves ≡ moves_by L cell.catalog k (row_of (slot_at cell.items u k)) c.args.pending.image =
     (λ i. record { old = sym none.none_before i; new = sym none.none_after i }) ∙ made in
     either_way c.hold.result c.hold.ensures.ok c.hold.ensures.err
-    (λ h. held_plain_stays S (g.met.R.Rules.lawful n) (g.met.R.CellRules.ordered n) L (g.met.R.CellRules.entries_lawful n) g.met.R.Entry.Ord.total
+    (λ h. held_plain_stays S (g.met.R.Rules.lawful n) (g.met.R.CellRules.ordered n) L (g.met.R.CellRules.entries_lawful n) g.met.R.LocalEntry.Ord.total
     cell c.hold.new.self h.beside.catalog u k table c.args.pending h.slots free no c.hold.ensures.entries)
-    (λ h. same_stays S (g.met.R.Rules.lawful n) (g.met.R.CellRules.ordered n) L (g.met.R.CellRules.entries_lawful n) g.met.R.Entry.Ord.total
+    (λ h. same_stays S (g.met.R.Rules.lawful n) (g.met.R.CellRules.ordered n) L (g.met.R.CellRules.entries_lawful n) g.met.R.LocalEntry.Ord.total
     cell c.hold.new.self h.beside.catalog h.slots c.hold.ensures.entries)
 
 pub returns-clause-in_step : goal.returns-clause-in_step
@@ -96,7 +96,7 @@ returns-clause-in_step g c = λ n.
     (c.requires n).indexes.moves
     ∙ (λ j. moves_by L cell.catalog (sym (c.key_of-key.ensures n) j) (row_of (slot_at cell.items ((sym (ap (λ y. S.core.table y) (c.key_of-key.ensures n)) ∙ sym (c.table_of-table.ensures n)) j) (sym (c.key_of-key.ensures n) j))) c.args.pending.image) in
     either_with c.hold_with.result c.hold_with.ensures.ok c.hold_with.ensures.held c.hold_with.ensures.kept c.hold_with.ensures.refused
-    (λ h moved. held_with_stays S (g.met.R.Rules.lawful n) (g.met.R.CellRules.ordered n) L (g.met.R.CellRules.entries_lawful n) g.met.R.Entry.Ord.total
+    (λ h moved. held_with_stays S (g.met.R.Rules.lawful n) (g.met.R.CellRules.ordered n) L (g.met.R.CellRules.entries_lawful n) g.met.R.LocalEntry.Ord.total
     cell c.hold_with.new.self h.beside.catalog u k table c.args.pending (moves_of (Some c.args.changes)) h.slots free made moved)
-    (λ h same. hold_refused_stays S (g.met.R.Rules.lawful n) (g.met.R.CellRules.ordered n) L (g.met.R.CellRules.entries_lawful n) g.met.R.Entry.Ord.total
+    (λ h same. hold_refused_stays S (g.met.R.Rules.lawful n) (g.met.R.CellRules.ordered n) L (g.met.R.CellRules.entries_lawful n) g.met.R.LocalEntry.Ord.total
     cell c.hold_with.new.self h.1 u k table c.args.pending (moves_of (Some c.args.changes)) h.0 free made same)

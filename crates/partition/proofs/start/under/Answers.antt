@@ -18,5 +18,5 @@ returns-clause-holds g c = λ n i same.
 
 pub returns-clause-in_step : goal.returns-clause-in_step
 returns-clause-in_step g c = λ n.
-    bare_in_step (g.R.Rules.protocol n) g.R.CellRules.locals g.R.Entry.Ord.cmp c.args.catalog c.new-2.result c.new-5.result.lists c.new-3.result.tables
+    bare_in_step (g.R.Rules.protocol n) g.R.CellRules.locals g.R.LocalEntry.Ord.cmp c.args.catalog c.new-2.result c.new-5.result.lists c.new-3.result.tables
     c.new-2.ensures.tables c.new-5.ensures.moves c.new-3.ensures

@@ -60,9 +60,9 @@ returns-clause-in_step g c = λ n.
     ∙ (λ j. moves_by L cell.catalog (sym (c.into_key-key.ensures n) j) (row_of (slot_at cell.items ((sym (ap (λ y. S.core.table y) (c.key_of.ensures n)) ∙ sym (c.table_of-table.ensures n)) j) (sym (c.into_key-key.ensures n) j))) c.args.item) in
     let apart = c.table_of-table.ensures n ∙ ap (λ y. S.core.table y) (c.key_of.ensures n ∙ sym (c.into_key-key.ensures n)) in
     either_end c.put.result c.put.ensures.ok c.put.ensures.noted c.put.ensures.err c.put.ensures.refused
-    (λ h noted. written_stays S (g.met.R.Rules.lawful n) (g.met.R.CellRules.ordered n) L (g.met.R.CellRules.entries_lawful n) g.met.R.Entry.Ord.total
+    (λ h noted. written_stays S (g.met.R.Rules.lawful n) (g.met.R.CellRules.ordered n) L (g.met.R.CellRules.entries_lawful n) g.met.R.LocalEntry.Ord.total
     cell c.put.new.self h.beside.catalog u k apart
     (tally cell.items.counts) c.args.item (single c.args.moment) (moves_of (Some c.args.changes)) h.slots free moves noted)
-    (λ h refused. write_refused_stays S (g.met.R.Rules.lawful n) (g.met.R.CellRules.ordered n) L (g.met.R.CellRules.entries_lawful n) g.met.R.Entry.Ord.total
+    (λ h refused. write_refused_stays S (g.met.R.Rules.lawful n) (g.met.R.CellRules.ordered n) L (g.met.R.CellRules.entries_lawful n) g.met.R.LocalEntry.Ord.total
     cell c.put.new.self h.beside.catalog u k apart
     c.args.item (moves_of (Some c.args.changes)) h.slots free moves refused)

@@ -3,7 +3,7 @@ use Rattle.std.specs.Map.{keys_of}
 use Rattle.std.proofs.Common.{rules, ◌≡◌, List, [], ◌∷◌, ◌++◌, ap, ◌∙◌, sym, subst}
 use Rattle.row_keys.specs.Keys.{row_order}
 use Rattle.row_keys.specs.Rows.{Rows}
-use Rattle.table_rows.specs.declared.change.Change.{Change}
+use Rattle.table_rows.specs.declared.change.RowChange.{RowChange}
 use Rattle.table_rows.specs.View.{committed}
 use Rattle.table_rows.specs.Slots.{rows_of}
 use Rattle.table_rows.specs.State.{AreDistinct, AreInStep}
@@ -18,8 +18,8 @@ make-requires c =
 
 pub loop-change-preserved : goal.loop-change-preserved
 loop-change-preserved c =
-    let change : Change = c.in-Some.change in
-    let rest : List Change = c.pop.new.self in
+    let change : RowChange = c.in-Some.change in
+    let rest : List RowChange = c.pop.new.self in
     let old = c.loop-change.slots in
     let popped : c.loop-change.pending ≡ rest ++ change ∷ [] = search rules in
     let distinct = distinct_less change rest (subst AreDistinct popped c.loop-change.invariant.distinct) in

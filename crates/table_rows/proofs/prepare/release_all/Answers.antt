@@ -1,13 +1,13 @@
 use Rattle.std.proofs.Common.{rules, ◌≡◌, List, [], ◌∷◌, ◌++◌, ◌∙◌, subst}
-use Rattle.table_rows.specs.declared.change.Change.{Change}
+use Rattle.table_rows.specs.declared.change.RowChange.{RowChange}
 use Rattle.table_rows.specs.State.{AreDistinct, AreInStep}
 use Rattle.table_rows.proofs.Changes.{distinct_less, dropped_in_step}
 use Rattle.table_rows.proofs.prepare.release_all.Goals as goal
 
 pub loop-change-preserved : goal.loop-change-preserved
 loop-change-preserved c =
-    let change : Change = c.in-Some.change in
-    let rest : List Change = c.pop.new.self in
+    let change : RowChange = c.in-Some.change in
+    let rest : List RowChange = c.pop.new.self in
     let old = c.loop-change.slots in
     let popped : c.loop-change.pending ≡ rest ++ change ∷ [] = search rules in
     let distinct = distinct_less change rest (subst AreDistinct popped c.loop-change.invariant.distinct) in

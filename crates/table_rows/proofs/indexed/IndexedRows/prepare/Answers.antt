@@ -2,7 +2,7 @@ use Rattle.std.specs.Prelude.{◌≡◌, false, true, [], ◌∷◌, ◌++◌, �
 use Rattle.std.specs.List.{AllZip, AllByRecursion}
 use Rattle.std.proofs.Common.{subst, sym, ap, ◌∙◌}
 use Rattle.row_keys.specs.Rows.{item_at}
-use Rattle.table_rows.specs.declared.change.Change.{Change}
+use Rattle.table_rows.specs.declared.change.RowChange.{RowChange}
 use Rattle.table_rows.specs.View.{TableView, is_pending}
 use Rattle.table_rows.specs.Slots.{rows_of, has_slot}
 use Rattle.table_rows.specs.Places.{IndexView}
@@ -14,7 +14,7 @@ use Rattle.table_rows.proofs.indexed.IndexedRows.prepare.Goals as goal
 pub prepare_in-requires : goal.prepare_in-requires
 prepare_in-requires c =
     let t = c.self.inside in
-    let change : Change = record { key = c.args.key; new = c.args.new } in
+    let change : RowChange = record { key = c.args.key; new = c.args.new } in
     let apart : is_pending t.pending c.args.key ≡ false =
     subst (λ (v : TableView). is_pending v.pending c.args.key ≡ false) (sym c.self.view_is) c.requires in
     record {
@@ -28,7 +28,7 @@ pub invariant_of-self : goal.invariant_of-self
 invariant_of-self c =
     let t = c.self.inside in
     let s = c.prepare_in.new in
-    let change : Change = record { key = c.args.key; new = c.args.new } in
+    let change : RowChange = record { key = c.args.key; new = c.args.new } in
     let apart : is_pending t.pending c.args.key ≡ false =
     subst (λ (v : TableView). is_pending v.pending c.args.key ≡ false) (sym c.self.view_is) c.requires in
     by_result c.prepare_in.result

@@ -2,7 +2,7 @@ use Rattle.std.proofs.Common.{rules, ◌≡◌, Option, IfSome, sym, subst}
 use Rattle.std.specs.Option.{option_copied}
 use Rattle.attr_value.specs.Tree.{Attributes}
 use Rattle.table_schema.specs.declared.schema.Schema.{Schema}
-use Rattle.table_rows.specs.declared.change.Change.{Change}
+use Rattle.table_rows.specs.declared.change.RowChange.{RowChange}
 use Rattle.table_rows.specs.declared.quiet.Quiet.{Quiet}
 use Rattle.table_rows.specs.Quiet.{IsQuiet, IsWatched}
 use Rattle.table_rows.proofs.Quiets.{watched_quiet}
@@ -14,7 +14,7 @@ invariant_of-self c = λ quiet is. subst (IsQuiet quiet) (sym c.in_err-prepare.e
 pub invariant_of-self-2 : goal.invariant_of-self-2
 invariant_of-self-2 c = λ quiet is.
     let t = c.self.inside.rows in
-    let change : Change = record { key = c.args.key; new = c.args.new } in
+    let change : RowChange = record { key = c.args.key; new = c.args.new } in
     let same : option_copied c.as_ref.result ≡ c.args.new = search rules in
     let lent : IsWatched c.self.inside.quiet c.schema.result.now (option_copied c.as_ref.result) quiet =
     subst (λ (q : Option Quiet). IfSome q (IsWatched c.self.inside.quiet c.schema.result.now (option_copied c.as_ref.result))) is c.watched-quiet.ensures in
