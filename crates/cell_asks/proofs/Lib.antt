@@ -1,2 +1,4 @@
 pub mod Kept
 pub mod Trails
+pub mod Histories
+pub mod SameKeys

@@ -1,5 +1,4 @@
 pub mod Trails
-pub mod Histories
 pub mod Places
 pub mod Requests
 pub mod Tries

@@ -1,12 +1,9 @@
 -- Places and rows, taken apart; and what was kept, and what a Look told, as the place that it gives.
-use Rattle.std.proofs.Common.{◌≡◌, ℕ, List, reverse, Option, None, Some, Result, Ok, Err, refl, sym, ap, subst, ◌∙◌, inl, inr}
+use Rattle.std.proofs.Common.{◌≡◌, ℕ, List, reverse, Option, None, Some, Result, Ok, Err, refl, sym, ap, subst, inl, inr}
 use Rattle.std.specs.Prelude.{◌⊎◌}
-use Rattle.std.proofs.lemmas.Bool.{or_left}
 use Rattle.turnstile.specs.Passes.{PassView}
-use Rattle.attr_value.specs.Tree.{Attributes}
 use Rattle.item_keys.specs.declared.fault.KeyFault.{KeyFault}
 use Rattle.item_keys.specs.declared.key.Key.{Key}
-use Rattle.item_keys.specs.ItemKey.{key_in, key_alone, alone, has_only}
 use Rattle.row_keys.specs.declared.row_key.RowKey.{RowKey}
 use Rattle.row_keys.specs.Keys.{row_key}
 use Rattle.table_schema.specs.declared.schema.Schema.{Schema}
@@ -19,9 +16,7 @@ use Rattle.txn_core.specs.declared.message.Message.{Message}
 use Rattle.cell_model.specs.declared.answer.TableLook.{TableLook}
 use Rattle.cell_model.specs.declared.key.CellKey.{CellKey}
 use Rattle.cell_model.specs.declared.question.CatalogQuestion.TheVariants.{Look}
-use Rattle.cell_model.proofs.KeptTypes.{key_alike}
 use Rattle.table_history.specs.Entries.{TableEvent}
-use Rattle.table_history.specs.SameTable.{IsOfThatTable}
 use Rattle.cell_asks.specs.declared.looks.Looks.{Looks}
 use Rattle.cell_asks.specs.Steps.{One}
 use Rattle.cell_asks.specs.Answers.{look_answer}
@@ -72,15 +67,6 @@ pub fault_unless : (k : Result Key KeyFault) (touched : Option (List ℕ)) (why 
 fault_unless (Ok key) None why is = absurd (cc)
 fault_unless (Ok key) (Some name) why is = inr (record { key = key; is = refl; name = name; touched_is = refl; why_is = cc })
 fault_unless (Err fault) touched why is = inl (record { fault = fault; is = refl; why_is = cc })
-
--- ---- a table's keys stay
-
-module _ (old new : Schema) (that : IsOfThatTable old new) (item : Attributes) where
-  pub same_key_in : key_in new new.keys item ≡ key_in old old.keys item
-  same_key_in = ap (λ keys. key_in new keys item) that.keys ∙ key_alike old new item old.keys (λ name names. that.kinds name (or_left _ _ names))
-
-  pub same_key_alone : key_alone new new.keys item ≡ key_alone old old.keys item
-  same_key_alone = λ i. alone (has_only (that.keys i) item) (same_key_in i)
 
 -- ---- places
 

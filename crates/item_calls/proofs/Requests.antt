@@ -32,7 +32,8 @@ use Rattle.table_history.specs.WriteEffects.{StatesWrite, told_by, write_reply}
 use Rattle.item_calls.specs.Places.{row_at, unless_touched, item_at}
 use Rattle.item_calls.specs.Answers.{ShowAlike}
 use Rattle.item_calls.specs.Items.{table_asked}
-use Rattle.item_calls.proofs.Places.{key_behind, fault_behind, key_unless, fault_unless, same_key_in, same_key_alone}
+use Rattle.cell_asks.proofs.SameKeys.{same_key_in, same_key_alone}
+use Rattle.item_calls.proofs.Places.{key_behind, fault_behind, key_unless, fault_unless}
 
 -- without its table, and for its row, the request is refused so by every database
 pub record IsRefusedFor (asked : Request) (rows : Schema → Result RowKey Invalid) : Type 0 where

@@ -47,9 +47,10 @@ use Rattle.item_calls.specs.declared.place.Place.{Place}
 use Rattle.item_calls.specs.Places.{item_at, place_told, IsKnown, LookRefuses}
 use Rattle.item_calls.specs.Answers.{ReadAt, read_tried, WroteAt, WriteStops, tried_if, write_tried}
 use Rattle.item_calls.specs.Items.{table_asked, IsReadAt, IsStated, RefusedByLook, IsReadTry, IsWriteTry, WriteGivesUp}
-use Rattle.item_calls.proofs.Trails.{vain_on, gives_up_on}
-use Rattle.item_calls.proofs.Histories.{before_legal, is_answer, told_then, looked_none, looked_some, is_there, wrote_table, got_table, IsThatTable, that_table}
-use Rattle.item_calls.proofs.Places.{row_refuses, key_behind, same_key_alone}
+use Rattle.cell_asks.proofs.Trails.{vain_on, gives_up_on}
+use Rattle.cell_asks.proofs.SameKeys.{same_key_alone}
+use Rattle.cell_asks.proofs.Histories.{before_legal, is_answer, told_then, looked_none, looked_some, is_there, wrote_table, got_table, IsThatTable, that_table}
+use Rattle.item_calls.proofs.Places.{row_refuses, key_behind}
 use Rattle.item_calls.proofs.Requests.{IsRefusedFor, StatesAt, read_rows}
 
 -- ---- refused by a Look

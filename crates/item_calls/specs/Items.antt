@@ -31,7 +31,7 @@ use Rattle.table_history.specs.WriteEffects.{item_key, StatesWrite}
 use Rattle.cell_asks.specs.declared.tried.Tried.{Tried}
 use Rattle.cell_asks.specs.Steps.{answered, One, past_of, GivesUp, IsInVain}
 use Rattle.cell_asks.specs.Answers.{look_answer}
-use Rattle.item_calls.specs.Places.{Looked}
+use Rattle.cell_asks.specs.Told.{Looked}
 
 -- the table of a request on one item
 abbrev pub table_asked : Request → List ℕ

@@ -1,5 +1,5 @@
 -- Where the item of a request is, by what Looks told (API Reference: Key).
-use Rattle.std.specs.Prelude.{◌≡◌, ◌⊎◌, ℕ, List, Option, None, Some, Result, Ok, Err, reverse}
+use Rattle.std.specs.Prelude.{◌≡◌, ℕ, List, Option, None, Some, Result, Ok, Err, reverse}
 use Rattle.std.specs.Option.{option_copied}
 use Rattle.turnstile.specs.Passes.{PassView}
 use Rattle.txn_core.specs.declared.message.Message.{Message}
@@ -22,7 +22,7 @@ use Rattle.cell_model.specs.declared.question.CatalogQuestion.TheVariants.{Look}
 use Rattle.table_history.specs.Entries.{TableEvent}
 use Rattle.cell_asks.specs.Steps.{One}
 use Rattle.cell_asks.specs.Answers.{look_answer}
-use Rattle.cell_asks.specs.Told.{WasTold}
+use Rattle.cell_asks.specs.Told.{Looked, WasTold}
 use Rattle.item_calls.specs.declared.place.Place.{Place}
 use Rattle.item_calls.specs.declared.place.Wanted.{Wanted}
 use Rattle.item_calls.specs.declared.place.Wanted.TheVariants as wanted
@@ -77,10 +77,6 @@ kept_place rows (Some look) = kept_at look.number (rows look.schema)
 -- ---- finding it
 
 module _ (n : ℕ) (p : PassView TableEvent) (name : List ℕ) where
-  -- nothing was asked, or only for the table of the name
-  abbrev pub Looked : PassView TableEvent → Type 0
-  Looked mid = (mid ≡ p) ⊎ ((told : Option TableLook) × One n p (Message.Ask (Look name)) (look_answer told) mid)
-
   module _ (rows : Schema → Result RowKey Invalid) where
     -- the item is there by a table that a Look told of, at some time
     pub record IsKnown (key : CellKey) (q : PassView TableEvent) : Type 0 where
@@ -89,7 +85,7 @@ module _ (n : ℕ) (p : PassView TableEvent) (name : List ℕ) where
       pub row : RowKey
       pub row_is : rows look.schema ≡ Ok row
       pub is : key ≡ item_at look.number row
-      pub looked : Looked q
+      pub looked : Looked n p name q
 
     -- the own Look told this refusal
     pub record LookRefuses (why : Refusal) (q : PassView TableEvent) : Type 0 where

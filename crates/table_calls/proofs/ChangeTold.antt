@@ -38,7 +38,7 @@ use Rattle.cell_asks.specs.Steps.{One, past_of}
 use Rattle.cell_asks.specs.declared.asks.Ruled.{Ruled}
 use Rattle.table_calls.specs.Commands.{IsCommanded}
 use Rattle.table_calls.specs.Replies.{removed_name, ruled_reply, update_told}
-use Rattle.table_calls.proofs.Own.{answer_of}
+use Rattle.cell_asks.proofs.Histories.{is_answer}
 use Rattle.table_calls.proofs.Commanded.{commanded}
 
 -- ---- the reply by what is told
@@ -140,12 +140,12 @@ module _ (n : ℕ) (p : PassView TableEvent) (q : PassView TableEvent) (r : Upda
   change_told : (ruled : Ruled) → One n p (Message.Command stated) (ruled_answer ruled) q → IsTrue (is_some (ruled_reply r.table tell ruled))
   change_told (Ruled.Changed told) own =
       let es = reverse (past_of own) in
-      let is = carried_by n es stated p.moment told (answer_of n p (Message.Command stated) (Answer.Changed told) q own) in
+      let is = carried_by n es stated p.moment told (is_answer n p (Message.Command stated) (Answer.Changed told) q own) in
       changes r (named (catalog_by (service n) es).tables r.table) told is.1
   change_told (Ruled.Refused told) own =
       let es = reverse (past_of own) in
       let o = named (catalog_by (service n) es).tables r.table in
-      elim (denied_by n es stated p.moment told (answer_of n p (Message.Command stated) (Answer.Refused told) q own)) [
+      elim (denied_by n es stated p.moment told (is_answer n p (Message.Command stated) (Answer.Refused told) q own)) [
         | inl why ↦ none_there r told (gone o told why).1
         | inr other ↦ unchanges r o told other.1
       ]

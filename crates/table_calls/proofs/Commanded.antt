@@ -15,7 +15,7 @@ use Rattle.cell_asks.specs.Steps.{answered, One, past_of}
 use Rattle.cell_asks.specs.declared.asks.Ruled.{Ruled}
 use Rattle.table_calls.specs.Commands.{IsCommanded}
 use Rattle.table_calls.specs.Replies.{ruled_reply}
-use Rattle.table_calls.proofs.Own.{legal_with}
+use Rattle.cell_asks.proofs.Histories.{legal_with}
 
 module _ (n : ℕ) (p : PassView TableEvent) (q : PassView TableEvent) (asked : Request) (name : List ℕ) (command : CatalogCommand)
     (its : command_of asked ≡ Some command) where

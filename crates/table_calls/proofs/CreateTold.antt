@@ -31,7 +31,7 @@ use Rattle.cell_asks.specs.Steps.{One, past_of}
 use Rattle.cell_asks.specs.declared.asks.Ruled.{Ruled}
 use Rattle.table_calls.specs.Commands.{CreatesTable}
 use Rattle.table_calls.specs.Replies.{create_told, ruled_reply}
-use Rattle.table_calls.proofs.Own.{answer_of}
+use Rattle.cell_asks.proofs.Histories.{is_answer}
 use Rattle.table_calls.proofs.Commanded.{commanded}
 
 made : (full : Bool) (number : ℕ) (fault : Option SchemaFault) (told : CatalogAnswer)
@@ -76,14 +76,14 @@ module _ (n : ℕ) (p : PassView TableEvent) (q : PassView TableEvent) (r : Crea
     made_told own =
         let es = reverse (past_of own) in
         let c = catalog_by (service n) es in
-        let is = carried_by n es (Create r.schema) p.moment told (answer_of n p (Message.Command (Create r.schema)) (Answer.Changed told) q own) in
+        let is = carried_by n es (Create r.schema) p.moment told (is_answer n p (Message.Command (Create r.schema)) (Answer.Changed told) q own) in
         (last_drawn c + 1, made (nat_le most_tables (length c.tables)) (last_drawn c + 1) (first_fault (stated_of r.schema)) told is.1)
 
     not_made : (own : One n p (Message.Command (Create r.schema)) (Answer.Refused told) q) → IsRefusal r.schema told
     not_made own =
         let es = reverse (past_of own) in
         refused_by r.schema (catalog_by (service n) es) told
-        (denied_by n es (Create r.schema) p.moment told (answer_of n p (Message.Command (Create r.schema)) (Answer.Refused told) q own))
+        (denied_by n es (Create r.schema) p.moment told (is_answer n p (Message.Command (Create r.schema)) (Answer.Refused told) q own))
 
   -- a reply is to every answer that there can be
   created_told : (ruled : Ruled) → One n p (Message.Command (Create r.schema)) (ruled_answer ruled) q

@@ -25,7 +25,7 @@ use Rattle.cell_asks.specs.Steps.{One, past_of}
 use Rattle.cell_asks.specs.declared.asks.Ruled.{Ruled}
 use Rattle.table_calls.specs.Commands.{IsCommanded}
 use Rattle.table_calls.specs.Replies.{ruled_reply}
-use Rattle.table_calls.proofs.Own.{answer_of}
+use Rattle.cell_asks.proofs.Histories.{is_answer}
 use Rattle.table_calls.proofs.Commanded.{commanded}
 
 drops : (o : Option CatalogTable) (told : CatalogAnswer) → drop_ruling o ≡ Carries told → (s : Schema) × (answer.Dropped s ≡ told)
@@ -41,13 +41,13 @@ module _ (n : ℕ) (p : PassView TableEvent) (q : PassView TableEvent) (name : L
   drop_told : (ruled : Ruled) → One n p (Message.Command (Drop name)) (ruled_answer ruled) q → IsTrue (is_some (ruled_reply name (delete_reply name) ruled))
   drop_told (Ruled.Changed told) own =
       let es = reverse (past_of own) in
-      let is = carried_by n es (Drop name) p.moment told (answer_of n p (Message.Command (Drop name)) (Answer.Changed told) q own) in
+      let is = carried_by n es (Drop name) p.moment told (is_answer n p (Message.Command (Drop name)) (Answer.Changed told) q own) in
       let done = drops (named (catalog_by (service n) es).tables name) told is.1 in subst (λ x. IsTrue (is_some (delete_reply name x))) done.1 refl
   drop_told (Ruled.Refused told) own =
       let es = reverse (past_of own) in
       let o = named (catalog_by (service n) es).tables name in
       let none = λ (same : told ≡ answer.NoTable). subst (λ x. IsTrue (is_some (delete_reply name x))) (sym same) refl in
-      elim (denied_by n es (Drop name) p.moment told (answer_of n p (Message.Command (Drop name)) (Answer.Refused told) q own)) [
+      elim (denied_by n es (Drop name) p.moment told (is_answer n p (Message.Command (Drop name)) (Answer.Refused told) q own)) [
         | inl why ↦ none (gone o told why).1
         | inr other ↦ none (undrops o told other.1)
       ]

@@ -1,4 +1,3 @@
-pub mod Own
 pub mod Asked
 pub mod NamesTold
 pub mod Commanded

@@ -26,7 +26,7 @@ use Rattle.cell_asks.specs.Answers.{names_answer}
 use Rattle.cell_asks.specs.Steps.{One, past_of}
 use Rattle.table_calls.specs.Questions.{ByNames}
 use Rattle.table_calls.specs.Replies.{listed_reply}
-use Rattle.table_calls.proofs.Asked.{told_is}
+use Rattle.cell_asks.proofs.Histories.{told_is}
 
 -- the last name is the one at the last place
 pub last_at : (names : List (List ℕ)) → last_name names ≡ slice_get names (length names - 1)

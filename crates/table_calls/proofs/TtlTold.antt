@@ -27,7 +27,7 @@ use Rattle.cell_asks.specs.Steps.{One, past_of}
 use Rattle.cell_asks.specs.declared.asks.Ruled.{Ruled}
 use Rattle.table_calls.specs.Commands.{IsCommanded}
 use Rattle.table_calls.specs.Replies.{ruled_reply}
-use Rattle.table_calls.proofs.Own.{answer_of}
+use Rattle.cell_asks.proofs.Histories.{is_answer}
 use Rattle.table_calls.proofs.Commanded.{commanded}
 
 judged_so : (s : Schema) (fault : Option TtlFault) (told : CatalogAnswer) → ttl_judged s fault ≡ Carries told → answer.Changed s ≡ told
@@ -62,12 +62,12 @@ module _ (n : ℕ) (p : PassView TableEvent) (q : PassView TableEvent) (r : Upda
   ttl_told : (ruled : Ruled) → One n p (Message.Command stated) (ruled_answer ruled) q → IsTrue (is_some (ruled_reply r.table (ttl_reply r) ruled))
   ttl_told (Ruled.Changed told) own =
       let es = reverse (past_of own) in
-      let is = carried_by n es stated p.moment told (answer_of n p (Message.Command stated) (Answer.Changed told) q own) in
+      let is = carried_by n es stated p.moment told (is_answer n p (Message.Command stated) (Answer.Changed told) q own) in
       expires r (named (catalog_by (service n) es).tables r.table) told is.1
   ttl_told (Ruled.Refused told) own =
       let es = reverse (past_of own) in
       let o = named (catalog_by (service n) es).tables r.table in
-      elim (denied_by n es stated p.moment told (answer_of n p (Message.Command stated) (Answer.Refused told) q own)) [
+      elim (denied_by n es stated p.moment told (is_answer n p (Message.Command stated) (Answer.Refused told) q own)) [
         | inl why ↦ none_there r told (gone o told why).1
         | inr other ↦ unexpires r o told other.1
       ]

@@ -1,5 +1,5 @@
 use Rattle.std.proofs.Common.{refl}
-use Rattle.item_calls.proofs.Trails.{not_answered, not_told, told_one, told_stops, no_memory, same_error}
+use Rattle.cell_asks.proofs.Trails.{not_answered, not_told, told_one, told_stops, no_memory, same_error}
 use Rattle.item_calls.proofs.get.get_at.Goals as goal
 
 pub returns-in_err-got-clause-err : goal.returns-in_err-got-clause-err

@@ -2,7 +2,7 @@ use Rattle.std.proofs.Common.{subst, inl}
 use Rattle.std.proofs.lemmas.Result.{IfOk-weaker, IfErr-weaker}
 use Rattle.table_request.specs.declared.request.Request.TheVariants as request
 use Rattle.item_calls.specs.Places.{IsPlaced}
-use Rattle.item_calls.proofs.Trails.{gives_up_on, same_error}
+use Rattle.cell_asks.proofs.Trails.{gives_up_on, same_error}
 use Rattle.item_calls.proofs.Requests.{read_rows, read_refused}
 use Rattle.item_calls.proofs.Tries.{read_try, refused_by_look}
 use Rattle.item_calls.proofs.get.get_item.Goals as goal

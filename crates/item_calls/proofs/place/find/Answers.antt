@@ -1,6 +1,6 @@
 use Rattle.std.proofs.Common.{sym, ◌∙◌}
 use Rattle.item_calls.specs.Places.{row_wanted}
-use Rattle.item_calls.proofs.Trails.{none_asked, no_memory}
+use Rattle.cell_asks.proofs.Trails.{none_asked, no_memory}
 use Rattle.item_calls.proofs.Places.{placed_kept}
 use Rattle.item_calls.proofs.place.find.Goals as goal
 

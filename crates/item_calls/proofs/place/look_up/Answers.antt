@@ -1,6 +1,6 @@
 use Rattle.std.proofs.Common.{refl}
 use Rattle.item_calls.specs.Places.{row_wanted}
-use Rattle.item_calls.proofs.Trails.{none_asked, not_answered, not_told, told_one, told_stops, no_memory, same_error}
+use Rattle.cell_asks.proofs.Trails.{none_asked, not_answered, not_told, told_one, told_stops, no_memory, same_error}
 use Rattle.item_calls.proofs.Places.{look_named, look_told, placed_told}
 use Rattle.item_calls.proofs.place.look_up.Goals as goal
 

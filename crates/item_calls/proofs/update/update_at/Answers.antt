@@ -1,6 +1,7 @@
 use Rattle.std.proofs.Common.{inl}
 use Rattle.std.proofs.lemmas.Result.{IfOk-weaker, IfErr-weaker}
-use Rattle.item_calls.proofs.Trails.{none_asked_by, wrote_alike, stops_alike}
+use Rattle.cell_asks.proofs.Trails.{none_asked_by}
+use Rattle.item_calls.proofs.Trails.{wrote_alike, stops_alike}
 use Rattle.item_calls.proofs.update.update_at.Goals as goal
 
 pub returns-in-Ok-clause-ok : goal.returns-in-Ok-clause-ok

@@ -1,5 +1,6 @@
 use Rattle.std.proofs.Common.{inl}
-use Rattle.item_calls.proofs.Trails.{not_answered, told_one, told_stops, no_memory, same_error, write_stops}
+use Rattle.cell_asks.proofs.Trails.{not_answered, told_one, told_stops, no_memory, same_error}
+use Rattle.item_calls.proofs.Trails.{write_stops}
 use Rattle.item_calls.proofs.write.write.Goals as goal
 
 pub returns-in_err-wrote-clause-err : goal.returns-in_err-wrote-clause-err
