@@ -40,17 +40,19 @@ use Rattle.table_schema.specs.declared.schema.Schema.{Schema}
 use Rattle.table_request.specs.declared.pages.PageRequest.{PageRequest}
 use Rattle.table_request.specs.declared.pages.Query.{Query}
 use Rattle.table_request.specs.declared.pages.Scan.{Scan}
-use Rattle.table_pages.specs.declared.fill.Filled.{Filled}
+use Rattle.page_reads.specs.declared.page.Filled.{Filled}
 use Rattle.table_model.specs.Database.{Table}
 use Rattle.table_model.specs.Pages.{Source, whole_table, local_index, global_index, source_keys, source_entries, queried, scanned, is_in_segment, judged}
 use Rattle.page_ranges.specs.declared.span.Span.{Span}
 use Rattle.page_ranges.specs.declared.positions.PositionSpan.{PositionSpan}
 use Rattle.page_ranges.specs.Span.{low_end, high_end, is_inside, stands_inside}
 use Rattle.page_ranges.specs.AtKeys.{key_if, IsAtKey, AreAtKeys}
-use Rattle.table_pages.specs.declared.source.Source as code
-use Rattle.table_pages.specs.declared.source.Source.TheVariants as read
-use Rattle.table_pages.specs.Sources.{source_in, IsNumber, seen}
-use Rattle.table_pages.specs.Filled.{entry_seen, filled_of, IsFilled, IsStart, rows_in, positions_in, HasSegment}
+use Rattle.page_reads.specs.declared.source.Source as code
+use Rattle.page_reads.specs.declared.source.Source.TheVariants as read
+use Rattle.page_reads.specs.Sources.{source_in, IsNumber, seen}
+use Rattle.page_reads.specs.Filled.{entry_seen, filled_of, IsFilled}
+use Rattle.page_reads.specs.Starts.{HasSegment}
+use Rattle.table_pages.specs.Ranges.{IsStart, rows_in, positions_in}
 use Rattle.table_pages.proofs.Walked.{filter_same, filter_made, after_moved}
 use Rattle.table_pages.proofs.Entries.{all_to, table_of, entries_at_keys}
 

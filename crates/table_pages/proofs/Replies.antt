@@ -20,22 +20,20 @@ use Rattle.table_model.specs.declared.refusal.Refusal.{Refusal}
 use Rattle.table_model.specs.declared.refusal.Refusal.TheVariants.{Invalid}
 use Rattle.table_model.specs.declared.refusal.Invalid.TheVariants as invalid
 use Rattle.table_model.specs.Database.{Database, Table, first}
-use Rattle.table_model.specs.Pages.{Source, source_of, source_keys, source_entries, named_key, unprojected, reading_refusal, projection_refusal, start_of, is_in_partition, is_in_segment, queried, scanned, used_by_page, IsPageOf, IsRefusedOr, IsUnless, IsQueriedIn, IsInRange, IsQueriedFrom, IsScannedFrom, IsFrom, IsInTable, IsQuery, IsScan}
+use Rattle.table_model.specs.Pages.{Source, source_of, source_keys, source_entries, named_key, reading_refusal, projection_refusal, start_of, is_in_partition, is_in_segment, queried, scanned, used_by_page, IsPageOf, IsRefusedOr, IsUnless, IsInRange, IsQueriedFrom, IsScannedFrom, IsFrom, IsInTable, IsQuery, IsScan}
 use Rattle.table_items.specs.Effects.{HasTable}
-use Rattle.table_pages.specs.declared.fill.Filled.{Filled}
+use Rattle.page_reads.specs.declared.page.Filled.{Filled}
 use Rattle.table_pages.specs.Asked.{IsQueryOf, IsScanOf}
-use Rattle.table_pages.specs.Filled.{IsFilled}
+use Rattle.page_reads.specs.Filled.{IsFilled}
+use Rattle.page_reads.specs.Starts.{unless_refused, with_range, query_start, query_start_if, query_start_in, scan_start}
+use Rattle.page_reads.specs.declared.queries.QueryStart.{QueryStart}
 
--- ---- refused, or not
+-- ---- refused, or begun
 
-module _ (reply : Reply) (P : Type 0) where
-  unless_none : (refusal : Option Refusal) → refusal ≡ None → P → IsUnless refusal reply P
-  unless_none None is p = p
-  unless_none (Some why) is p = absurd (cc)
-
-  unless_some : (refusal : Option Refusal) (why : Refusal) → refusal ≡ Some why → reply ≡ answer.Refused why → IsUnless refusal reply P
-  unless_some None why is told = absurd (cc)
-  unless_some (Some other) why is told = let same : other ≡ why = cc in told ∙ ap answer.Refused (sym same)
+unless : (reply : Reply) (P : Option Position → Type 0) (why : Option Refusal) (next : Result (Option Position) Refusal)
+    → IsRefusedOr (unless_refused why next) reply P → IsUnless why reply (IsRefusedOr next reply P)
+unless reply P (Some why) next is = is
+unless reply P None next is = is
 
 -- a page that is filled with these rows is their page
 pub page_is : (schema : Schema) (source : Source) (r : PageRequest) (forward : Bool) (start : Option Position) (entries : Entries) (filled : Filled) (reply : Reply)
@@ -49,119 +47,59 @@ page_is schema source r forward start entries filled reply is told = record {
 
 -- ---- a Query
 
+-- refused, or answered so by what the Query reads
+abbrev pub IsBegunOr : Result QueryStart Refusal → Reply → (Option Position → Type 0) → Type 0
+IsBegunOr (Err why) reply P = reply ≡ answer.Refused why
+IsBegunOr (Ok begun) reply P = P begun.start
+
 module _ (table : Table) (r : Query) (source : Source) (reply : Reply) where
-  module _ (range : KeyRange) where
-    -- what follows where nothing is refused
-    abbrev Follows : Type 0
-    Follows =
-        IsRefusedOr (start_of table.schema source (is_in_partition range) r.page.start) reply
-        (λ start. IsPageOf table.schema source r.page r.forward start (queried r (source_entries table source)) reply)
+  -- the page behind a position
+  abbrev pub IsQueried : Option Position → Type 0
+  IsQueried start = IsPageOf table.schema source r.page r.forward start (queried r (source_entries table source)) reply
 
-    refusals : Option (List ℕ) → Option (List ℕ) → Option Refusal
-    refusals named kept =
-        first (option_map (λ name. Invalid (invalid.FilterOfKey name)) named ∷ option_map (λ name. Invalid (invalid.NotProjected name)) kept ∷ [])
+  ranged : (range : KeyRange) (start : Result (Option Position) Refusal) → IsBegunOr (with_range range start) reply IsQueried
+      → IsRefusedOr start reply IsQueried
+  ranged range (Ok start) is = is
+  ranged range (Err why) is = is
 
-    pub filter_of_key : (name : List ℕ) → named_key r.page.filter (source_keys table.schema source) ≡ Some name
-        → reply ≡ answer.Refused (Invalid (invalid.FilterOfKey name)) → IsQueriedIn table r source range reply
-    filter_of_key name is told =
-        unless_some reply Follows
-        (first
-        (option_map (λ name. Invalid (invalid.FilterOfKey name)) (named_key r.page.filter (source_keys table.schema source))
-        ∷ projection_refusal table.schema r.page source ∷ []))
-        (Invalid (invalid.FilterOfKey name))
-        (λ i. first (option_map (λ name. Invalid (invalid.FilterOfKey name)) (is i) ∷ projection_refusal table.schema r.page source ∷ [])) told
+  in_range : (found : Result KeyRange RangeFault) → IsBegunOr (query_start_if table.schema r source found) reply IsQueried
+      → IsInRange table r source found reply
+  in_range (Err fault) is = is
+  in_range (Ok range) is =
+      unless reply IsQueried
+      (first
+      (option_map (λ name. Invalid (invalid.FilterOfKey name)) (named_key r.page.filter (source_keys table.schema source))
+      ∷ projection_refusal table.schema r.page source ∷ []))
+      (start_of table.schema source (is_in_partition range) r.page.start)
+      (ranged range (query_start_in table.schema r source range) is)
 
-    module _ (unnamed : named_key r.page.filter (source_keys table.schema source) ≡ None) where
-      pub not_projected : (name : List ℕ) → unprojected table.schema source r.page.projection ≡ Some name
-          → reply ≡ answer.Refused (Invalid (invalid.NotProjected name)) → IsQueriedIn table r source range reply
-      not_projected name is told =
-          unless_some reply Follows
-          (first
-          (option_map (λ name. Invalid (invalid.FilterOfKey name)) (named_key r.page.filter (source_keys table.schema source))
-          ∷ projection_refusal table.schema r.page source ∷ []))
-          (Invalid (invalid.NotProjected name))
-          (λ i. first (option_map (λ name. Invalid (invalid.FilterOfKey name)) (unnamed i) ∷ option_map (λ name. Invalid (invalid.NotProjected name)) (is i) ∷ [])) told
+  unless_begun : (why : Option Refusal) (found : Result KeyRange RangeFault)
+      → IsBegunOr (unless_refused why (query_start_if table.schema r source found)) reply IsQueried
+      → IsUnless why reply (IsInRange table r source found reply)
+  unless_begun (Some why) found is = is
+  unless_begun None found is = in_range found is
 
-      module _ (projected : unprojected table.schema source r.page.projection ≡ None) where
-        follows : Follows → IsQueriedIn table r source range reply
-        follows p =
-            unless_none reply Follows
-            (first
-            (option_map (λ name. Invalid (invalid.FilterOfKey name)) (named_key r.page.filter (source_keys table.schema source))
-            ∷ projection_refusal table.schema r.page source ∷ []))
-            (λ i. first (option_map (λ name. Invalid (invalid.FilterOfKey name)) (unnamed i) ∷ option_map (λ name. Invalid (invalid.NotProjected name)) (projected i) ∷ []))
-            p
-
-        pub no_start : (why : Refusal) → Err why ≡ start_of table.schema source (is_in_partition range) r.page.start → reply ≡ answer.Refused why
-            → IsQueriedIn table r source range reply
-        no_start why is told =
-            follows
-            (subst (λ start. IsRefusedOr start reply
-            (λ start. IsPageOf table.schema source r.page r.forward start (queried r (source_entries table source)) reply)) is told)
-
-        pub page_read : (start : Option Position) → Ok start ≡ start_of table.schema source (is_in_partition range) r.page.start
-            → IsPageOf table.schema source r.page r.forward start (queried r (source_entries table source)) reply → IsQueriedIn table r source range reply
-        page_read start is read =
-            follows
-            (subst (λ start. IsRefusedOr start reply
-            (λ start. IsPageOf table.schema source r.page r.forward start (queried r (source_entries table source)) reply)) is read)
-
-  -- what follows where the source may be read so
-  abbrev Asked : Result KeyRange RangeFault → Type 0
-  Asked range = IsInRange table r source range reply
-
-  pub reading_refused : (why : Refusal) → Some why ≡ reading_refusal r.page source → reply ≡ answer.Refused why → IsQueriedFrom table r source reply
-  reading_refused why is told =
-      unless_some reply (Asked (range_of table.schema (source_keys table.schema source) r.page.values (tree r.key_condition)))
-      (reading_refusal r.page source) why (sym is) told
-
-  module _ (readable : None ≡ reading_refusal r.page source) where
-    pub ranged : (range : Result KeyRange RangeFault) → range_of table.schema (source_keys table.schema source) r.page.values (tree r.key_condition) ≡ range
-        → IsInRange table r source range reply → IsQueriedFrom table r source reply
-    ranged range is asked =
-        unless_none reply (Asked (range_of table.schema (source_keys table.schema source) r.page.values (tree r.key_condition)))
-        (reading_refusal r.page source) (sym readable) (subst Asked (sym is) asked)
+  -- what a Query is answered that begins so, or is refused
+  pub query_begun : (begun : Result QueryStart Refusal) → begun ≡ query_start table.schema r source → IsBegunOr begun reply IsQueried
+      → IsQueriedFrom table r source reply
+  query_begun begun is told =
+      unless_begun (reading_refusal r.page source) (range_of table.schema (source_keys table.schema source) r.page.values (tree r.key_condition))
+      (subst (λ found. IsBegunOr found reply IsQueried) is told)
 
 -- ---- a Scan
 
 module _ (table : Table) (r : Scan) (source : Source) (reply : Reply) where
-  abbrev Scans : Type 0
-  Scans =
-      IsRefusedOr (start_of table.schema source (is_in_segment r.segment) r.page.start) reply
-      (λ start. IsPageOf table.schema source r.page true start (scanned r (source_entries table source)) reply)
+  -- the page behind a position
+  abbrev pub IsScanned : Option Position → Type 0
+  IsScanned start = IsPageOf table.schema source r.page true start (scanned r (source_entries table source)) reply
 
-  pub scan_refused : (why : Refusal) → Some why ≡ reading_refusal r.page source → reply ≡ answer.Refused why → IsScannedFrom table r source reply
-  scan_refused why is told =
-      unless_some reply Scans (first (reading_refusal r.page source ∷ projection_refusal table.schema r.page source ∷ [])) why
-      (λ i. first (sym is i ∷ projection_refusal table.schema r.page source ∷ [])) told
-
-  module _ (readable : None ≡ reading_refusal r.page source) where
-    pub scan_not_projected : (name : List ℕ) → unprojected table.schema source r.page.projection ≡ Some name
-        → reply ≡ answer.Refused (Invalid (invalid.NotProjected name)) → IsScannedFrom table r source reply
-    scan_not_projected name is told =
-        unless_some reply Scans (first (reading_refusal r.page source ∷ projection_refusal table.schema r.page source ∷ []))
-        (Invalid (invalid.NotProjected name))
-        (λ i. first (sym readable i ∷ option_map (λ name. Invalid (invalid.NotProjected name)) (is i) ∷ [])) told
-
-    module _ (projected : unprojected table.schema source r.page.projection ≡ None) where
-      scans : Scans → IsScannedFrom table r source reply
-      scans p =
-          unless_none reply Scans (first (reading_refusal r.page source ∷ projection_refusal table.schema r.page source ∷ []))
-          (λ i. first (sym readable i ∷ option_map (λ name. Invalid (invalid.NotProjected name)) (projected i) ∷ [])) p
-
-      pub scan_no_start : (why : Refusal) → Err why ≡ start_of table.schema source (is_in_segment r.segment) r.page.start → reply ≡ answer.Refused why
-          → IsScannedFrom table r source reply
-      scan_no_start why is told =
-          scans
-          (subst (λ start. IsRefusedOr start reply
-          (λ start. IsPageOf table.schema source r.page true start (scanned r (source_entries table source)) reply)) is told)
-
-      pub scan_read : (start : Option Position) → Ok start ≡ start_of table.schema source (is_in_segment r.segment) r.page.start
-          → IsPageOf table.schema source r.page true start (scanned r (source_entries table source)) reply → IsScannedFrom table r source reply
-      scan_read start is read =
-          scans
-          (subst (λ start. IsRefusedOr start reply
-          (λ start. IsPageOf table.schema source r.page true start (scanned r (source_entries table source)) reply)) is read)
+  -- what a Scan is answered that begins so, or is refused
+  pub scan_begun : (begun : Result (Option Position) Refusal) → begun ≡ scan_start table.schema r source → IsRefusedOr begun reply IsScanned
+      → IsScannedFrom table r source reply
+  scan_begun begun is told =
+      unless reply IsScanned (first (reading_refusal r.page source ∷ projection_refusal table.schema r.page source ∷ []))
+      (start_of table.schema source (is_in_segment r.segment) r.page.start)
+      (subst (λ found. IsRefusedOr found reply IsScanned) is told)
 
 -- ---- what is read
 

@@ -1,15 +1,12 @@
 -- What a call on one table says of its reply.
 use Rattle.std.specs.Prelude.{ℕ, true, Option}
-use Rattle.expr_words.specs.Trees.{tree}
-use Rattle.key_condition.specs.Law.{HasKeysWhereTrue}
-use Rattle.key_condition.specs.declared.key_range.KeyRange.{KeyRange}
 use Rattle.row_keys.specs.declared.position.Position.{Position}
 use Rattle.table_request.specs.declared.pages.Query.{Query}
 use Rattle.table_request.specs.declared.pages.Scan.{Scan}
 use Rattle.table_rows.specs.View.{TableView}
 use Rattle.table_model.specs.declared.reply.Reply.{Reply}
 use Rattle.table_model.specs.declared.reply.Reply.TheVariants as answer
-use Rattle.table_model.specs.Pages.{Source, source_of, source_keys, source_entries, queried, scanned, IsPageOf, IsFrom, IsQueriedFrom, IsScannedFrom}
+use Rattle.table_model.specs.Pages.{Source, source_of, source_entries, queried, scanned, IsPageOf, IsFrom, IsQueriedFrom, IsScannedFrom}
 use Rattle.table_items.specs.Effects.{table_at}
 
 -- the reply is what a Query of the table that is kept like this is answered, whatever its number
@@ -30,11 +27,6 @@ looked (answer.Page page consumed) = page.scanned
 looked reply = 0
 
 -- ---- what inner steps say
-
--- the range is that of the key condition
-abbrev pub HasRange : TableView → Query → Source → KeyRange → Type 0
-HasRange kept r source range =
-    HasKeysWhereTrue kept.schema (source_keys kept.schema source) r.page.values (tree r.key_condition) range
 
 -- the reply is the page of a Query of a source from behind a position on
 abbrev pub IsQueryPage : TableView → Query → Source → Option Position → Reply → Type 0

@@ -3,13 +3,11 @@
 ghost use Rattle.std.specs.Prelude.{◌≡◌, ◌+◌, ◌≤◌, [], IfOk};
 ghost use Rattle.std.specs.Option.{option_copied, option_map, ForSome};
 ghost use Rattle.table_model.specs.Pages.{whole_table};
-ghost use Rattle.table_pages.specs.Sources.{source_in, HasNumber, IsNumber};
-ghost use Rattle.table_pages.specs.Filled.{IsPageIn, IsPageBetween, IsStart};
+ghost use Rattle.page_reads.specs.Sources.{source_in, HasNumber, IsNumber};
+ghost use Rattle.table_pages.specs.Ranges.{IsPageIn, IsPageBetween, IsStart};
 
-use crate::fill::{Filled, fill, nothing_filled};
-use crate::row::Sight;
-use crate::source::Source;
 use page_ranges::{PositionSpan, Span, from_low, up_to_high};
+use page_reads::{Filled, Sight, Source, fill, nothing_filled};
 use paging::Steps;
 use row_keys::{Position, RowKey};
 use std::alloc::{AllocError as NoMemory, Global};

@@ -3,19 +3,17 @@
 ghost use Rattle.std.specs.Prelude.{◌≡◌, ◌+◌, ◌≤◌, ℕ, [], IfOk};
 ghost use Rattle.std.specs.Option.{option_copied};
 ghost use Rattle.table_items.specs.Effects.{table_at};
-ghost use Rattle.table_model.specs.Pages.{IsQueriedIn, IsQueriedFrom};
+ghost use Rattle.table_model.specs.Pages.{IsQueriedFrom};
 ghost use Rattle.page_ranges.specs.AtKeys.{AreAtKeys};
-ghost use Rattle.table_pages.specs.Asked.{IsQueryOf, IsQueryPage, HasRange, looked};
-ghost use Rattle.table_pages.specs.Filled.{IsStart};
-ghost use Rattle.table_pages.specs.Sources.{source_in, HasNumber};
+ghost use Rattle.page_reads.specs.Sources.{source_in, HasNumber};
+ghost use Rattle.page_reads.specs.Starts.{HasRange};
+ghost use Rattle.table_pages.specs.Asked.{IsQueryOf, IsQueryPage, looked};
+ghost use Rattle.table_pages.specs.Ranges.{IsStart};
 
 use crate::page::Reading;
-use crate::refused::{invalid, reading_refusal, unprojected};
-use crate::root::named_key;
-use crate::source::{Source, index_named};
-use crate::start::{Start, Within, start_of};
-use key_condition::{KeyRange, RangeEnd, range};
+use key_condition::KeyRange;
 use page_ranges::Span;
+use page_reads::{QueryStart, Source, index_named, invalid, query_start};
 use paging::Steps;
 use row_keys::Position;
 use std::alloc::{AllocError as NoMemory, Global};
@@ -38,7 +36,7 @@ fn page_of<'a, L: Ledger>(
     requires keyed { AreAtKeys rows.now.schema rows.now.rows }
     requires number { HasNumber rows.now.schema source }
     requires start { IsStart (source_in source) (option_copied start) }
-    requires truth { HasRange rows.now request.now (source_in source) range.now }
+    requires truth { HasRange rows.now.schema request.now (source_in source) range.now }
     ensures reply { IfOk result (IsQueryPage rows.now request.now (source_in source.entry) (option_copied start.entry)) }
     ensures cost { IfOk result (λ reply. steps.new ≤ steps.old + looked reply + 1) }
 {
@@ -52,42 +50,6 @@ fn page_of<'a, L: Ledger>(
     };
     let filled = reading.page_in(alloc, span, steps)?;
     filled.told(&request.page)
-}
-
-/// A Query of a source whose key condition has this range.
-fn query_in<L: Ledger>(
-    rows: &TableRows,
-    alloc: Global,
-    request: &Query,
-    source: Source<'_>,
-    range: &KeyRange,
-    steps: &mut Steps<L>,
-) -> Result<Reply, NoMemory>
-    requires idle { rows.now.pending ≡ [] }
-    requires keyed { AreAtKeys rows.now.schema rows.now.rows }
-    requires number { HasNumber rows.now.schema source }
-    requires truth { HasRange rows.now request.now (source_in source) range.now }
-    ensures reply { IfOk result (λ reply. (number : ℕ) → IsQueriedIn (table_at number rows.now) request.now (source_in source.entry) range.now reply) }
-    ensures cost { IfOk result (λ reply. steps.new ≤ steps.old + looked reply + 1) }
-{
-    let schema = rows.schema();
-    let page = &request.page;
-    if let Some(name) = named_key(alloc, page.filter.as_ref(), source.keys(schema))? {
-        return Ok(invalid(Invalid::FilterOfKey(name.try_clone()?)));
-    }
-    if let Some(name) = unprojected(alloc, schema, source, page.projection.as_ref())? {
-        return Ok(invalid(Invalid::NotProjected(name)));
-    }
-    let within = Within::Partition(&range.partition);
-    match start_of(alloc, schema, source, within, page.start.as_ref())? {
-        Start::Invalid => Ok(invalid(Invalid::StartKey)),
-        Start::First => page_of(rows, alloc, request, source, range, None, steps),
-        Start::Behind(at) => {
-            let reply = page_of(rows, alloc, request, source, range, Some(&at), steps);
-            drop(at);
-            reply
-        }
-    }
 }
 
 /// A Query of a source.
@@ -104,25 +66,14 @@ fn query_from<L: Ledger>(
     ensures reply { IfOk result (λ reply. (number : ℕ) → IsQueriedFrom (table_at number rows.now) request.now (source_in source.entry) reply) }
     ensures cost { IfOk result (λ reply. steps.new ≤ steps.old + looked reply + 1) }
 {
-    let schema = rows.schema();
-    if let Some(why) = reading_refusal(&request.page, source) {
-        return Ok(invalid(why));
-    }
-    let values = &request.page.values;
-    match range(
-        alloc,
-        &request.key_condition,
-        values,
-        schema,
-        source.keys(schema),
-    ) {
-        Ok(range) => {
-            let reply = query_in(rows, alloc, request, source, &range, steps);
-            drop(range);
+    match query_start(alloc, rows.schema(), request, source)? {
+        Err(why) => Ok(invalid(why)),
+        Ok(begun) => {
+            let QueryStart { range, start } = &begun;
+            let reply = page_of(rows, alloc, request, source, range, start.as_ref(), steps);
+            drop(begun);
             reply
         }
-        Err(RangeEnd::Fault(fault)) => Ok(invalid(Invalid::KeyCondition(fault))),
-        Err(RangeEnd::NoMemory) => Err(NoMemory),
     }
 }
 

@@ -6,31 +6,18 @@ ghost use Rattle.table_items.specs.Effects.{table_at};
 ghost use Rattle.table_model.specs.Pages.{IsScannedFrom};
 ghost use Rattle.page_ranges.specs.AtKeys.{AreAtKeys};
 ghost use Rattle.table_pages.specs.Asked.{IsScanOf, IsScanPage, looked};
-ghost use Rattle.table_pages.specs.Filled.{IsStart, HasSegment};
-ghost use Rattle.table_pages.specs.Sources.{source_in, HasNumber};
+ghost use Rattle.table_pages.specs.Ranges.{IsStart};
+ghost use Rattle.page_reads.specs.Sources.{source_in, HasNumber};
 
 use crate::page::Reading;
-use crate::refused::{invalid, reading_refusal, unprojected};
-use crate::source::{Source, index_named};
-use crate::start::{Start, Within, start_of};
-use page_ranges::Span;
+use page_reads::{Source, index_named, invalid, scan_span, scan_start};
 use paging::Steps;
 use row_keys::Position;
 use std::alloc::{AllocError as NoMemory, Global};
 use std::sync::ledger::Ledger;
 use table_model::{Invalid, Reply};
-use table_request::{Scan, Segment};
+use table_request::Scan;
 use table_rows::TableRows;
-
-/// The keys at the places of a segment, or all.
-fn span_of(alloc: Global, segment: Option<Segment>) -> Result<Span, NoMemory>
-    ensures { IfOk result (HasSegment segment) }
-{
-    match segment {
-        Some(part) => Span::of_segment(alloc, part.segment, part.total),
-        None => Ok(Span::all()),
-    }
-}
 
 /// The page of the rows of a source, or of a segment of it, from behind a position on.
 fn page_of<'a, L: Ledger>(
@@ -48,7 +35,7 @@ fn page_of<'a, L: Ledger>(
     ensures reply { IfOk result (IsScanPage rows.now request.now (source_in source.entry) (option_copied start.entry)) }
     ensures cost { IfOk result (λ reply. steps.new ≤ steps.old + looked reply + 1) }
 {
-    let span = span_of(alloc, request.segment)?;
+    let span = scan_span(alloc, request.segment)?;
     let reading = Reading {
         rows,
         request: &request.page,
@@ -74,21 +61,11 @@ fn scan_from<L: Ledger>(
     ensures reply { IfOk result (λ reply. (number : ℕ) → IsScannedFrom (table_at number rows.now) request.now (source_in source.entry) reply) }
     ensures cost { IfOk result (λ reply. steps.new ≤ steps.old + looked reply + 1) }
 {
-    let schema = rows.schema();
-    let page = &request.page;
-    if let Some(why) = reading_refusal(page, source) {
-        return Ok(invalid(why));
-    }
-    if let Some(name) = unprojected(alloc, schema, source, page.projection.as_ref())? {
-        return Ok(invalid(Invalid::NotProjected(name)));
-    }
-    let within = Within::Segment(request.segment);
-    match start_of(alloc, schema, source, within, page.start.as_ref())? {
-        Start::Invalid => Ok(invalid(Invalid::StartKey)),
-        Start::First => page_of(rows, alloc, request, source, None, steps),
-        Start::Behind(at) => {
-            let reply = page_of(rows, alloc, request, source, Some(&at), steps);
-            drop(at);
+    match scan_start(alloc, rows.schema(), request, source)? {
+        Err(why) => Ok(invalid(why)),
+        Ok(start) => {
+            let reply = page_of(rows, alloc, request, source, start.as_ref(), steps);
+            drop(start);
             reply
         }
     }

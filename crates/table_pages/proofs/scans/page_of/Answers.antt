@@ -7,8 +7,8 @@ use Rattle.row_keys.specs.Rows.{Entries}
 use Rattle.table_items.specs.Effects.{table_at}
 use Rattle.table_model.specs.Pages.{source_entries, scanned}
 use Rattle.table_pages.specs.Asked.{looked}
-use Rattle.table_pages.specs.Filled.{IsFilled}
-use Rattle.table_pages.specs.Sources.{source_in}
+use Rattle.page_reads.specs.Filled.{IsFilled}
+use Rattle.page_reads.specs.Sources.{source_in}
 use Rattle.table_pages.proofs.Ranged.{scanned_are}
 use Rattle.table_pages.proofs.Replies.{page_is}
 use Rattle.table_pages.proofs.scans.page_of.Goals as goal

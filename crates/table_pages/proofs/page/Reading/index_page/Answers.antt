@@ -6,7 +6,7 @@ use Rattle.std.proofs.lemmas.Result.{IfOk-weaker}
 use Rattle.row_keys.specs.Keys.{position_order}
 use Rattle.row_keys.specs.Rows.{index_of}
 use Rattle.page_ranges.specs.Span.{low_end, high_end}
-use Rattle.table_pages.specs.Sources.{source_in}
+use Rattle.page_reads.specs.Sources.{source_in}
 use Rattle.table_pages.proofs.Ranged.{numbered, index_filled}
 use Rattle.table_pages.proofs.page.Reading.index_page.Goals as goal
 

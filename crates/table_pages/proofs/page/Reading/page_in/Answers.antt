@@ -4,8 +4,9 @@ use Rattle.std.proofs.lemmas.Result.{IfOk-weaker}
 use Rattle.row_keys.specs.Rows.{Entries}
 use Rattle.table_items.specs.Effects.{table_at}
 use Rattle.table_model.specs.Pages.{Source}
-use Rattle.table_pages.specs.Filled.{IsFilled, rows_in}
-use Rattle.table_pages.specs.Sources.{source_in}
+use Rattle.page_reads.specs.Filled.{IsFilled}
+use Rattle.table_pages.specs.Ranges.{rows_in}
+use Rattle.page_reads.specs.Sources.{source_in}
 use Rattle.table_pages.proofs.Ranged.{none_at_zero, positions_are}
 use Rattle.table_pages.proofs.page.Reading.page_in.Goals as goal
 

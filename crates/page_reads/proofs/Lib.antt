@@ -1,0 +1,3 @@
+pub mod Filling
+pub mod Chosen
+pub mod Begun

@@ -1,4 +1,0 @@
-use Rattle.table_pages.proofs.fill.nothing_filled.Goals as goal
-
-pub returns : goal.returns
-returns c = λ schema source i. record { page = c.empty_page.ensures schema source i; bytes = 0 }

@@ -1,7 +1,0 @@
-use Rattle.std.proofs.Common.{◌≡◌, drop}
-use Rattle.table_pages.specs.Names.{is_named, first_unnamed}
-use Rattle.table_pages.proofs.refused.first_unkept.Given as goal
-
-abbrev pub invariant-loop-path : goal.invariant-loop-path
-invariant-loop-path l =
-    first_unnamed (is_named l.names) (drop l.path-index l.paths) ≡ first_unnamed (is_named l.names) l.paths
