@@ -5,3 +5,4 @@ pub mod Reading
 pub mod Pushing
 pub mod Repeats
 pub mod Writing
+pub mod Schemas

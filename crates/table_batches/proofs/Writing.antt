@@ -86,7 +86,7 @@ has_none (Some table) is = absurd (cc)
 
 -- ---- one write
 
-key_by : (table other : Table) (write : WriteRequest) → table.schema ≡ other.schema → write_key table write ≡ write_key other write
+pub key_by : (table other : Table) (write : WriteRequest) → table.schema ≡ other.schema → write_key table write ≡ write_key other write
 key_by table other (Put item) same = ap (λ (s : Schema). key_in s s.keys item) same
 key_by table other (Delete key) same = ap (λ (s : Schema). key_alone s s.keys key) same
 

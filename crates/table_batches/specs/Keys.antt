@@ -1,6 +1,6 @@
 -- The keys of a request, up to the first fault of one.
 use Rattle.std.specs.Prelude.{◌≡◌, List, [], ◌∷◌, ◌++◌, map, filter_map, Bool, Option, Result, Ok, Err}
-use Rattle.std.specs.List.{list_any, flat_map}
+use Rattle.std.specs.List.{AllZip, list_any, flat_map}
 use Rattle.item_keys.specs.declared.fault.KeyFault.{KeyFault}
 use Rattle.item_keys.specs.declared.key.Key.{Key}
 use Rattle.row_keys.specs.declared.row_key.RowKey.{RowKey}
@@ -26,6 +26,16 @@ gathered (Err fault ∷ keys) = Err fault
 abbrev pub AreAsked : List (Result Key KeyFault) → Result (Unit {0}) KeyFault → Type 0 → Type 0
 AreAsked asked (Ok done) Holds = (keys : List RowKey) × (gathered asked ≡ Ok keys) × Holds
 AreAsked asked (Err fault) Holds = gathered asked ≡ Err fault
+
+-- these are the keys of the rows of each part of a request, of which none has a fault
+abbrev pub AreKeysOf : {T : Type 0} → (T → List (Result Key KeyFault)) → List T → List (List RowKey) → Type 0
+AreKeysOf keys_of ts all = AllZip (λ t keys. gathered (keys_of t) ≡ Ok keys) ts all
+
+-- those of one part more stand behind the others, and it is told whether one of them stands twice; or the first fault of one
+abbrev pub ArePushed : List (Result Key KeyFault) → Result Bool KeyFault → List (List RowKey) → List (List RowKey) → Type 0
+ArePushed asked (Ok twice) old new =
+    (keys : List RowKey) × (gathered asked ≡ Ok keys) × (twice ≡ has_twice keys) × (new ≡ old ++ keys ∷ [])
+ArePushed asked (Err fault) old new = gathered asked ≡ Err fault
 
 -- the same, and whether one of them stands twice
 abbrev pub IsAsked : List (Result Key KeyFault) → Result Bool KeyFault → Type 0 → Type 0

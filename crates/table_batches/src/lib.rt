@@ -13,13 +13,16 @@
 
 mod asked;
 mod change;
+mod check;
 mod fit;
 mod keys;
 mod missing;
+mod part;
 mod read;
 mod unread;
 mod used;
 mod write;
 
-pub use read::batch_get;
+pub use part::{Checked, OnTable};
+pub use read::{batch_get, told_batch};
 pub use write::batch_write;

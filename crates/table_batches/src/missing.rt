@@ -1,41 +1,16 @@
 //! Tables that requests name.
 
-ghost use Rattle.std.specs.Prelude.{◌≡◌, ℕ, List, map, IfOk};
+ghost use Rattle.std.specs.Prelude.{◌≡◌, map, IfOk};
 ghost use Rattle.table_model.specs.Database.{first};
 ghost use Rattle.table_model.specs.Batches.{missing};
 ghost use Rattle.table_batches.specs.Answers.{tables_alone};
 
+use crate::part::OnTable;
 use base_types::Text;
 use numbered_tables::NumberedTable;
 use std::alloc::AllocError as NoMemory;
 use std::collections::BTreeMap;
 use table_model::Refusal;
-use table_request::{TableKeys, TableWrites};
-
-/// A part of a request that is on one table.
-pub(crate) trait OnTable {
-    ghost table_of: { Self → List ℕ };
-
-    /// The name of the table.
-    fn table(&self) -> &Text
-        ensures { result.now ≡ table_of self.now };
-}
-
-impl OnTable for TableKeys {
-    ghost table_of = { λ t. t.table };
-
-    fn table(&self) -> &Text {
-        &self.table
-    }
-}
-
-impl OnTable for TableWrites {
-    ghost table_of = { λ t. t.table };
-
-    fn table(&self) -> &Text {
-        &self.table
-    }
-}
 
 /// The refusal of the first table that is not there, if one is not.
 pub(crate) fn missing<T: OnTable>(

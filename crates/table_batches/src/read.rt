@@ -144,8 +144,9 @@ fn used_if(
     Ok(Some(used(alloc, requests, items)?))
 }
 
-/// The answer to a request for these items.
-fn read(
+/// The answer to a request for these items, which are those of its keys from the first on, as many as are read and one more
+/// where that one has no room.
+pub fn told_batch(
     alloc: Global,
     requests: Seq<TableKeys>,
     capacity: bool,
@@ -181,7 +182,7 @@ pub fn batch_get(
         capacity,
     } = request;
     match asked_items(tables, alloc, requests.as_slice())? {
-        Ok(items) => read(alloc, requests, capacity, items.as_slice()),
+        Ok(items) => told_batch(alloc, requests, capacity, items.as_slice()),
         Err(refusal) => {
             drop(requests);
             Ok(Reply::Refused(refusal))

@@ -31,8 +31,8 @@ struct Place {
     key: RowKey,
 }
 
-/// The first table that is not there, refused.
-fn missing_table(
+/// The first table that is not there, refused. `NoMemory` is for want of memory.
+pub fn missing_table(
     tables: &BTreeMap<Text, NumberedTable>,
     actions: &[TransactAction],
 ) -> Result<Option<Refusal>, NoMemory>
@@ -182,8 +182,8 @@ fn fit(
 }
 
 /// The actions with their numbers and keys, or the first refusal of the request: of a table, of a key, of an item that
-/// stands twice, of an update of a key attribute.
-pub(crate) fn checked(
+/// stands twice, of an update of a key attribute. It is told by the tables' schemas alone. `NoMemory` is for want of memory.
+pub fn checked(
     tables: &BTreeMap<Text, NumberedTable>,
     alloc: Global,
     actions: Seq<TransactAction>,

@@ -9,9 +9,9 @@ use transact_reads::Targeted;
 
 /// An action with the number of its table and the key of its item.
 #[derive(Drop)]
-pub(crate) struct Aimed {
-    pub(crate) key: RowKey,
-    pub(crate) action: NumberedAction,
+pub struct Aimed {
+    pub key: RowKey,
+    pub action: NumberedAction,
 }
 
 impl Targeted for Aimed {

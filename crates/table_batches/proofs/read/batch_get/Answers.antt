@@ -11,7 +11,7 @@ returns-in-Ok c =
     let r = c.args.request in
     let asked = rw c.in-Ok.is at c.in_ok-items.ensures in
     let lent = c.as_slice-in-Ok.ensures.value in
-    IfOk-weaker c.read.result _ _
+    IfOk-weaker c.told_batch.result _ _
     (λ reply told. answered es r (map option_copied c.in-Ok.items.items) c.as_slice.result.now reply c.as_slice.ensures asked.0 asked.1
     (told ∙ ap (λ found. read_of r.capacity r.tables (map option_copied found)) lent))
-    c.read.ensures
+    c.told_batch.ensures

@@ -5,7 +5,7 @@ use Rattle.table_model.specs.declared.reply.Reply.TheVariants.{BatchRead}
 use Rattle.table_model.specs.Batches.{unread}
 use Rattle.table_model.specs.Consumed.{where_asked}
 use Rattle.table_batches.specs.Reads.{found_among, used_among}
-use Rattle.table_batches.proofs.read.read.Goals as goal
+use Rattle.table_batches.proofs.read.told_batch.Goals as goal
 
 pub returns : goal.returns
 returns c =
