@@ -5,6 +5,7 @@ ghost use Rattle.ddb_outside.specs.Causes.{Rose};
 ghost use Rattle.ddb_server.specs.Programs.{Runs, RunsSession, RefusesWords, outside, session_status, usage};
 ghost use Rattle.ddb_server.specs.Served.{RunsListener, serve_status};
 
+use base_types::Seq;
 use command_words::{Command, WordsEnd, command};
 use ddb_outside::{Clock, Failed, Listener, Sink, Source, write_all};
 use http_front::Reader;
@@ -122,7 +123,16 @@ where
     if listener.bind(port).is_err() {
         return 4;
     }
-    let end = serve_all(rt, alloc, &service, &mut passes, clock, listener);
+    let mut helpers = Seq::new(alloc);
+    let end = serve_all(
+        rt,
+        alloc,
+        &service,
+        &mut passes,
+        &mut helpers,
+        clock,
+        listener,
+    );
     service.meet_all(passes.as_mut_slice());
     serve_status(end)
 }

@@ -4,7 +4,7 @@ use base_types::{Bytes, Seq};
 use ddb_outside::{Listener, MemListener, StepClock};
 use http_front::{Message, Reader};
 use http_session::{Answer, Body, Service};
-use http_workers::{ServeEnd, ShareEnd, serve_all, serve_share};
+use http_workers::{Crew, ServeEnd, ShareEnd, serve_all, serve_share};
 use std::alloc::{AllocError as NoMemory, Global};
 use std::sync::Wait;
 use std::test::Fail;
@@ -49,6 +49,20 @@ impl<R> Service<R> for Counter {
     }
 }
 
+impl<R> Crew<R> for Counter {
+    ghost use Rattle.std.specs.Prelude.{◌≡◌};
+
+    type Helper = ();
+
+    ghost suits = { λ service helper. Unit {0} };
+
+    ghost helps = { λ service old new. new ≡ old };
+
+    fn help(&self, _rt: &R, _alloc: Global, _helper: &mut ()) {}
+
+    fn rest(&self, _state: &mut u64) {}
+}
+
 const MESSAGE: &str = "POST / HTTP/1.1\r\nContent-Length: 2\r\n\r\nhi";
 
 /// The first reply of a session without its body.
@@ -57,7 +71,7 @@ const HEAD: &str =
     x-amzn-RequestId: 00000000000000000000000000000001\r\n\r\n";
 
 /// A listener of so many connections with a message each, dealt to two shares, of which so many calls fail from one on.
-fn listener(
+pub fn listener(
     alloc: Global,
     connections: u64,
     first: u64,
@@ -109,7 +123,16 @@ fn run<R: Threads + Wait + Sync>(
 ) -> Result<(ServeEnd, bool), NoMemory> {
     let mut listener = listener(alloc, 6, first, count)?;
     let clock = StepClock::make(0, 1);
-    let end = serve_all(rt, alloc, &Counter, states, &clock, &mut listener);
+    let mut helpers = Seq::new(alloc);
+    let end = serve_all(
+        rt,
+        alloc,
+        &Counter,
+        states,
+        &mut helpers,
+        &clock,
+        &mut listener,
+    );
     Ok((end, are_replies(listener.outputs(), digits)))
 }
 

@@ -1,3 +1,4 @@
 pub mod Connections
 pub mod Workers
+pub mod Seats
 pub mod Parts

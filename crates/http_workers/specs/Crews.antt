@@ -1,5 +1,6 @@
--- All workers of a listener, each with a share: what was served in the end.
-use Rattle.std.specs.Prelude.{◌≡◌, ℕ, ◌<◌, ◌≤◌, List, [], ◌∷◌, ◌++◌, length, drop, Option, None, Some}
+-- All workers of a listener, each with a share: what was served in the end, and what became of those who helped.
+use Rattle.std.specs.Prelude.{◌≡◌, ◌⊎◌, ℕ, ◌<◌, ◌≤◌, List, [], ◌∷◌, ◌++◌, length, drop, Option, None, Some}
+use Rattle.std.specs.List.{AllZip}
 use Rattle.ddb_outside.specs.Listeners.{Connections, first_part, later_parts}
 use Rattle.http_session.specs.Exchanges.{Ways}
 use Rattle.http_workers.specs.declared.serve.ServeEnd.{ServeEnd}
@@ -48,3 +49,9 @@ abbrev pub ServesAll : {S : Type 0} → Ways S → ServeEnd → Option (ℕ → 
     → List S → Type 0
 ServesAll ways end moments None new olds news = new ≡ None
 ServesAll ways end moments (Some old) new olds news = Tells (λ c. ServesParts ways end moments old c olds news) new
+
+-- each helper has helped, by how serving ended; before it began none was called
+abbrev pub AllHelped : {H : Type 0} → (H → H → Type 0) → ServeEnd → List H → List H → Type 0
+AllHelped helps ServeEnd.Done olds news = AllZip helps olds news
+AllHelped helps ServeEnd.NetFault olds news = AllZip helps olds news ⊎ (news ≡ olds)
+AllHelped helps ServeEnd.NoMemory olds news = news ≡ olds

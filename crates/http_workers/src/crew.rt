@@ -1,125 +1,33 @@
-//! The workers of a listener: shares are made and given to them, and come back.
+//! What a service says of the threads that help it.
 
-ghost use Rattle.std.specs.Prelude.{◌≡◌, ◌≤◌, [], length, map, vec_capacity, OnOk};
-ghost use Rattle.ddb_outside.specs.Causes.{HasCause, Rose};
-ghost use Rattle.http_workers.specs.Steps.{MakesShares, AbsorbsShares, HasLentAll, IsCounted, states_of, clocks_of, shares_of, joint_end};
+ghost use Rattle.std.specs.Prelude.{◌≡◌};
 
-use crate::serve::ServeEnd;
-use crate::share::ShareEnd;
-use crate::worker::Worker;
-use ddb_outside::{Failed, Listener};
-use http_front::Reader;
-use std::collections::VecDeque;
+use http_session::Service;
+use std::alloc::Global;
 
-/// Makes so many shares of a listener. [`Failed`] comes where one was refused, and then those before it stand in `shares`.
-pub fn make_shares<L: Listener + Drop>(
-    listener: &mut L,
-    shares: &mut Vec<L>,
-    count: usize,
-) -> Result<(), Failed>
-    requires empty { shares.old.items ≡ [] }
-    requires room { count ≤ vec_capacity shares.old }
-    ensures made { MakesShares L.connections (L.connections listener.old) (L.connections listener.new) shares.new.items }
-    ensures all { OnOk result (length shares.new.items ≡ count) }
-    ensures few { length shares.new.items ≤ count }
-    ensures cause { HasCause (L.faults listener.old) (L.faults listener.new) result }
-    ensures ends { L.ends listener.old ≤ L.ends listener.new }
-{
-    for _ in 0..count {
-        let share = listener.share()?;
-        let Ok(()) = shares.push(share) else {
-            unreachable!()
-        };
-    }
-    Ok(())
-}
+/// A service with helpers, which run beside the workers that serve its connections, each in a thread of its own.
+///
+/// A helper may wait for what the workers' sessions hand to it. Serving ends with its last thread, so a helper has to end once
+/// every worker's state was brought to rest and nothing will be handed to it any more. It may not wait for another helper, nor a
+/// session for a helper.
+pub trait Crew<R>: Service<R> {
+    /// What a helper works with and keeps.
+    type Helper;
 
-/// Takes shares back, in order.
-pub fn take_back<L: Listener + Drop>(listener: &mut L, shares: Vec<L>)
-    requires { HasLentAll (L.connections listener.old) (map L.connections shares.items) }
-    ensures absorbed { AbsorbsShares L.connections (L.connections listener.old) (L.connections listener.new) shares.items }
-    ensures faults { L.faults listener.old ≤ L.faults listener.new }
-    ensures ends { L.ends listener.old ≤ L.ends listener.new }
-    ensures share_faults { IsCounted L.faults shares.items → Rose (L.faults listener.old) (L.faults listener.new) }
-    ensures share_ends { IsCounted L.ends shares.items → Rose (L.ends listener.old) (L.ends listener.new) }
-{
-    let mut left = VecDeque::from(shares);
-    while let Some(share) = left.pop_front() {
-        listener.absorb(share);
-    }
-}
+    // The helpers that may help the service.
+    ghost suits: { Self → Self.Helper → Type 0 };
 
-/// Gives each worker a state, a clock, a share and a reader, in order.
-pub fn gather<S: Drop, C: Drop, L: Drop>(
-    states: Vec<S>,
-    clocks: Vec<C>,
-    shares: Vec<L>,
-    readers: Vec<Reader>,
-    workers: &mut Vec<Worker<S, C, L>>,
-)
-    requires clocks { length clocks.items ≡ length states.items }
-    requires shares { length shares.items ≡ length states.items }
-    requires readers { length readers.items ≡ length states.items }
-    requires empty { workers.old.items ≡ [] }
-    requires room { length states.items ≤ vec_capacity workers.old }
-    ensures states { states_of workers.new.items ≡ states.items }
-    ensures clocks { clocks_of workers.new.items ≡ clocks.items }
-    ensures shares { shares_of workers.new.items ≡ shares.items }
-{
-    let mut states = VecDeque::from(states);
-    let mut clocks = VecDeque::from(clocks);
-    let mut shares = VecDeque::from(shares);
-    let mut readers = readers;
-    while let Some(state) = states.pop_front() {
-        let (Some(clock), Some(share), Some(reader)) = (
-            clocks.pop_front(),
-            shares.pop_front(),
-            readers.pop(),
-        ) else {
-            unreachable!()
-        };
-        let Ok(()) = workers.push(Worker {
-            state,
-            reader,
-            clock,
-            share,
-            end: ShareEnd::Done,
-        }) else {
-            unreachable!()
-        };
-    }
-}
+    // What a helper has become by helping the service.
+    ghost helps: { Self → Self.Helper → Self.Helper → Type 0 };
 
-/// How serving ended, by how the workers did.
-pub fn end_of<S, C, L>(workers: &[Worker<S, C, L>]) -> ServeEnd
-    ensures { result ≡ joint_end workers.now }
-{
-    if workers
-        .iter()
-        .any(|worker| worker.end == ShareEnd::NetFault)
-    {
-        return ServeEnd::NetFault;
-    }
-    ServeEnd::Done
-}
+    /// Does all that a helper does while connections are served.
+    fn help(&self, rt: &R, alloc: Global, helper: &mut Self::Helper)
+        requires { suits self.now helper.old }
+        ensures { helps self.now helper.old helper.new };
 
-/// Takes states and shares from workers, in order.
-pub fn disband<S: Drop, C: Drop, L: Drop>(
-    workers: Vec<Worker<S, C, L>>,
-    states: &mut Vec<S>,
-    shares: &mut Vec<L>,
-)
-    requires no_states { states.old.items ≡ [] }
-    requires no_shares { shares.old.items ≡ [] }
-    requires room_for_states { length workers.items ≤ vec_capacity states.old }
-    requires room_for_shares { length workers.items ≤ vec_capacity shares.old }
-    ensures states { states.new.items ≡ states_of workers.items }
-    ensures shares { shares.new.items ≡ shares_of workers.items }
-{
-    let mut workers = VecDeque::from(workers);
-    while let Some(worker) = workers.pop_front() {
-        let (Ok(()), Ok(())) = (states.push(worker.state), shares.push(worker.share)) else {
-            unreachable!()
-        };
-    }
+    /// Brings a state to rest whose worker serves no connection any more, before that worker's thread ends: what helpers wait
+    /// on, as the sending half of a channel, is let go of here.
+    fn rest(&self, state: &mut Self::State)
+        requires { Self.fits self.now state.old }
+        ensures { state.new ≡ state.old };
 }

@@ -17,6 +17,7 @@ use api_request::RequestEnd;
 use base_types::Seq;
 use http_front::Message;
 use http_session::{Answer, Service};
+use http_workers::Crew;
 use request_history::{OneStore, SharedStore, StepError};
 use std::alloc::{AllocError as NoMemory, Global};
 use std::marker::Model;
@@ -114,6 +115,21 @@ impl<R: Wait> Service<R> for TableService {
             Err(RequestEnd::NoMemory) => memory_error(),
         }
     }
+}
+
+impl<R: Wait> Crew<R> for TableService {
+    ghost use Rattle.std.specs.Prelude.{◌≡◌};
+
+    /// One store has nothing that a helper could do.
+    type Helper = ();
+
+    ghost suits = { λ service helper. Unit {0} };
+
+    ghost helps = { λ service old new. new ≡ old };
+
+    fn help(&self, _rt: &R, _alloc: Global, _helper: &mut ()) {}
+
+    fn rest(&self, _pass: &mut Pass<OneStore<Tables>>) {}
 }
 
 /// The request that a message states. Where its body is large, it is read once no other large body is.

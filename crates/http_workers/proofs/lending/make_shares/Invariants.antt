@@ -1,6 +1,6 @@
 use Rattle.std.proofs.Common.{◌≡◌, ◌≤◌, length, vec_capacity}
 use Rattle.http_workers.specs.Steps.{MakesShares}
-use Rattle.http_workers.proofs.crew.make_shares.Given as goal
+use Rattle.http_workers.proofs.lending.make_shares.Given as goal
 
 abbrev pub invariant-loop : goal.invariant-loop
 invariant-loop g l = record {

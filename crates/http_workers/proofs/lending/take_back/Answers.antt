@@ -2,7 +2,7 @@ use Rattle.std.proofs.Common.{◌⊎◌, map, sym, subst, arith}
 use Rattle.ddb_outside.specs.Causes.{Rose}
 use Rattle.http_workers.specs.Steps.{AbsorbsShares, HasLentAll, IsCounted}
 use Rattle.http_workers.proofs.Workers.{lent_first, lent_others, counted_on}
-use Rattle.http_workers.proofs.crew.take_back.Goals as goal
+use Rattle.http_workers.proofs.lending.take_back.Goals as goal
 
 pub absorb-requires : goal.absorb-requires
 absorb-requires g c = record {

@@ -1,7 +1,7 @@
 use Rattle.std.proofs.Common.{◌∷◌, [], ◌+◌, ◌∙◌, ap, sym, subst, arith, length, length-append}
 use Rattle.http_workers.specs.Steps.{MakesShares}
 use Rattle.http_workers.proofs.Workers.{made_more, made_kept}
-use Rattle.http_workers.proofs.crew.make_shares.Goals as goal
+use Rattle.http_workers.proofs.lending.make_shares.Goals as goal
 
 pub returns-in_err-share-clause-made : goal.returns-in_err-share-clause-made
 returns-in_err-share-clause-made g c =

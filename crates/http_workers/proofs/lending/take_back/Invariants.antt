@@ -2,7 +2,7 @@ use Rattle.std.proofs.Common.{◌≤◌, ◌⊎◌, Option, length, map}
 use Rattle.ddb_outside.specs.Causes.{Rose}
 use Rattle.ddb_outside.specs.Listeners.{Connections}
 use Rattle.http_workers.specs.Steps.{AbsorbsShares, HasLentAll, IsCounted}
-use Rattle.http_workers.proofs.crew.take_back.Given as goal
+use Rattle.http_workers.proofs.lending.take_back.Given as goal
 
 abbrev pub decreases-loop-share : goal.decreases-loop-share
 decreases-loop-share g l = length l.left.items
