@@ -1,8 +1,9 @@
 //! What a call asks of the cells, one message each.
 
-ghost use Rattle.std.specs.Prelude.{◌≡◌, ℕ, IfOk, IfErr};
+ghost use Rattle.std.specs.Prelude.{◌≡◌, ◌<◌, ℕ, IfOk, IfErr};
 ghost use Rattle.turnstile.specs.Passes.{PassView};
 ghost use Rattle.txn_core.specs.declared.message.Message.{Message};
+ghost use Rattle.cell_model.specs.Keys.{cell_at, place_of};
 ghost use Rattle.cell_model.specs.declared.question.CatalogQuestion.TheVariants.{Look, Names, Page};
 ghost use Rattle.table_history.specs.Entries.{TableEvent};
 ghost use Rattle.cell_asks.specs.Steps.{One, Stops};
@@ -73,6 +74,15 @@ pub trait Asks {
 
     /// The allocator.
     fn alloc(&self) -> Global;
+
+    /// The number of partitions.
+    fn partitions(&self) -> u32
+        ensures { result ≡ count self.now };
+
+    /// The partition of an item, or of a row of an index.
+    fn cell_of(&self, key: &CellKey) -> u32
+        ensures cell { result ≡ cell_at (count self.now) (place_of key.now) }
+        ensures partition { result < count self.now };
 
     /// The moment of a pass, in microseconds.
     fn moment(&self, pass: &Self::Pass) -> u64

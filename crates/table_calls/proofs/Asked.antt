@@ -40,7 +40,7 @@ module _ (n : ℕ) (p : PassView TableEvent) (q : PassView TableEvent) where
       let mine = renamed asked r.table told same own in record {
         told = told;
         own = mine;
-        is = λ db stands. answered_in db r.table (λ s. model.Table s) told reply (sees r.table told mine db stands) is;
+        is = λ db stands. answered_in db r.table (λ s. model.Table s) told reply (sees n p q r.table told mine db stands) is;
       }
 
   pub describes_ttl : (r : DescribeTimeToLive) (asked : List ℕ) (told : Option TableLook) (reply : Reply) → asked ≡ r.table
@@ -51,5 +51,5 @@ module _ (n : ℕ) (p : PassView TableEvent) (q : PassView TableEvent) where
       let mine = renamed asked r.table told same own in record {
         told = told;
         own = mine;
-        is = λ db stands. answered_in db r.table (λ s. model.TimeToLive s.ttl) told reply (sees r.table told mine db stands) is;
+        is = λ db stands. answered_in db r.table (λ s. model.TimeToLive s.ttl) told reply (sees n p q r.table told mine db stands) is;
       }

@@ -23,6 +23,14 @@ impl<'a, T: Wait> Asks for TableCaller<'a, T> {
         self.caller.alloc()
     }
 
+    fn partitions(&self) -> u32 {
+        self.caller.partitions()
+    }
+
+    fn cell_of(&self, key: &CellKey) -> u32 {
+        self.caller.cell_of(key)
+    }
+
     fn moment(&self, pass: &TablePass) -> u64 {
         pass.moment()
     }
