@@ -1,0 +1,66 @@
+-- What a try comes to, put together from what it found and what it was answered.
+use Rattle.std.proofs.Common.{◌≡◌, ℕ, suc, List, [], ◌∷◌, length, Option, None, Some, reverse, refl, sym, ap, subst, ◌∙◌, inr}
+use Rattle.std.specs.List.{AllZip, flat_map}
+use Rattle.attr_value.specs.Tree.{Attributes}
+use Rattle.turnstile.specs.Passes.{PassView}
+use Rattle.table_request.specs.declared.request.Request.TheVariants as request
+use Rattle.table_request.specs.declared.batches.BatchGet.{BatchGet}
+use Rattle.table_request.specs.declared.batches.TableKeys.{TableKeys}
+use Rattle.table_model.specs.declared.reply.Reply.TheVariants.{Refused}
+use Rattle.table_model.specs.declared.refusal.Refusal.{Refusal}
+use Rattle.table_model.specs.Batches.{asked_keys, batch_get_refusal}
+use Rattle.table_batches.specs.Answers.{tables_alone}
+use Rattle.table_batches.proofs.Reading.{refused_is}
+use Rattle.table_batches.proofs.Schemas.{gets_alike}
+use Rattle.cell_model.specs.declared.key.CellKey.{CellKey}
+use Rattle.table_history.specs.Entries.{TableEvent}
+use Rattle.cell_asks.specs.declared.tried.Tried.{Tried}
+use Rattle.batch_calls.specs.Looks.{RefusedByLooks}
+use Rattle.batch_calls.specs.Singles.{all_gets}
+use Rattle.batch_calls.specs.Batches.{names_read, IsBatchGetTry}
+use Rattle.batch_calls.specs.Tables.{IsFound, LooksRefuse}
+use Rattle.batch_calls.specs.Steps.{GotOrGone, GetsAt, get_tried}
+use Rattle.batch_calls.proofs.Agreed.{all_alike, admits}
+use Rattle.batch_calls.proofs.Places.{all_gets_known}
+use Rattle.batch_calls.proofs.KeysRead.{gots, reads_all}
+use Rattle.batch_calls.proofs.Vain.{looked_asked, vain_behind}
+
+zip_length : {A B : Type 0} (R : A → B → Type 0) (xs : List A) (ys : List B) → AllZip R xs ys → length xs ≡ length ys
+zip_length R [] [] all = refl
+zip_length R [] (y ∷ ys) all = absurd all
+zip_length R (x ∷ xs) [] all = absurd all
+zip_length R (x ∷ xs) (y ∷ ys) all = ap (λ k. suc k) (zip_length R xs ys all.1)
+
+module _ (n : ℕ) (p : PassView TableEvent) (r : BatchGet) where
+  pub gets_refused : (why : Refusal) (q : PassView TableEvent) → LooksRefuse (λ t. t.table) asked_keys batch_get_refusal n p r.tables why q
+      → RefusedByLooks n p (names_read r) (request.BatchGet r) (Refused why) q
+  gets_refused why q refuses = record {
+    told = refuses.given.told;
+    looks = refuses.given.looks;
+    why = why;
+    reply_is = refl;
+    is = λ db agrees.
+        let same = gets_alike (tables_alone refuses.tables) db r.tables
+        (all_alike db refuses.tables (refuses.given.has db agrees) (λ (t : TableKeys). t.table) r.tables (refuses.given.have db agrees)) in
+        sym (refused_is db r why (sym same ∙ refuses.is));
+  }
+
+  pub gets_try : (places : List (List CellKey)) (mid : PassView TableEvent) → IsFound (λ t. t.table) asked_keys batch_get_refusal n p r.tables places mid
+      → (tried : Tried) (q : PassView TableEvent) → GetsAt n mid r places tried q → IsBatchGetTry n p r tried q
+  gets_try places mid found tried q at = subst (λ x. IsBatchGetTry n p r x q) (sym at.is) (by_items at.items at.got)
+    where
+      by_items : (items : Option (List (Option Attributes))) → GotOrGone n mid (flat_map (λ mine. mine) places) items q → IsBatchGetTry n p r (get_tried r items) q
+      by_items None vain = vain_behind n p mid (looked_asked n p (names_read r) mid found.looked) q vain
+      by_items (Some items) got =
+          let known = all_gets_known (reverse mid.front) found.tables found.known r.tables places found.placed in
+          inr (record {
+            mid = mid;
+            looked = found.looked;
+            free =
+                admits (λ (t : TableKeys). t.table) asked_keys (reverse mid.front) found.tables found.known r.tables places found.placed
+                (λ db. batch_get_refusal db r.tables) (λ db alike. gets_alike db (tables_alone found.tables) r.tables alike) found.free;
+            items = items;
+            gets = gots n (all_gets r.tables) mid (flat_map (λ mine. mine) places) items q known got.rows;
+            last = got.last;
+            is = λ more many. reads_all r (flat_map (λ mine. mine) places) items got.ends more (many ∙ zip_length _ (all_gets r.tables) (flat_map (λ mine. mine) places) known);
+          })
