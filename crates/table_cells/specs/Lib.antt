@@ -1,2 +1,3 @@
--- Which answers a message can have.
+-- Read Kinds first: which answers a message can have. Then Visits: what threads do that cells are lent to.
 pub mod Kinds
+pub mod Visits

@@ -1,8 +1,8 @@
 //! Partitions and the control cell of real tables, and who calls on them.
 
-ghost use Rattle.std.specs.Prelude.{◌≡◌, ◌≤◌, IfOk};
+ghost use Rattle.std.specs.Prelude.{◌≡◌, ◌≤◌, All, IfOk};
 ghost use Rattle.turnstile.specs.Passes.{first_passes};
-ghost use Rattle.cluster.specs.Steps.{partitions_of};
+ghost use Rattle.cluster.specs.Steps.{IsAtRest, partitions_of};
 
 use base_types::Seq;
 use cell_rules::TableRules;
@@ -21,6 +21,7 @@ pub struct TableCells {
 
 impl TableCells {
     /// Makes 1 to 64 partitions and a control cell, without a table, and 1 to 64 passes, numbered from 0.
+    #[tactic(auto, using(crate::proofs::Resting::made_rest))]
     pub fn make(
         alloc: Global,
         partitions: u32,
@@ -30,6 +31,7 @@ impl TableCells {
         requires passes { (1 ≤ passes) × (passes ≤ 64) }
         ensures cells { IfOk result (λ made. (partitions_of made.0.cluster ≡ partitions) × (made.0.cluster.passes ≡ passes)) }
         ensures passes { IfOk result (λ made. made.1 ≡ first_passes made.0.cluster.id passes passes) }
+        ensures rest { IfOk result (λ made. All (IsAtRest made.0.cluster) made.1) }
     {
         let (cluster, passes) = Cluster::make(alloc, partitions, passes)?;
         Ok((TableCells { cluster }, passes))
