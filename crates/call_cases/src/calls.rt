@@ -7,6 +7,7 @@ use api_reply::body;
 use api_request::read;
 use cell_asks::{Asks, Looks, StepError, Tried};
 use item_calls::{delete_item, get_item, put_item, update_item};
+use std::alloc::Global;
 use table_calls::{
     create_table, delete_table, describe_table, describe_time_to_live, list_tables, update_table,
     update_time_to_live,
@@ -52,11 +53,22 @@ fn table_reply<C: Asks>(cells: &C, pass: &mut C::Pass, request: Request) -> Resu
     }
 }
 
-/// Whether the reply has this body.
-fn is_text<C: Asks>(cells: &C, reply: &Reply, expected: &str) -> bool {
-    match body(cells.alloc(), reply) {
-        Ok(text) => text.as_str() == expected,
-        Err(_) => false,
+/// The body of the reply to a message on tables; none where the message is none, or was given up.
+pub(crate) fn told<C: Asks>(
+    cells: &C,
+    pass: &mut C::Pass,
+    target: &str,
+    json: &str,
+) -> Option<String>
+    requires fits { C.fits cells.now pass.old }
+    ensures fits { C.fits cells.now pass.new }
+{
+    let Ok(request) = read(cells.alloc(), Some(target.as_bytes()), json.as_bytes()) else {
+        return None;
+    };
+    match table_reply(cells, pass, request) {
+        Ok(reply) => body(cells.alloc(), &reply).ok(),
+        Err(_) => None,
     }
 }
 
@@ -71,16 +83,53 @@ pub(crate) fn is_told<C: Asks>(
     requires fits { C.fits cells.now pass.old }
     ensures fits { C.fits cells.now pass.new }
 {
-    let Ok(request) = read(cells.alloc(), Some(target.as_bytes()), json.as_bytes()) else {
-        return false;
-    };
-    match table_reply(cells, pass, request) {
-        Ok(reply) => is_text(cells, &reply, expected),
-        Err(_) => false,
+    match told(cells, pass, target, json) {
+        Some(text) => text.as_str() == expected,
+        None => false,
     }
 }
 
-/// Whether the reply to a message on one item has this body, at this try.
+/// What is shown at one try of a message on one item.
+#[derive(Drop)]
+pub(crate) enum Shown {
+    /// The body of the reply.
+    Body(String),
+    /// Nothing: it is to be tried again.
+    Again,
+}
+
+/// The body of a reply.
+fn shown_body(alloc: Global, reply: &Reply) -> Option<Shown> {
+    match body(alloc, reply) {
+        Ok(text) => Some(Shown::Body(text)),
+        Err(_) => None,
+    }
+}
+
+/// What is shown at one try of a message on one item; none where the message is none, or was given up.
+pub(crate) fn show<C: Asks>(
+    cells: &C,
+    pass: &mut C::Pass,
+    looks: &mut Looks,
+    target: &str,
+    json: &str,
+) -> Option<Shown>
+    requires fits { C.fits cells.now pass.old }
+    requires told { AreTold (reverse (C.seen pass.old).front) looks.old }
+    ensures fits { C.fits cells.now pass.new }
+    ensures told { AreTold (reverse (C.seen pass.new).front) looks.new }
+{
+    let Ok(request) = read(cells.alloc(), Some(target.as_bytes()), json.as_bytes()) else {
+        return None;
+    };
+    match item_tried(cells, pass, looks, request) {
+        Ok(Tried::Reply(reply)) => shown_body(cells.alloc(), &reply),
+        Ok(Tried::Again) => Some(Shown::Again),
+        Err(_) => None,
+    }
+}
+
+/// Whether the reply to a message on one item has this body, at this try; none, where it is to be tried again.
 pub(crate) fn is_shown<C: Asks>(
     cells: &C,
     pass: &mut C::Pass,
@@ -94,15 +143,9 @@ pub(crate) fn is_shown<C: Asks>(
     ensures fits { C.fits cells.now pass.new }
     ensures told { AreTold (reverse (C.seen pass.new).front) looks.new }
 {
-    let Ok(request) = read(cells.alloc(), Some(target.as_bytes()), json.as_bytes()) else {
-        return false;
-    };
-    match item_tried(cells, pass, looks, request) {
-        Ok(Tried::Reply(reply)) => match expected {
-            Some(expected) => is_text(cells, &reply, expected),
-            None => false,
-        },
-        Ok(Tried::Again) => expected.is_none(),
-        Err(_) => false,
+    match show(cells, pass, looks, target, json) {
+        Some(Shown::Body(text)) => expected == Some(text.as_str()),
+        Some(Shown::Again) => expected.is_none(),
+        None => false,
     }
 }

@@ -87,11 +87,27 @@ fn named_key(alloc: Global) -> Result<Item, NoMemory> {
     Ok(item)
 }
 
-/// The deletion of the item.
-fn deletion(alloc: Global) -> Result<KeyedAction, NoMemory> {
+/// What a transaction does that holds the item.
+#[derive(Clone, Copy)]
+pub(crate) enum Deed {
+    Deletes,
+    Checks,
+}
+
+/// The item's deletion, or a check of it that asks nothing.
+fn change(alloc: Global, deed: Deed) -> Result<StatedChange, NoMemory> {
+    let key = named_key(alloc)?;
+    Ok(match deed {
+        Deed::Deletes => StatedChange::Delete(key),
+        Deed::Checks => StatedChange::Check(key),
+    })
+}
+
+/// That, as an action on the item.
+fn action(alloc: Global, deed: Deed) -> Result<KeyedAction, NoMemory> {
     let key = item_key(alloc)?;
     let table = Text::copied(alloc, "Tab")?;
-    let change = StatedChange::Delete(named_key(alloc)?);
+    let change = change(alloc, deed)?;
     let statement = Statement {
         table,
         change,
@@ -109,12 +125,12 @@ fn prepared(alloc: Global) -> Result<ScriptGate, NoMemory> {
     Ok(ScriptGate::make(points))
 }
 
-/// Whether a transaction that deletes the item was left when the item was prepared.
-fn is_left<T: Wait>(cells: &TableCaller<'_, T>, pass: &mut TablePass) -> bool
+/// Whether a transaction on the item was left when the item was prepared.
+pub(crate) fn is_left<T: Wait>(cells: &TableCaller<'_, T>, pass: &mut TablePass, deed: Deed) -> bool
     requires fits { IsAtRest cells.now.caller pass.old }
     ensures fits { IsAtRest cells.now.caller pass.new }
 {
-    let Ok(action) = deletion(cells.alloc()) else {
+    let Ok(action) = action(cells.alloc(), deed) else {
         return false;
     };
     let Ok(mut gate) = prepared(cells.alloc()) else {
@@ -126,7 +142,7 @@ fn is_left<T: Wait>(cells: &TableCaller<'_, T>, pass: &mut TablePass) -> bool
 }
 
 /// Whether one transaction was ended that was left.
-fn is_swept<T: Wait>(cells: &TableCaller<'_, T>, pass: &mut TablePass) -> bool
+pub(crate) fn is_swept<T: Wait>(cells: &TableCaller<'_, T>, pass: &mut TablePass) -> bool
     requires fits { IsAtRest cells.now.caller pass.old }
     ensures fits { IsAtRest cells.now.caller pass.new }
 {
@@ -147,7 +163,7 @@ fn goes_so<R: Wait>(rt: &R, alloc: Global) -> Result<bool, NoMemory> {
     if !are_right(&caller, &mut tables, &mut items, &mut looks, &BEFORE) {
         return Ok(false);
     }
-    if !is_left(&caller, &mut tables) {
+    if !is_left(&caller, &mut tables, Deed::Deletes) {
         return Ok(false);
     }
     if !are_right(&caller, &mut tables, &mut items, &mut looks, &HELD) {

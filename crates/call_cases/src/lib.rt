@@ -6,4 +6,6 @@ mod calls;
 #[cfg(test)]
 mod held;
 #[cfg(test)]
+mod limit;
+#[cfg(test)]
 mod sessions;

@@ -29,7 +29,7 @@ const DESCRIBE: &str = "DynamoDB_20120810.DescribeTable";
 
 const LIST: &str = "DynamoDB_20120810.ListTables";
 
-const EXPIRE: &str = "DynamoDB_20120810.UpdateTimeToLive";
+pub(crate) const EXPIRE: &str = "DynamoDB_20120810.UpdateTimeToLive";
 
 const EXPIRY: &str = "DynamoDB_20120810.DescribeTimeToLive";
 
@@ -37,7 +37,7 @@ pub(crate) const GET: &str = "DynamoDB_20120810.GetItem";
 
 pub(crate) const PUT: &str = "DynamoDB_20120810.PutItem";
 
-const UPDATE: &str = "DynamoDB_20120810.UpdateItem";
+pub(crate) const UPDATE: &str = "DynamoDB_20120810.UpdateItem";
 
 const DELETE: &str = "DynamoDB_20120810.DeleteItem";
 
@@ -155,7 +155,7 @@ static LINES: [Line; 24] = [
 ];
 
 /// Whether the reply to a line is the one that it has.
-fn is_right<C: Asks>(
+pub(crate) fn is_right<C: Asks>(
     cells: &C,
     tables: &mut C::Pass,
     items: &mut C::Pass,
