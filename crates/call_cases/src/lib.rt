@@ -4,6 +4,8 @@
 #[cfg(test)]
 mod calls;
 #[cfg(test)]
+mod expiry;
+#[cfg(test)]
 mod held;
 #[cfg(test)]
 mod limit;
