@@ -11,7 +11,6 @@ use Rattle.txn_core.specs.declared.answer.Answer.{Answer}
 use Rattle.cluster.proofs.OwnEntries.{counts_on}
 use Rattle.table_request.specs.declared.items.GetItem.{GetItem}
 use Rattle.table_request.specs.declared.batches.BatchGet.{BatchGet}
-use Rattle.table_model.specs.declared.reply.Reply.{Reply}
 use Rattle.table_model.specs.declared.reply.Reply.TheVariants.{BatchRead}
 use Rattle.table_model.specs.Batches.{most_batch_bytes, read_count, unread}
 use Rattle.table_model.specs.Consumed.{where_asked}

@@ -3,4 +3,7 @@ pub mod Agreed
 pub mod Places
 pub mod KeysRead
 pub mod Vain
+pub mod Small
+pub mod Sent
+pub mod Telling
 pub mod Tries

@@ -10,11 +10,14 @@ use Rattle.table_schema.specs.declared.schema.Schema.{Schema}
 use Rattle.cluster.specs.Counts.{Counts}
 use Rattle.table_request.specs.declared.items.GetItem.{GetItem}
 use Rattle.table_request.specs.declared.batches.TableKeys.{TableKeys}
+use Rattle.table_request.specs.declared.batches.TableWrites.{TableWrites}
+use Rattle.table_request.specs.declared.batches.WriteRequest.{WriteRequest}
+use Rattle.table_request.specs.declared.batches.WriteRequest.TheVariants as write
 use Rattle.table_model.specs.declared.refusal.Invalid.{Invalid}
 use Rattle.table_model.specs.Database.{Table}
-use Rattle.table_model.specs.Batches.{asked_keys, asked_keys_if}
+use Rattle.table_model.specs.Batches.{asked_keys, asked_keys_if, write_key, write_keys, write_keys_if}
 use Rattle.table_items.specs.Outcomes.{row_key_if}
-use Rattle.numbered_tables.specs.Tables.{Kept}
+use Rattle.numbered_tables.specs.Tables.{Kept, table_in}
 use Rattle.table_batches.specs.Answers.{tables_alone}
 use Rattle.table_batches.specs.Keys.{gathered}
 use Rattle.table_batches.proofs.Named.{is_there}
@@ -25,7 +28,7 @@ use Rattle.table_history.specs.Entries.{TableEvent}
 use Rattle.cell_asks.specs.Told.{WasTold}
 use Rattle.item_calls.specs.Places.{item_at, row_at, IsKnown}
 use Rattle.item_calls.proofs.Requests.{read_rows}
-use Rattle.batch_calls.specs.Singles.{get_alone, gets_of, all_gets}
+use Rattle.batch_calls.specs.Singles.{get_alone, gets_of, all_gets, writes_of, all_writes, key_written}
 use Rattle.batch_calls.specs.Tables.{AreKnown, ArePlaced, AllPlaced}
 use Rattle.batch_calls.proofs.Looked.{told_on}
 use Rattle.batch_calls.proofs.Agreed.{each_row}
@@ -91,6 +94,18 @@ zip_flat P R f each (t ∷ ts) [] all = absurd all
 zip_flat P R f each (t ∷ ts) (mine ∷ places) all =
     zip_both R (f t) mine (flat_map f ts) (flat_map (λ m. m) places) (each t mine all.0) (zip_flat P R f each ts places all.1)
 
+-- ---- the row of a write
+
+abbrev pub rows_written : WriteRequest → Schema → Result RowKey Invalid
+rows_written w schema = row_at (row_key_if (key_written schema w))
+
+abbrev pub IsWriteAt : List TableEvent → List ℕ × WriteRequest → CellKey → Type 0
+IsWriteAt es w at = PlaceKnown es w.0 (rows_written w.1) at
+
+key_by_schema : (table : Table) (w : WriteRequest) → write_key table w ≡ key_written table.schema w
+key_by_schema table (write.Put item) = refl
+key_by_schema table (write.Delete key) = refl
+
 -- ---- the items of a request
 
 module _ (es : List TableEvent) (tables : Kept) (known : AreKnown es tables) where
@@ -125,3 +140,20 @@ module _ (es : List TableEvent) (tables : Kept) (known : AreKnown es tables) whe
       → AllZip IsGetAt (all_gets ts) (flat_map (λ mine. mine) places)
   all_gets_known ts places placed =
       zip_flat (λ t mine. ArePlaced tables t.table (asked_keys (tables_alone tables) t) mine) IsGetAt gets_of gets_known ts places placed
+
+  writes_known : (t : TableWrites) (mine : List CellKey) → ArePlaced tables t.table (write_keys (tables_alone tables) t) mine → AllZip (IsWriteAt es) (writes_of t) mine
+  writes_known t mine placed =
+      part_known t.table key_written t.writes (write_keys (tables_alone tables) t) mine placed
+      (ap (λ (o : Option Table). write_keys_if o t) (is_there tables t.table placed.table placed.there)
+      ∙ (λ i. map (λ w. key_by_schema (table_in placed.table) w i) t.writes)) (λ w. (t.table, w)) (IsWriteAt es) (λ w at it. it)
+
+  pub each_known : (ts : List TableWrites) (places : List (List CellKey)) → AllPlaced (λ t. t.table) write_keys tables ts places
+      → AllZip (λ t mine. AllZip (IsWriteAt es) (writes_of t) mine) ts places
+  each_known [] [] placed = tt
+  each_known [] (mine ∷ places) placed = absurd placed
+  each_known (t ∷ ts) [] placed = absurd placed
+  each_known (t ∷ ts) (mine ∷ places) placed = (writes_known t mine placed.0, each_known ts places placed.1)
+
+  pub all_writes_known : (ts : List TableWrites) (places : List (List CellKey)) → AllPlaced (λ t. t.table) write_keys tables ts places
+      → AllZip (IsWriteAt es) (all_writes ts) (flat_map (λ mine. mine) places)
+  all_writes_known ts places placed = zip_flat (λ t mine. AllZip (IsWriteAt es) (writes_of t) mine) (IsWriteAt es) writes_of (λ t mine all. all) ts places (each_known ts places placed)

@@ -19,7 +19,7 @@ use Rattle.cell_asks.specs.declared.looks.Looks.{Looks}
 use Rattle.cell_asks.specs.Steps.{answered, One, Stops, binds, bound, GivesUp, IsInVain, past_of}
 use Rattle.cell_asks.specs.Answers.{look_answer}
 use Rattle.cell_asks.specs.Told.{WasTold, AreTold, Looked}
-use Rattle.cell_asks.proofs.Kept.{all_told_later}
+use Rattle.cell_asks.proofs.Kept.{told_later, all_told_later}
 
 module _ (n : ℕ) where
   module _ (p : PassView TableEvent) (m : TableMessage) (a : TableAnswer) (q : PassView TableEvent) (one : One n p m a q) where
@@ -59,6 +59,11 @@ module _ (n : ℕ) where
         subst (λ es. AreTold es looks) (sym (reverse-append p.front counts.trail.rest) ∙ ap reverse counts.trail.is)
         (all_told_later (reverse counts.trail.rest) (reverse p.front) looks told)
 
+    pub was_told_after : (name : List ℕ) (look : TableLook) → WasTold (reverse p.front) name look → WasTold (reverse q.front) name look
+    was_told_after name look told =
+        subst (λ es. WasTold es name look) (sym (reverse-append p.front counts.trail.rest) ∙ ap reverse counts.trail.is)
+        (told_later (reverse counts.trail.rest) (reverse p.front) name look told)
+
   module _ (p : PassView TableEvent) (xs : List TableEvent) (q : PassView TableEvent) (counts : Counts (service n) p xs 0 q) (nothing : bound xs ≡ []) where
     -- a stretch that binds nothing, and then a message that is not answered, or memory that is refused
     pub gives_up : (why : StepError) (r : PassView TableEvent) → Stops n q why r → GivesUp n p why r
@@ -77,22 +82,46 @@ module _ (n : ℕ) where
 -- ---- two stretches
 
 -- two stretches that bind nothing
-bound_on : (xs ys : List TableEvent) → bound xs ≡ [] → bound ys ≡ [] → bound (xs ++ ys) ≡ []
+pub bound_on : (xs ys : List TableEvent) → bound xs ≡ [] → bound ys ≡ [] → bound (xs ++ ys) ≡ []
 bound_on xs ys none more = filter-append (λ e. binds e.message e.answer) xs ys ∙ ap (λ l. l ++ bound ys) none ∙ more
 
--- what was counted before the own message
-record Before (n : ℕ) (p mid : PassView TableEvent) : Type 0 where
-  own : List TableEvent
-  counts : Counts (service n) p own 0 mid
-  nothing : bound own ≡ []
+-- what was counted before, which binds nothing
+pub record Before (n : ℕ) (p mid : PassView TableEvent) : Type 0 where
+  pub own : List TableEvent
+  pub counts : Counts (service n) p own 0 mid
+  pub nothing : bound own ≡ []
 
-module _ (n : ℕ) (p : PassView TableEvent) (name : List ℕ) (mid : PassView TableEvent) where
-  before : Looked n p name mid → Before n p mid
-  before (inl same) = record {
+module _ (n : ℕ) (p mid : PassView TableEvent) where
+  pub before_none : mid ≡ p → Before n p mid
+  before_none same = record {
     own = [];
     counts = subst (λ (z : PassView TableEvent). Counts (service n) p [] 0 z) (sym same) (counts_none (service n) p);
     nothing = refl;
   }
+
+  module _ (b : Before n p mid) where
+    -- then it was tried in vain
+    pub vain_behind : (q : PassView TableEvent) → IsInVain n mid q → IsInVain n p q
+    vain_behind q vain =
+        let earlier = b.counts.units in
+        let later = vain.more in record {
+          own = b.own ++ vain.own;
+          counts = counts_on (service n) p b.own 0 mid vain.own 0 q b.counts vain.counts;
+          nothing = bound_on b.own vain.own b.nothing vain.nothing;
+          more = omega arith;
+        }
+
+    -- then it ended by an error
+    pub gives_behind : (why : StepError) (q : PassView TableEvent) → GivesUp n mid why q → GivesUp n p why q
+    gives_behind why q gives = record {
+      own = b.own ++ gives.own;
+      counts = counts_until (service n) p b.own mid gives.own why q b.counts gives.counts;
+      nothing = bound_on b.own gives.own b.nothing gives.nothing;
+    }
+
+module _ (n : ℕ) (p : PassView TableEvent) (name : List ℕ) (mid : PassView TableEvent) where
+  pub before : Looked n p name mid → Before n p mid
+  before (inl same) = before_none n p mid same
   before (inr (told, one)) = record {
     own = answered n p (Message.Ask (Look name)) (look_answer told) ∷ [];
     counts = one_counts n p (Message.Ask (Look name)) (look_answer told) mid one;
@@ -112,13 +141,7 @@ module _ (n : ℕ) (p : PassView TableEvent) (name : List ℕ) (mid : PassView T
 
     -- it ended by an error
     pub gives_up_on : (why : StepError) (q : PassView TableEvent) → GivesUp n mid why q → GivesUp n p why q
-    gives_up_on why q gives =
-        let b = before looked in
-        record {
-          own = b.own ++ gives.own;
-          counts = counts_until (service n) p b.own mid gives.own why q b.counts gives.counts;
-          nothing = bound_on b.own gives.own b.nothing gives.nothing;
-        }
+    gives_up_on = gives_behind n p mid (before looked)
 
 -- ---- one message
 

@@ -44,18 +44,18 @@ both_true a b e f = λ j. e j && f j
 -- ---- the items of a table
 
 module _ (table : ℕ) where
-  abbrev item_key : RowKey → CellKey
+  abbrev pub item_key : RowKey → CellKey
   item_key key = Item (record { table = table; key = key })
 
   -- the key of an item of the table
-  abbrev own_key : CellKey → Option RowKey
+  abbrev pub own_key : CellKey → Option RowKey
   own_key (Item key) = if nat_eq key.table table then Some key.key else None
   own_key (Row key) = None
 
-  own_there : (key : RowKey) → own_key (item_key key) ≡ Some key
+  pub own_there : (key : RowKey) → own_key (item_key key) ≡ Some key
   own_there key = cond-true (nat_eq table table) (Some key) None (eq-eqb table table refl)
 
-  own_back : (k : CellKey) (key : RowKey) → own_key k ≡ Some key → k ≡ item_key key
+  pub own_back : (k : CellKey) (key : RowKey) → own_key k ≡ Some key → k ≡ item_key key
   own_back (Row k) key is = absurd (cc)
   own_back (Item k) key is = by (nat_eq k.table table) refl is
     where
@@ -63,18 +63,18 @@ module _ (table : ℕ) where
       by true e f = let table_is = eqb-true k.table table e in let key_is : k.key ≡ key = ap (λ o. unwrap_or o key) f in λ i. Item (record { table = table_is i; key = key_is i })
       by false e f = absurd (cc)
 
-  own_order : (i j : RowKey) → key_order (item_key i) (item_key j) ≡ row_order i j
+  pub own_order : (i j : RowKey) → key_order (item_key i) (item_key j) ≡ row_order i j
   unfolding key_order
   own_order i j = ap (λ o. ordering_then o (row_order i j)) (tied_itself nat_cmp_total table)
 
   module _ {W : Type 0} (shown : W → Option Attributes) where
-    abbrev shown_at : RowKey → W → Option Attributes
+    abbrev pub shown_at : RowKey → W → Option Attributes
     shown_at key w = shown w
 
     abbrev row_of : W → Option RowKey → Option (RowKey × Attributes)
     row_of w key = part_row key_total key_exact item_key own_key own_there own_back own_order shown_at w key
 
-    abbrev own_items : List (CellKey × W) → Rows
+    abbrev pub own_items : List (CellKey × W) → Rows
     own_items es = part_of key_total key_exact item_key own_key own_there own_back own_order shown_at es
 
     abbrev row_with : Option Attributes → Option RowKey → Option (RowKey × Attributes)
@@ -100,7 +100,7 @@ module _ (table : ℕ) where
         by true = ap (λ rows. (k.key, item) ∷ rows) is
         by false = is
 
-    are_own : (es : List (CellKey × W)) → items_of table (shown_among shown es) ≡ own_items es
+    pub are_own : (es : List (CellKey × W)) → items_of table (shown_among shown es) ≡ own_items es
     are_own [] = refl
     are_own (e ∷ es) =
         one_own e.0 (shown e.1) (shown_among shown es) (own_items es) (are_own es)

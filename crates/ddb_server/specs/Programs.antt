@@ -56,10 +56,10 @@ abbrev pub RunsStdio : Outside → Outside → ℕ → Type 0
 RunsStdio old new status =
     RunsSession old.input old.moments new.moments old.written new.written status × (new.connections ≡ old.connections)
 
--- the listener is served by so many workers, and to its end where the status is 0; all else is left alone
-abbrev pub RunsServe : ℕ → Outside → Outside → ℕ → Type 0
-RunsServe workers old new status =
-    RunsListener workers old.moments old.connections new.connections status × (status ≡ 0 → Rose old.ends new.ends)
+-- the listener is served by so many workers out of so many partitions, and to its end where the status is 0; all else is left alone
+abbrev pub RunsServe : ℕ → ℕ → Outside → Outside → ℕ → Type 0
+RunsServe partitions workers old new status =
+    RunsListener partitions workers old.moments old.connections new.connections status × (status ≡ 0 → Rose old.ends new.ends)
     × (new.input ≡ old.input) × (new.moments ≡ old.moments) × (new.written ≡ old.written)
 
 -- the words are refused, and nothing else is done
@@ -71,7 +71,7 @@ RefusesAll old new status =
 abbrev pub RunsWords : List (List ℕ) → Outside → Outside → ℕ → Type 0
 RunsWords words old new status =
     ((partitions : ℕ) × States words (Stdio partitions) × RunsStdio old new status)
-    ⊎ ((port : ℕ) × (partitions : ℕ) × (workers : ℕ) × States words (Serve port partitions workers) × RunsServe workers old new status)
+    ⊎ ((port : ℕ) × (partitions : ℕ) × (workers : ℕ) × States words (Serve port partitions workers) × RunsServe partitions workers old new status)
     ⊎ ((start : ℕ) × (clients : ℕ) × (count : ℕ) × (partitions : ℕ) × States words (Load start clients count partitions)
     × RefusesAll old new status)
     ⊎ (StatesNone words × RefusesAll old new status)

@@ -5,7 +5,7 @@ ghost use Rattle.ddb_outside.specs.Causes.{Rose};
 ghost use Rattle.ddb_server.specs.Programs.{Runs, RunsSession, RefusesWords, outside, session_status, usage};
 ghost use Rattle.ddb_server.specs.Served.{RunsListener, serve_status};
 
-use base_types::Seq;
+use cell_service::CellService;
 use command_words::{Command, WordsEnd, command};
 use ddb_outside::{Clock, Failed, Listener, Sink, Source, write_all};
 use http_front::Reader;
@@ -14,7 +14,7 @@ use http_workers::{ServeEnd, serve_all};
 use plain_database::SlowDb;
 use std::sync::Wait;
 use std::thread::Threads;
-use table_service::{PlainService, TableService};
+use table_service::PlainService;
 
 /// What is written where the words are none of the commands.
 const USAGE: &str =
@@ -28,9 +28,11 @@ const USAGE: &str =
 /// could not be read.
 ///
 /// `serve` binds the listener to the port and serves its connections by as many workers as the words state, each in a thread
-/// of its own, out of one database that is empty at first: each request is one event of one history. Its status is 0 where no
-/// connection will come any more; 4 where the port could not be bound, a share of the listener was refused, or accepting
-/// failed 16 times in a row; 7 where memory was refused before anything was served.
+/// of its own, out of tables in as many partitions as they state, which are empty at first: what all requests do is one history.
+/// Beside the workers a feeder brings global indexes up to date, and a recovery worker ends transactions that were left in the
+/// middle and removes expired items. Its status is 0 where no connection will come any more; 4 where the port could not be
+/// bound, a share of the listener was refused, or accepting failed 16 times in a row; 7 where memory was refused before
+/// anything was served.
 ///
 /// Other words are answered by the usage line and status 2, or 3 where the sink failed at it; `load` is not built yet, and
 /// is answered so. Where memory was refused for the words the status is 7.
@@ -61,10 +63,10 @@ where
         Ok(
             Command::Serve {
                 port,
-                partitions: _,
+                partitions,
                 workers,
             },
-        ) => serve_port(rt, clock, listener, port, workers),
+        ) => serve_port(rt, clock, listener, port, partitions, workers),
         Ok(Command::Load { .. }) => refuse_words(sink),
         Err(WordsEnd::Refused) => refuse_words(sink),
         Err(WordsEnd::NoMemory) => 7,
@@ -103,37 +105,45 @@ fn serve_stream<R: AllocGlobal, S: Source, K: Sink, C: Clock>(
     session_status(end)
 }
 
-/// The connections of a port by so many workers, from the empty database on.
-fn serve_port<R, C, L>(rt: &R, clock: &C, listener: &mut L, port: u16, workers: u32) -> u8
+/// The connections of a port by so many workers, out of so many partitions, from empty tables on.
+fn serve_port<R, C, L>(
+    rt: &R,
+    clock: &C,
+    listener: &mut L,
+    port: u16,
+    partitions: u32,
+    workers: u32,
+) -> u8
 where
     R: AllocGlobal + Threads + Wait + Sync,
     C: Clock + Send + Drop,
     L: Listener + Send + Drop,
+    requires partitions { (1 ≤ partitions) × (partitions ≤ 64) }
     requires workers { (1 ≤ workers) × (workers ≤ 62) }
-    ensures served { RunsListener workers (C.coming clock.now) (L.connections listener.old) (L.connections listener.new) result }
+    ensures served { RunsListener partitions workers (C.coming clock.now) (L.connections listener.old) (L.connections listener.new) result }
     ensures done { result ≡ 0 → Rose (L.ends listener.old) (L.ends listener.new) }
     ensures net { result ≡ 4 → Rose (L.faults listener.old) (L.faults listener.new) }
     ensures read { (result ≡ 1) → ⊥ }
     ensures write { (result ≡ 3) → ⊥ }
 {
     let alloc = rt.alloc();
-    let Ok((service, mut passes)) = TableService::make(alloc, workers) else {
+    let Ok((service, mut sessions, mut helpers)) = CellService::make(alloc, partitions, workers)
+    else {
         return 7;
     };
     if listener.bind(port).is_err() {
         return 4;
     }
-    let mut helpers = Seq::new(alloc);
     let end = serve_all(
         rt,
         alloc,
         &service,
-        &mut passes,
+        &mut sessions,
         &mut helpers,
         clock,
         listener,
     );
-    service.meet_all(passes.as_mut_slice());
+    service.meet_all(sessions.as_mut_slice(), helpers.as_mut_slice());
     serve_status(end)
 }
 

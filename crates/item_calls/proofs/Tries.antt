@@ -137,7 +137,7 @@ module _ (n : ℕ) (p : PassView TableEvent) (r : GetItem) (key : CellKey) (mid 
 
 module _ (n : ℕ) (p : PassView TableEvent) (asked : Request) (rows : Schema → Result RowKey Invalid) (act : CellKey → ItemAction) (states : StatesAt asked rows act)
     (key : CellKey) (mid : PassView TableEvent) (known : IsKnown n p (table_asked asked) rows key mid) (q : PassView TableEvent) where
-  stated : (a : TableAnswer) (one : One n mid (Message.Write (act key)) a q) → is_there a ≡ true → IsStated n (past_of one) asked (act key)
+  pub stated : (a : TableAnswer) (one : One n mid (Message.Write (act key)) a q) → is_there a ≡ true → IsStated n (past_of one) asked (act key)
   stated a one there =
       let at = reverse (past_of one) in
       let found = wrote_table n at mid.moment (act key) a (is_answer n mid _ _ q one) there in
@@ -147,7 +147,7 @@ module _ (n : ℕ) (p : PassView TableEvent) (asked : Request) (rows : Schema �
       let place : item_at t.table.number known.row ≡ key = (λ i. item_at (t.number i) known.row) ∙ sym known.is in
       record { table = t.table; there = t.there; key = s.0; states = subst (λ k. StatesWrite asked t.table s.0 (act k)) place s.1 }
 
-  does : (a : TableAnswer) (one : One n mid (Message.Write (act key)) a q) → is_there a ≡ true → (reply : Reply) → write_reply asked a ≡ Some reply
+  pub does : (a : TableAnswer) (one : One n mid (Message.Write (act key)) a q) → is_there a ≡ true → (reply : Reply) → write_reply asked a ≡ Some reply
       → (db : Database) → HasTables n (past_of one) db → HasEffect n (past_of one) (answered n mid (Message.Write (act key)) a) asked reply db
   does a one there reply told db stands =
       let s = stated a one there in

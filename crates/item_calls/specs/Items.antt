@@ -33,12 +33,14 @@ use Rattle.cell_asks.specs.Steps.{answered, One, past_of, GivesUp, IsInVain}
 use Rattle.cell_asks.specs.Answers.{look_answer}
 use Rattle.cell_asks.specs.Told.{Looked}
 
--- the table of a request on one item
+-- the table of a request on one item, or for a page
 abbrev pub table_asked : Request → List ℕ
 table_asked (request.GetItem r) = r.table
 table_asked (request.PutItem r) = r.table
 table_asked (request.UpdateItem r) = r.table
 table_asked (request.DeleteItem r) = r.table
+table_asked (request.Query r) = r.page.table
+table_asked (request.Scan r) = r.page.table
 table_asked _ = []
 
 -- ---- which item

@@ -1,5 +1,5 @@
 -- What the code's sources stand for, and what a page sees of a row.
-use Rattle.std.specs.Prelude.{◌≡◌, ℕ, List, ⊤, if◌then◌else◌, Option, None, Some, slice_get}
+use Rattle.std.specs.Prelude.{◌≡◌, ℕ, ◌-◌, List, length, ⊤, if◌then◌else◌, Option, None, Some, slice_get}
 use Rattle.std.specs.List.{list_any}
 use Rattle.attr_value.specs.Tree.{Attributes}
 use Rattle.expr_words.specs.Mentions.{Mention}
@@ -28,6 +28,12 @@ abbrev pub HasNumber : Schema → Source → Type 0
 HasNumber schema Table = ⊤
 HasNumber schema (Local number index) = IsNumber schema number (Local number index)
 HasNumber schema (Global number index) = IsNumber schema number (Global number index)
+
+-- it stands at its place among those of its kind: the numbers of global indexes go on behind those of local ones
+abbrev pub HasPlace : Schema → Source → Type 0
+HasPlace schema Table = ⊤
+HasPlace schema (Local number index) = slice_get schema.locals number ≡ Some index.now
+HasPlace schema (Global number index) = slice_get schema.globals (number - length schema.locals) ≡ Some index.now
 
 -- what a page sees of an item: of a global index what that keeps
 abbrev pub seen : Schema → model.Source → Attributes → Attributes

@@ -3,7 +3,7 @@
 ghost use Rattle.std.specs.Prelude.{◌≡◌, IfSome, slice_get, Some};
 ghost use Rattle.std.specs.Option.{option_map};
 ghost use Rattle.table_model.specs.Pages.{local_named, global_named, source_of, source_keys, is_global};
-ghost use Rattle.page_reads.specs.Sources.{source_in, HasNumber};
+ghost use Rattle.page_reads.specs.Sources.{source_in, HasNumber, HasPlace};
 
 use base_types::Text;
 use table_schema::{GlobalIndex, KeyNames, LocalIndex, Schema};
@@ -33,6 +33,7 @@ impl<'a> Source<'a> {
 pub fn index_named<'a>(schema: &'a Schema, name: &Text) -> Option<Source<'a>>
     ensures source { option_map source_in result ≡ source_of schema.now (Some name.now) }
     ensures number { IfSome result (HasNumber schema.now) }
+    ensures place { IfSome result (HasPlace schema.now) }
 {
     if let Some((number, index)) = local_named(schema.locals.as_slice(), name) {
         return Some(Source::Local(number, index));

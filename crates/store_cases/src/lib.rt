@@ -2,8 +2,6 @@
 #![tactic(auto)]
 
 #[cfg(test)]
-mod histories;
-#[cfg(test)]
 mod tokens;
 #[cfg(test)]
 mod turns;

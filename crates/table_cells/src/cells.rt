@@ -1,8 +1,12 @@
 //! Partitions and the control cell of real tables, and who calls on them.
 
-ghost use Rattle.std.specs.Prelude.{◌≡◌, ◌≤◌, All, IfOk};
+ghost use Rattle.std.specs.Prelude.{◌≡◌, ◌≤◌, [], All, IfOk};
+ghost use Rattle.turnstile.specs.Histories.{Trail, longer};
 ghost use Rattle.turnstile.specs.Passes.{first_passes};
+ghost use Rattle.cluster.specs.Events.{pass_of};
 ghost use Rattle.cluster.specs.Steps.{IsAtRest, partitions_of};
+ghost use Rattle.cluster.specs.World.{IsLegalLog};
+ghost use Rattle.cell_model.specs.Service.{service};
 
 use base_types::Seq;
 use cell_rules::TableRules;
@@ -35,6 +39,25 @@ impl TableCells {
     {
         let (cluster, passes) = Cluster::make(alloc, partitions, passes)?;
         Ok((TableCells { cluster }, passes))
+    }
+
+    /// Lets two passes see what the other had seen.
+    pub fn meet(&self, pass: &mut TablePass, other: &mut TablePass)
+        requires rest { IsAtRest self.now.cluster pass.old × IsAtRest self.now.cluster other.old }
+        ensures pass { pass.new ≡ record pass.old { front = longer pass.old.front other.old.front } }
+        ensures other { other.new ≡ record other.old { front = pass.new.front } }
+        ensures trail { Trail pass_of pass.old.number pass.old.front [] pass.new.front }
+        ensures other_trail { Trail pass_of other.old.number other.old.front [] pass.new.front }
+    {
+        self.cluster.meet(pass, other);
+    }
+
+    /// Does nothing. It is told to a caller's proof that what a pass has seen is legal.
+    pub fn facts(&self, pass: &TablePass)
+        requires of { pass.now.turnstile ≡ self.now.cluster.id }
+        ensures legal { IsLegalLog (service (partitions_of self.now.cluster)) pass.now.front }
+    {
+        self.cluster.facts(pass);
     }
 
     /// Who calls on these cells: the runtime is what its thread waits by.

@@ -1,4 +1,3 @@
--- The definitions in reading order: what is told; the steps of the plain service; those of the shared one.
+-- The definitions in reading order: what is told; the steps of the plain service.
 pub mod Telling
 pub mod Plain
-pub mod Shared

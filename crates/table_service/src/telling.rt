@@ -15,7 +15,7 @@ use table_model::Reply;
 use table_request::Request;
 
 /// The request that a message states.
-pub(crate) fn read(alloc: Global, message: &Message) -> Result<Request, RequestEnd>
+pub fn read(alloc: Global, message: &Message) -> Result<Request, RequestEnd>
     ensures { IsToldOf (IsRequest message.now.target message.now.body) result }
 {
     api_request::read(alloc, target(message), message.body.as_slice())
@@ -33,7 +33,7 @@ fn target(message: &Message) -> Option<&[u8]>
 
 /// The answer that tells a reply.
 #[tactic(auto, using(crate::proofs::Serving::reply_known))]
-pub(crate) fn tell(alloc: Global, reply: &Reply) -> Answer
+pub fn tell(alloc: Global, reply: &Reply) -> Answer
     ensures status { IsReplyStatus result.status }
     ensures told { IsTold (told_reply reply.now) (told result) }
 {
@@ -47,7 +47,7 @@ pub(crate) fn tell(alloc: Global, reply: &Reply) -> Answer
 }
 
 /// The answer to a message that is refused before the database sees it.
-pub(crate) fn refuse(alloc: Global, refusal: &Refusal) -> Answer
+pub fn refuse(alloc: Global, refusal: &Refusal) -> Answer
     ensures status { IsReplyStatus result.status }
     ensures told { IsTold (told_refusal refusal.now) (told result) }
 {
@@ -61,7 +61,7 @@ pub(crate) fn refuse(alloc: Global, refusal: &Refusal) -> Answer
 }
 
 /// The answer for want of memory, which takes none.
-pub(crate) fn memory_error() -> Answer
+pub fn memory_error() -> Answer
     ensures { told result ≡ told_memory }
 {
     Answer {
@@ -71,7 +71,7 @@ pub(crate) fn memory_error() -> Answer
 }
 
 /// The answer for a budget that is used up, which takes no memory.
-pub(crate) fn budget_error() -> Answer
+pub fn budget_error() -> Answer
     ensures { told result ≡ told_budget }
 {
     Answer {

@@ -41,7 +41,7 @@ any_alike t u same (x ∷ ts) [] all = absurd all
 any_alike t u same (x ∷ ts) (y ∷ us) all = λ i.
     (bytes_eq (same.name i) (all.0.name i) && is_at (row_order (same.key i)) (all.0.key i)) || any_alike t u same ts us all.1 i
 
-repeats_alike : (ts us : List Target) → AllZip SameSpot ts us → has_repeat ts ≡ has_repeat us
+pub repeats_alike : (ts us : List Target) → AllZip SameSpot ts us → has_repeat ts ≡ has_repeat us
 repeats_alike [] [] all = refl
 repeats_alike [] (y ∷ us) all = absurd all
 repeats_alike (x ∷ ts) [] all = absurd all

@@ -1,23 +1,22 @@
 -- What comes of actions that are sent, put together from the end of their transaction and what is told by it.
 use Rattle.std.specs.Prelude.{◌≢◌}
 use Rattle.std.specs.List.{AllByRecursion}
-use Rattle.std.proofs.Common.{◌≡◌, ℕ, ◌+◌, Bool, true, false, cond, List, [], ◌∷◌, ◌++◌, length, reverse, Option, refl, sym, ap, ◌∙◌, subst, inl, inr, arith}
+use Rattle.std.proofs.Common.{◌≡◌, ℕ, Bool, true, false, cond, List, [], ◌∷◌, ◌++◌, length, reverse, Option, refl, sym, ap, ◌∙◌, subst, inl, inr, arith}
 use Rattle.std.proofs.lemmas.List.{append-nil, reverse-append}
 use Rattle.std.proofs.lemmas.List.Elements.{filter-append}
 use Rattle.turnstile.specs.Passes.{PassView, most_units}
 use Rattle.table_request.specs.declared.consumed.Consumed.{Consumed}
 use Rattle.table_request.specs.declared.request.Request.TheVariants as request
 use Rattle.table_request.specs.declared.transactions.TransactWrite.{TransactWrite}
-use Rattle.table_model.specs.declared.reply.Reply.{Reply}
 use Rattle.table_model.specs.declared.reply.Reply.TheVariants.{Refused}
 use Rattle.table_model.specs.declared.refusal.Refusal.{Refusal}
 use Rattle.table_model.specs.Database.{unless}
-use Rattle.table_model.specs.Transactions.{repeated, kept_of, without_expired}
+use Rattle.table_model.specs.Transactions.{transact_refusal, repeated, kept_of, without_expired}
 use Rattle.txn_core.specs.declared.message.Message.{Message}
 use Rattle.cluster.specs.declared.step.StepError.{StepError}
 use Rattle.cluster.specs.Counts.{Counts}
 use Rattle.cluster.proofs.Lists.{each_append}
-use Rattle.cluster.proofs.OwnEntries.{counts_none, counts_on, counts_until}
+use Rattle.cluster.proofs.OwnEntries.{counts_none, counts_until}
 use Rattle.coordinator.specs.Driving.{Added}
 use Rattle.coordinator.specs.declared.transact_end.TransactEnd.{TransactEnd}
 use Rattle.coordinator.proofs.Moving.{added_after, until_added, until_spent}
@@ -34,12 +33,12 @@ use Rattle.cell_asks.proofs.Trails.{one_counts, told_one}
 use Rattle.transact_asks.specs.Several.{WritesEnd, WritesAll}
 use Rattle.transact_asks.proofs.Wrote.{bound_is, each_begins, stale_in_vain}
 use Rattle.transact_calls.specs.declared.write.Transacted.{Transacted}
-use Rattle.transact_calls.specs.Looks.{RefusedByLooks}
-use Rattle.transact_calls.specs.Stated.{AreStated, IsStated, FindsActions, FindsRefusal}
+use Rattle.transact_calls.specs.Looks.{FindsRefusal, RefusedByLooks}
+use Rattle.transact_calls.specs.Stated.{AreStated, IsStated, FindsActions}
 use Rattle.transact_calls.specs.Ends.{FindsGone, IsGone}
 use Rattle.transact_calls.specs.Sent.{Tells, TellsPartly, LeavesBegin, Sends, SendsPartly}
 use Rattle.transact_calls.specs.Transactions.{IsItsBegin, LeavesOne, GivesUpOnce, IsTransactWriteTry}
-use Rattle.transact_calls.proofs.Looking.{own_looks, bound_on}
+use Rattle.transact_calls.proofs.Looking.{own_looks, vain_behind}
 
 -- ---- what is kept of Looks stays told
 
@@ -178,7 +177,7 @@ all_stated_later newer es (a ∷ asked) (x ∷ actions) stated =
 
 module _ (n : ℕ) (p : PassView TableEvent) (r : TransactWrite) where
   -- refused by own Looks
-  pub refused_by_looks : (why : Refusal) (q : PassView TableEvent) → FindsRefusal n p r.actions why q → RefusedByLooks n p (request.TransactWrite r) (Refused why) q
+  pub refused_by_looks : (why : Refusal) (q : PassView TableEvent) → FindsRefusal n p (λ db. transact_refusal db r.actions) why q → RefusedByLooks n p (request.TransactWrite r) (Refused why) q
   refused_by_looks why q refused = record {
     told = refused.told;
     looks = refused.looks;
@@ -214,18 +213,6 @@ module _ (n : ℕ) (p : PassView TableEvent) (r : TransactWrite) where
           once = (let one = leaves.once in let is = ap length all in omega arith);
         }
 
-    vain_behind : (q : PassView TableEvent) → IsInVain n mid q → IsInVain n p q
-    vain_behind q vain =
-        let looks = own_looks n p found.told mid found.looks in
-        let units = looks.counts.units in
-        let more = vain.more in
-        record {
-          own = looks.own ++ vain.own;
-          counts = counts_on (service n) p looks.own 0 mid vain.own 0 q looks.counts vain.counts;
-          nothing = bound_on looks.own vain.own looks.nothing vain.nothing;
-          more = omega arith;
-        }
-
     pub write_try : (tried : Transacted) (q : PassView TableEvent) → Sends n mid r.token actions r.consumed tried q → IsTransactWriteTry n p r tried q
     write_try (Transacted.Tried (Tried.Reply reply)) q sent = inr (record {
       told = found.told;
@@ -238,7 +225,7 @@ module _ (n : ℕ) (p : PassView TableEvent) (r : TransactWrite) where
       wrote = sent.wrote;
       is = sent.is;
     })
-    write_try (Transacted.Tried Tried.Again) q sent = vain_behind q sent
+    write_try (Transacted.Tried Tried.Again) q sent = vain_behind n p found.told mid found.looks q sent
     write_try Transacted.Stopped q sent = leaves_one q sent
 
     pub write_gives_up : (why : StepError) (q : PassView TableEvent) → SendsPartly n mid r.token actions why q → GivesUpOnce n p r why q

@@ -5,3 +5,9 @@ pub mod Alike
 pub mod States
 pub mod Telling
 pub mod Ended
+pub mod Checks
+pub mod Targets
+pub mod Between
+pub mod OnePoint
+pub mod Rounds
+pub mod Got

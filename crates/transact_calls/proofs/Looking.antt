@@ -85,6 +85,20 @@ gives_up_behind n p told mid looks why q gives =
       nothing = bound_on b.own gives.own b.nothing gives.nothing;
     }
 
+-- then it was in vain
+pub vain_behind : (n : ℕ) (p : PassView TableEvent) (told : Told) (mid : PassView TableEvent) → LookedAll n p told mid → (q : PassView TableEvent)
+    → IsInVain n mid q → IsInVain n p q
+vain_behind n p told mid looks q vain =
+    let b = own_looks n p told mid looks in
+    let units = b.counts.units in
+    let more = vain.more in
+    record {
+      own = b.own ++ vain.own;
+      counts = counts_on (service n) p b.own 0 mid vain.own 0 q b.counts vain.counts;
+      nothing = bound_on b.own vain.own b.nothing vain.nothing;
+      more = omega arith;
+    }
+
 -- what is kept stays told
 pub told_looked : (n : ℕ) (p : PassView TableEvent) (told : Told) (q : PassView TableEvent) → LookedAll n p told q → (looks : Looks) → AreTold (reverse p.front) looks
     → AreTold (reverse q.front) looks
@@ -262,7 +276,7 @@ module _ (n : ℕ) (p : PassView TableEvent) (names : List (List ℕ)) where
 
 -- ---- tables that are still there
 
-told_numbered : (look : TableLook) (o : Option CatalogTable) → told_look (Some look) ≡ told_table o
+pub told_numbered : (look : TableLook) (o : Option CatalogTable) → told_look (Some look) ≡ told_table o
     → (t : CatalogTable) × (o ≡ Some t) × (t.number ≡ look.number) × (t.schema ≡ look.schema)
 told_numbered look None e = absurd (cc)
 told_numbered look (Some t) e = (t, refl, cc, cc)

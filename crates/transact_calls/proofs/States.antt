@@ -19,7 +19,8 @@ use Rattle.cell_model.specs.Actions.{ItemAction, stated_action}
 use Rattle.table_history.specs.Entries.{TableEvent}
 use Rattle.transact_calls.specs.declared.keyed.Stated.{Stated}
 use Rattle.transact_calls.specs.Known.{known_of, IsKnown, AreKnown, LooksOn, MissesTable, AreConfirmed}
-use Rattle.transact_calls.specs.Stated.{item_at, IsStated, AreStated, keyed_of, IsKeyed, NoneMisses, IsStatedBy, FindsActions, FindsRefusal, Finds}
+use Rattle.transact_calls.specs.Looks.{FindsRefusal}
+use Rattle.transact_calls.specs.Stated.{item_at, IsStated, AreStated, keyed_of, IsKeyed, NoneMisses, IsStatedBy, FindsActions, Finds}
 use Rattle.transact_calls.proofs.Entries.{found_so}
 use Rattle.transact_calls.proofs.Alike.{refused_alike, missed_first}
 
@@ -83,7 +84,7 @@ module _ (n : ℕ) (p : PassView TableEvent) (asked : List TransactAction) where
   finds_kept entries known actions keyed = record { told = []; looks = refl; stated = are_stated (reverse p.front) entries known asked actions keyed }
 
   pub refused_kept : (entries : Kept) → NoneMisses entries asked → (why : Refusal) → transact_refusal (database_of entries) asked ≡ Some why
-      → (q : PassView TableEvent) → AreConfirmed n p entries q → FindsRefusal n p asked why q
+      → (q : PassView TableEvent) → AreConfirmed n p entries q → FindsRefusal n p (λ db. transact_refusal db asked) why q
   refused_kept entries none why is q confirmed = record {
     told = confirmed.told;
     looks = confirmed.looks;
@@ -94,7 +95,7 @@ module _ (n : ℕ) (p : PassView TableEvent) (asked : List TransactAction) where
   names = map (λ (a : TransactAction). a.table) asked
 
   -- by own Looks
-  pub refused_missing : (why : Refusal) (q : PassView TableEvent) → MissesTable n p names why q → FindsRefusal n p asked why q
+  pub refused_missing : (why : Refusal) (q : PassView TableEvent) → MissesTable n p names why q → FindsRefusal n p (λ db. transact_refusal db asked) why q
   refused_missing why q misses = record { told = misses.told; looks = misses.looks; is = λ db agrees. missed_first db asked why (misses.is db agrees) }
 
   known_there : (entries : Kept) (o : Option NumberedTable) (name : List ℕ) → known_of entries name ≡ o → is_some o ≡ true → missing (database_of entries) name ≡ None
@@ -120,7 +121,7 @@ module _ (n : ℕ) (p : PassView TableEvent) (asked : List TransactAction) where
       record { told = on.told; looks = on.looks; stated = are_stated (reverse q.front) entries on.known asked actions keyed }
 
   pub refused_looked : (entries : Kept) (q : PassView TableEvent) → LooksOn n p names [] entries q → (why : Refusal)
-      → transact_refusal (database_of entries) asked ≡ Some why → FindsRefusal n p asked why q
+      → transact_refusal (database_of entries) asked ≡ Some why → FindsRefusal n p (λ db. transact_refusal db asked) why q
   refused_looked entries q on why is = record {
     told = on.told;
     looks = on.looks;

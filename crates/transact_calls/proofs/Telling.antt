@@ -13,9 +13,9 @@ abbrev Found : Type 0
 Found = ReasonOf Attributes EvalFault
 
 pub told_of_pairs : (told : List Reason) (pairs : List (Bor ItemAction × Bor Found)) (actions : List ItemAction) (reasons : List Found)
-    → told ≡ map (λ both. reason_told both.0.now both.1.now) pairs → map (λ both. (both.0.now, both.1.now)) pairs ≡ zip actions reasons
+    → told ≡ map (λ both. reason_told both.0.now.show_old both.1.now) pairs → map (λ both. (both.0.now, both.1.now)) pairs ≡ zip actions reasons
     → told ≡ reasons_told actions reasons
 told_of_pairs told pairs actions reasons is all =
     is
-    ∙ (sym (map-map (λ both. reason_told both.0 both.1) (λ both. (both.0.now, both.1.now)) pairs)
-    ∙ ap (map (λ both. reason_told both.0 both.1)) all)
+    ∙ (sym (map-map (λ both. reason_told both.0.show_old both.1) (λ both. (both.0.now, both.1.now)) pairs)
+    ∙ ap (map (λ both. reason_told both.0.show_old both.1)) all)

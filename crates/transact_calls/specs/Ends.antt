@@ -1,5 +1,5 @@
 -- What is told by the end of a transaction (API Reference: CancellationReason).
-use Rattle.std.specs.Prelude.{◌≡◌, ◌⊎◌, ℕ, List, [], ◌∷◌, map, slice_get, Option, None, Some}
+use Rattle.std.specs.Prelude.{◌≡◌, ◌⊎◌, ℕ, Bool, false, List, [], ◌∷◌, map, slice_get, Option, Some}
 use Rattle.std.specs.List.{zip}
 use Rattle.attr_value.specs.Tree.{Attributes}
 use Rattle.update_eval.specs.declared.fault.EvalFault.{EvalFault}
@@ -22,18 +22,22 @@ use Rattle.transact_asks.specs.Several.{WritesEnd}
 
 -- ---- reasons
 
--- what is told of an action by its reason: an item is shown only where that was asked
-abbrev pub reason_told : ItemAction → ReasonOf Attributes EvalFault → Reason
-reason_told action ReasonOf.None = told.None
-reason_told action (ReasonOf.ConditionFalse old) = told.ConditionFalse (shown_if action.show_old old)
-reason_told action (ReasonOf.Held number) = told.Held number
-reason_told action (ReasonOf.Late stamp) = told.Late stamp
-reason_told action (ReasonOf.Moved first second) = told.Moved first second
-reason_told action (ReasonOf.Invalid fault) = told.Invalid fault
+-- what is told by a reason, with the item or without it
+abbrev pub reason_told : Bool → ReasonOf Attributes EvalFault → Reason
+reason_told shows ReasonOf.None = told.None
+reason_told shows (ReasonOf.ConditionFalse old) = told.ConditionFalse (shown_if shows old)
+reason_told shows (ReasonOf.Held number) = told.Held number
+reason_told shows (ReasonOf.Late stamp) = told.Late stamp
+reason_told shows (ReasonOf.Moved first second) = told.Moved first second
+reason_told shows (ReasonOf.Invalid fault) = told.Invalid fault
 
--- of all actions in order
+-- of all actions in order: an item is shown only where that was asked
 abbrev pub reasons_told : List ItemAction → List (ReasonOf Attributes EvalFault) → List Reason
-reasons_told actions reasons = map (λ both. reason_told both.0 both.1) (zip actions reasons)
+reasons_told actions reasons = map (λ both. reason_told both.0.show_old both.1) (zip actions reasons)
+
+-- of all reads in order: no item is shown
+abbrev pub read_reasons_told : List (ReasonOf Attributes EvalFault) → List Reason
+read_reasons_told reasons = map (λ reason. reason_told false reason) reasons
 
 -- ---- a table that is gone
 

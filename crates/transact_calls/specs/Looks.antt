@@ -1,5 +1,5 @@
 -- Looks for several tables, and the databases that agree with what they told.
-use Rattle.std.specs.Prelude.{◌≡◌, ℕ, List, [], ◌∷◌, Option, option_map}
+use Rattle.std.specs.Prelude.{◌≡◌, ℕ, List, [], ◌∷◌, Option, Some, option_map}
 use Rattle.std.specs.List.{AllByRecursion}
 use Rattle.turnstile.specs.Passes.{PassView}
 use Rattle.txn_core.specs.declared.message.Message.{Message}
@@ -29,6 +29,12 @@ LookedAll n p (look ∷ looks) q =
 abbrev pub AgreesWith : Told → Database → Type 0
 AgreesWith told db =
     AllByRecursion (λ look. option_map (λ table. table.schema) (table_named db look.0) ≡ option_map (λ l. l.schema) look.1) told
+
+-- own Looks told what refuses a request: so every database refuses it that agrees with them
+pub record FindsRefusal (n : ℕ) (p : PassView TableEvent) (refusal : Database → Option Refusal) (why : Refusal) (q : PassView TableEvent) : Type 0 where
+  pub told : Told
+  pub looks : LookedAll n p told q
+  pub is : (db : Database) → AgreesWith told db → refusal db ≡ Some why
 
 -- refused by what the own Looks told, as every database refuses it that agrees with them
 pub record RefusedByLooks (n : ℕ) (p : PassView TableEvent) (request : Request) (reply : Reply) (q : PassView TableEvent) : Type 0 where

@@ -5,7 +5,7 @@ use Rattle.turnstile.specs.Passes.{PassView}
 use Rattle.row_keys.specs.declared.row_key.RowKey.{RowKey}
 use Rattle.table_request.specs.declared.transactions.TransactAction.{TransactAction}
 use Rattle.table_model.specs.declared.refusal.Refusal.{Refusal}
-use Rattle.table_model.specs.Database.{Database, first}
+use Rattle.table_model.specs.Database.{first}
 use Rattle.table_model.specs.Batches.{missing, place_if}
 use Rattle.table_model.specs.Transactions.{change_key, transact_refusal}
 use Rattle.numbered_tables.specs.Tables.{Kept}
@@ -19,7 +19,7 @@ use Rattle.table_history.specs.Entries.{TableEvent}
 use Rattle.cell_asks.specs.Steps.{IsInVain}
 use Rattle.cell_asks.specs.Told.{WasTold}
 use Rattle.transact_calls.specs.declared.keyed.Stated.{Stated}
-use Rattle.transact_calls.specs.Looks.{Told, LookedAll, AgreesWith}
+use Rattle.transact_calls.specs.Looks.{Told, LookedAll, FindsRefusal}
 
 -- where the table of a number has the item of a row
 abbrev pub item_at : ℕ → RowKey → CellKey
@@ -62,13 +62,7 @@ module _ (n : ℕ) (p : PassView TableEvent) (asked : List TransactAction) where
     pub looks : LookedAll n p told q
     pub stated : AreStated (reverse q.front) asked actions
 
-  -- refused by what own Looks told
-  pub record FindsRefusal (why : Refusal) (q : PassView TableEvent) : Type 0 where
-    pub told : Told
-    pub looks : LookedAll n p told q
-    pub is : (db : Database) → AgreesWith told db → transact_refusal db asked ≡ Some why
-
   abbrev pub Finds : Stated → PassView TableEvent → Type 0
   Finds (Stated.Actions actions) q = FindsActions actions q
-  Finds (Stated.Refused why) q = FindsRefusal why q
+  Finds (Stated.Refused why) q = FindsRefusal n p (λ db. transact_refusal db asked) why q
   Finds Stated.Again q = IsInVain n p q

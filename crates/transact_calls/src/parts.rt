@@ -3,7 +3,7 @@
 ghost use Rattle.std.specs.Prelude.{◌≡◌, List, ℕ};
 
 use base_types::Text;
-use table_request::TransactAction;
+use table_request::{TransactAction, TransactRead};
 
 /// A part of a request that names its table.
 pub(crate) trait OfTable {
@@ -15,6 +15,14 @@ pub(crate) trait OfTable {
 
 impl OfTable for TransactAction {
     ghost table_of = { λ action. action.table };
+
+    fn table(&self) -> &Text {
+        &self.table
+    }
+}
+
+impl OfTable for TransactRead {
+    ghost table_of = { λ read. read.table };
 
     fn table(&self) -> &Text {
         &self.table

@@ -1,3 +1,4 @@
 pub mod Twice
 pub mod Firsts
 pub mod Reading
+pub mod Telling

@@ -1,25 +1,29 @@
 //! Reads with their tables and their keys.
 
 ghost use Rattle.std.specs.Prelude.{◌≡◌, IfOk, map};
-ghost use Rattle.std.specs.Option.{option_copied};
-ghost use Rattle.table_model.specs.Transactions.{Target};
 ghost use Rattle.table_model.specs.Database.{first};
 ghost use Rattle.table_model.specs.Batches.{missing};
-ghost use Rattle.table_model.specs.Consumed.{where_asked};
-ghost use Rattle.table_request.specs.Usage.{by_table};
-ghost use Rattle.transact_reads.specs.Found.{target_of, item_of, shown_of, used_by, IsFound, AreFound, database_of};
+ghost use Rattle.transact_reads.specs.Found.{target_of, item_of, IsFound, AreFound, database_of};
+ghost use Rattle.transact_reads.specs.Checked.{place_of};
 
 use crate::targets::Targeted;
-use attr_value::{SharedItem, lent};
+use crate::told::ItemRead;
+use attr_value::SharedItem;
 use base_types::{Seq, Text};
-use capacity::{Mode, read_halves};
 use numbered_tables::NumberedTable;
 use row_keys::RowKey;
 use std::alloc::{AllocError as NoMemory, Global};
 use std::collections::BTreeMap;
-use table_items::{bytes_of, key_of_key, view};
+use table_items::key_of_key;
 use table_model::{Invalid, Refusal};
-use table_request::{Consumed, TransactRead, Usage};
+use table_request::TransactRead;
+
+/// Where the item of a read is: the number of its table, and its key.
+#[derive(Drop)]
+pub struct ReadAt {
+    pub table: u64,
+    pub key: RowKey,
+}
 
 /// A read with its table and the key of its item.
 #[derive(Drop)]
@@ -41,29 +45,34 @@ impl<'a> Targeted for FoundRead<'a> {
     }
 }
 
-impl<'a> FoundRead<'a> {
-    /// The item, where it is there.
-    fn item(&self) -> Option<&SharedItem>
-        ensures { option_copied result ≡ item_of self.now }
-    {
+impl<'a> ItemRead for FoundRead<'a> {
+    ghost read_in = { λ found. found.read.now };
+
+    ghost item_in = { item_of };
+
+    fn read(&self) -> &TransactRead {
+        self.read
+    }
+
+    fn item(&self) -> Option<&SharedItem> {
         self.table.rows.get(&self.key)
     }
+}
 
-    /// What is shown of the item, where it is there.
-    fn view(&self, alloc: Global) -> Result<Option<SharedItem>, NoMemory>
-        ensures { IfOk result (λ shown. shown ≡ shown_of self.now) }
+impl<'a> FoundRead<'a> {
+    /// Where its item is.
+    pub(crate) fn into_place(self) -> ReadAt
+        ensures { result ≡ place_of (target_of self.entry) }
     {
-        match self.item() {
-            Some(item) => Ok(Some(view(alloc, self.read.projection.as_ref(), item)?)),
-            None => Ok(None),
+        let FoundRead {
+            read: _,
+            table,
+            key,
+        } = self;
+        ReadAt {
+            table: table.number,
+            key,
         }
-    }
-
-    /// The halves of a unit that the read uses.
-    fn halves(&self) -> u64
-        ensures { result ≡ (used_by self.now).halves }
-    {
-        read_halves(bytes_of(lent(self.item())), Mode::Transact)
     }
 }
 
@@ -115,43 +124,4 @@ pub(crate) fn find_all<'a>(
         }
     }
     Ok(Ok(all))
-}
-
-/// What is shown of each item, where it is there.
-pub(crate) fn views(
-    alloc: Global,
-    found: &[FoundRead<'_>],
-) -> Result<Seq<Option<SharedItem>>, NoMemory>
-    ensures { IfOk result (λ shown. shown ≡ map shown_of found.now) }
-{
-    let mut shown = Seq::with_capacity(alloc, found.len())?;
-    for read in found {
-        shown.push(read.view(alloc)?)?;
-    }
-    Ok(shown)
-}
-
-/// What all reads use, of each table, in the order of the tables' names.
-fn used(alloc: Global, found: &[FoundRead<'_>]) -> Result<Seq<Consumed>, NoMemory>
-    ensures { IfOk result (λ used. used ≡ by_table (map used_by found.now)) }
-{
-    let mut usage = Usage::new(alloc);
-    for read in found {
-        usage.add(&read.read.table, read.halves())?;
-    }
-    usage.into_consumed(alloc)
-}
-
-/// The same where it is told. Else nothing is measured.
-pub(crate) fn used_if(
-    capacity: bool,
-    alloc: Global,
-    found: &[FoundRead<'_>],
-) -> Result<Option<Seq<Consumed>>, NoMemory>
-    ensures { IfOk result (λ used. used ≡ where_asked capacity (by_table (map used_by found.now))) }
-{
-    if !capacity {
-        return Ok(None);
-    }
-    Ok(Some(used(alloc, found)?))
 }

@@ -1,4 +1,4 @@
 mod Counted
-mod Points
+pub mod Points
 mod Told
 mod Units

@@ -40,12 +40,12 @@ module _ {K V A F C D Q B : Type 0} (S : Service K V A F C D Q B) where
     is : h ≡ middle ++ older
     found : Reads S older key v.item v.version v.held
 
-  record IsReadAfter (h : History S) (key : K) (v : ItemVersion V) : Type 0 where
-    newer : History S
-    legal : IsLegal S (newer ++ h)
-    found : Reads S (newer ++ h) key v.item v.version v.held
+  pub record IsReadAfter (h : History S) (key : K) (v : ItemVersion V) : Type 0 where
+    pub newer : History S
+    pub legal : IsLegal S (newer ++ h)
+    pub found : Reads S (newer ++ h) key v.item v.version v.held
 
-  abbrev Each : (K → ItemVersion V → Type 0) → List K → List (ItemVersion V) → Type 0
+  abbrev pub Each : (K → ItemVersion V → Type 0) → List K → List (ItemVersion V) → Type 0
   Each P (k ∷ keys) (v ∷ vs) = P k v × Each P keys vs
   Each P _ _ = Unit {0}
 
@@ -81,7 +81,7 @@ module _ {K V A F C D Q B : Type 0} (S : Service K V A F C D Q B) where
           first_round (t.0 ++ e ∷ []) keys found log legal after,
         )
 
-    second_round :
+    pub second_round :
         (log since : List (Event S)) (keys : List K) (found : List (ItemVersion V)) (end : List (Event S)) → IsLegal S (reverse end)
         → Trail pass_of p.number (log ++ since) (round S p keys found) end → Each (IsReadAfter (reverse log)) keys found
     second_round log since [] [] end legal trail = tt
@@ -143,10 +143,13 @@ module _ {K V A F C D Q B : Type 0} (S : Service K V A F C D Q B) where
         legal_before S (reverse after.rest) (reverse q.front)
         (subst (IsLegal S) (ap reverse (sym after.is) ∙ beginning_is_tail q.front after.rest) later) in
         record {
+          legal = later;
           log = q.front;
           first = first;
+          each_first = each_first;
           before = one.trail;
           second = second;
+          each_second = each_second;
           after = after;
           are =
               ruled.0

@@ -6,6 +6,7 @@ use Rattle.turnstile.specs.Passes.{PassView}
 use Rattle.txn_core.specs.declared.message.Message.{Message}
 use Rattle.txn_core.specs.declared.answer.Answer.{Answer}
 use Rattle.txn_core.specs.Laws.{item_by}
+use Rattle.txn_core.specs.Legal.{IsLegal}
 use Rattle.txn_core.specs.Service.{Service, Event}
 use Rattle.cluster.specs.declared.step.StepError.{StepError}
 use Rattle.cluster.specs.Events.{pass_of, event_of}
@@ -76,13 +77,16 @@ module _ {K V A F C D Q B : Type 0} (S : Service K V A F C D Q B) where
   Ends p keys ReadEnd.Spent q = IsCutShort p keys StepError.Spent q
   Ends p keys ReadEnd.NoMemory q = IsCutShort p keys StepError.NoMemory q
 
-  -- these were the items of the tables at a point between the two rounds
+  -- these were the items of the tables at a point between the two rounds of a legal history
   pub record AreAtOnePoint (p : PassView (Event S)) (keys : List K) (items : List (Option V)) (q : PassView (Event S)) : Type 0 where
+    pub legal : IsLegal S (reverse q.front)
     -- what had happened by then, the oldest first
     pub log : List (Event S)
     pub first : List (ItemVersion V)
+    pub each_first : length first ≡ length keys
     pub before : Trail pass_of p.number p.front (round p keys first) log
     pub second : List (ItemVersion V)
+    pub each_second : length second ≡ length keys
     pub after : Trail pass_of p.number log (round p keys second) q.front
     pub are : items ≡ map (item_by S (reverse log)) keys
 

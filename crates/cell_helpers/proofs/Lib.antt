@@ -1,0 +1,3 @@
+mod Free
+pub mod Kept
+pub mod Crossings

@@ -1,3 +1,0 @@
-pub mod EventLemmas
-pub mod Meeting
-pub mod SessionLemmas
