@@ -4,9 +4,7 @@
 //! the caller tries again, and looks. `specs/Requests.antt` names what each call adds to the one history.
 #![tactic(auto)]
 
-mod items;
-mod several;
-mod tables;
+mod call;
 mod tried;
 
 pub use tried::try_request;

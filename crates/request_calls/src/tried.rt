@@ -4,12 +4,7 @@ ghost use Rattle.std.specs.Prelude.{IfOk, IfErr, reverse};
 ghost use Rattle.cell_asks.specs.Told.{AreTold};
 ghost use Rattle.request_calls.specs.Requests.{Stops, Tries};
 
-use crate::items::{delete_item, get_item, put_item, update_item};
-use crate::several::{batch_get, batch_write, query, scan, transact_get, transact_write};
-use crate::tables::{
-    create_table, delete_table, describe_table, describe_time_to_live, list_tables, update_table,
-    update_time_to_live,
-};
+use crate::call::Call;
 use cell_asks::{Looks, StepError, Tried};
 use table_request::Request;
 use transact_asks::Transacts;
@@ -33,22 +28,22 @@ pub fn try_request<C: Transacts>(
     ensures fits { C.fits cells.now pass.new }
 {
     match request {
-        Request::CreateTable(request) => create_table(cells, pass, request),
-        Request::DeleteTable(request) => delete_table(cells, pass, request),
-        Request::UpdateTable(request) => update_table(cells, pass, request),
-        Request::DescribeTable(request) => describe_table(cells, pass, request),
-        Request::ListTables(request) => list_tables(cells, pass, request),
-        Request::UpdateTimeToLive(request) => update_time_to_live(cells, pass, request),
-        Request::DescribeTimeToLive(request) => describe_time_to_live(cells, pass, request),
-        Request::GetItem(request) => get_item(cells, pass, looks, request),
-        Request::PutItem(request) => put_item(cells, pass, looks, request),
-        Request::UpdateItem(request) => update_item(cells, pass, looks, request),
-        Request::DeleteItem(request) => delete_item(cells, pass, looks, request),
-        Request::BatchGet(request) => batch_get(cells, pass, looks, request),
-        Request::BatchWrite(request) => batch_write(cells, pass, looks, request),
-        Request::Query(request) => query(cells, pass, looks, request),
-        Request::Scan(request) => scan(cells, pass, looks, request),
-        Request::TransactWrite(request) => transact_write(cells, pass, looks, request),
-        Request::TransactGet(request) => transact_get(cells, pass, looks, request),
+        Request::CreateTable(request) => request.try_once(cells, pass, looks),
+        Request::DeleteTable(request) => request.try_once(cells, pass, looks),
+        Request::UpdateTable(request) => request.try_once(cells, pass, looks),
+        Request::DescribeTable(request) => request.try_once(cells, pass, looks),
+        Request::ListTables(request) => request.try_once(cells, pass, looks),
+        Request::UpdateTimeToLive(request) => request.try_once(cells, pass, looks),
+        Request::DescribeTimeToLive(request) => request.try_once(cells, pass, looks),
+        Request::GetItem(request) => request.try_once(cells, pass, looks),
+        Request::PutItem(request) => request.try_once(cells, pass, looks),
+        Request::UpdateItem(request) => request.try_once(cells, pass, looks),
+        Request::DeleteItem(request) => request.try_once(cells, pass, looks),
+        Request::BatchGet(request) => request.try_once(cells, pass, looks),
+        Request::BatchWrite(request) => request.try_once(cells, pass, looks),
+        Request::Query(request) => request.try_once(cells, pass, looks),
+        Request::Scan(request) => request.try_once(cells, pass, looks),
+        Request::TransactWrite(request) => request.try_once(cells, pass, looks),
+        Request::TransactGet(request) => request.try_once(cells, pass, looks),
     }
 }
