@@ -1,0 +1,2 @@
+-- What the prover needs beside the code.
+mod Ids
