@@ -6,7 +6,7 @@ ghost use Rattle.cell_asks.specs.Told.{AreTold};
 use api_reply::body;
 use api_request::read;
 use cell_asks::{Asks, Looks, StepError, Tried};
-use item_calls::{delete_item, get_item, put_item, update_item};
+use request_calls::try_request;
 use std::alloc::Global;
 use table_calls::{
     create_table, delete_table, describe_table, describe_time_to_live, list_tables, update_table,
@@ -14,27 +14,7 @@ use table_calls::{
 };
 use table_model::Reply;
 use table_request::Request;
-
-/// One try of a request on one item.
-fn item_tried<C: Asks>(
-    cells: &C,
-    pass: &mut C::Pass,
-    looks: &mut Looks,
-    request: Request,
-) -> Result<Tried, StepError>
-    requires fits { C.fits cells.now pass.old }
-    requires told { AreTold (reverse (C.seen pass.old).front) looks.old }
-    ensures fits { C.fits cells.now pass.new }
-    ensures told { AreTold (reverse (C.seen pass.new).front) looks.new }
-{
-    match request {
-        Request::GetItem(request) => get_item(cells, pass, looks, &request),
-        Request::PutItem(request) => put_item(cells, pass, looks, request),
-        Request::UpdateItem(request) => update_item(cells, pass, looks, request),
-        Request::DeleteItem(request) => delete_item(cells, pass, looks, request),
-        _ => Err(StepError::Spent),
-    }
-}
+use transact_asks::Transacts;
 
 /// The reply to a request on tables.
 fn table_reply<C: Asks>(cells: &C, pass: &mut C::Pass, request: Request) -> Result<Reply, StepError>
@@ -89,7 +69,7 @@ pub(crate) fn is_told<C: Asks>(
     }
 }
 
-/// What is shown at one try of a message on one item.
+/// What is shown at one try of a message on items.
 #[derive(Drop)]
 pub(crate) enum Shown {
     /// The body of the reply.
@@ -106,8 +86,8 @@ fn shown_body(alloc: Global, reply: &Reply) -> Option<Shown> {
     }
 }
 
-/// What is shown at one try of a message on one item; none where the message is none, or was given up.
-pub(crate) fn show<C: Asks>(
+/// What is shown at one try of a message on items; none where the message is none, or was given up.
+pub(crate) fn show<C: Transacts>(
     cells: &C,
     pass: &mut C::Pass,
     looks: &mut Looks,
@@ -122,15 +102,15 @@ pub(crate) fn show<C: Asks>(
     let Ok(request) = read(cells.alloc(), Some(target.as_bytes()), json.as_bytes()) else {
         return None;
     };
-    match item_tried(cells, pass, looks, request) {
+    match try_request(cells, pass, looks, request) {
         Ok(Tried::Reply(reply)) => shown_body(cells.alloc(), &reply),
         Ok(Tried::Again) => Some(Shown::Again),
         Err(_) => None,
     }
 }
 
-/// Whether the reply to a message on one item has this body, at this try; none, where it is to be tried again.
-pub(crate) fn is_shown<C: Asks>(
+/// Whether the reply to a message on items has this body, at this try; none, where it is to be tried again.
+pub(crate) fn is_shown<C: Transacts>(
     cells: &C,
     pass: &mut C::Pass,
     looks: &mut Looks,

@@ -4,9 +4,10 @@ ghost use Rattle.std.specs.Prelude.{◌≡◌, ◌≤◌, reverse};
 ghost use Rattle.cell_asks.specs.Told.{AreTold};
 ghost use Rattle.cluster.specs.Steps.{IsAtRest, partitions_of};
 
-use crate::held::{Deed, is_left, is_swept};
+use crate::left::{are_swept, is_left};
 use crate::sessions::{CREATE, EXPIRE, GET, Line, PUT, is_right};
 use cell_asks::Looks;
+use coordinator::Point;
 use std::alloc::{AllocError as NoMemory, Global};
 use std::sync::Wait;
 use std::test::*;
@@ -70,6 +71,10 @@ const A: &str = r#"{"TableName":"Tab","Key":{"id":{"S":"a"}}}"#;
 const B: &str = r#"{"TableName":"Tab","Key":{"id":{"S":"b"}}}"#;
 
 const C: &str = r#"{"TableName":"Tab","Key":{"id":{"S":"c"}}}"#;
+
+/// A transaction that finds the item `a` there.
+const CHECK: &str =
+    r#"{"TransactItems":[{"ConditionCheck":{"TableName":"Tab","Key":{"id":{"S":"a"}},"ConditionExpression":"attribute_exists(id)"}}]}"#;
 
 const A_IS_SHOWN: Step = Step::Ask(Line::Item(
     GET,
@@ -208,8 +213,8 @@ fn goes_so<T: Wait>(
         Step::Expire(limit, removed, more) => {
             limit > 0 && are_removed(cells, tables, partitions, limit, (removed, more))
         }
-        Step::Hold => is_left(cells, tables, Deed::Checks),
-        Step::Release => is_swept(cells, tables),
+        Step::Hold => is_left(cells, items, looks, CHECK, Point::AfterPrepare(0)),
+        Step::Release => are_swept(cells, tables, 1),
     }
 }
 

@@ -6,8 +6,16 @@ mod calls;
 #[cfg(test)]
 mod expiry;
 #[cfg(test)]
+mod gates;
+#[cfg(test)]
 mod held;
+#[cfg(test)]
+mod late;
+#[cfg(test)]
+mod left;
 #[cfg(test)]
 mod limit;
 #[cfg(test)]
 mod sessions;
+#[cfg(test)]
+mod stops;

@@ -4,11 +4,12 @@ ghost use Rattle.std.specs.Prelude.{◌≤◌, reverse};
 ghost use Rattle.cell_asks.specs.Told.{AreTold};
 
 use crate::calls::{is_shown, is_told};
-use cell_asks::{Asks, Looks};
+use cell_asks::Looks;
 use std::alloc::{AllocError as NoMemory, Global};
 use std::sync::Wait;
 use std::test::*;
 use table_cells::TableCells;
+use transact_asks::Transacts;
 
 /// A message, by its operation and body, and the body of the reply.
 #[derive(Clone, Copy)]
@@ -39,7 +40,7 @@ pub(crate) const PUT: &str = "DynamoDB_20120810.PutItem";
 
 pub(crate) const UPDATE: &str = "DynamoDB_20120810.UpdateItem";
 
-const DELETE: &str = "DynamoDB_20120810.DeleteItem";
+pub(crate) const DELETE: &str = "DynamoDB_20120810.DeleteItem";
 
 static LINES: [Line; 24] = [
     Line::Item(
@@ -155,7 +156,7 @@ static LINES: [Line; 24] = [
 ];
 
 /// Whether the reply to a line is the one that it has.
-pub(crate) fn is_right<C: Asks>(
+pub(crate) fn is_right<C: Transacts>(
     cells: &C,
     tables: &mut C::Pass,
     items: &mut C::Pass,
@@ -179,7 +180,7 @@ pub(crate) fn is_right<C: Asks>(
 }
 
 /// Whether so it is with each line, one after another.
-pub(crate) fn are_right<C: Asks>(
+pub(crate) fn are_right<C: Transacts>(
     cells: &C,
     tables: &mut C::Pass,
     items: &mut C::Pass,
