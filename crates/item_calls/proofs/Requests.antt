@@ -1,13 +1,15 @@
 -- What requests on one item are refused for by a schema, and which writes they state by it.
-use Rattle.std.proofs.Common.{◌≡◌, ℕ, Bool, true, false, Option, None, Some, Result, Ok, Err, refl, sym, ap, ◌∙◌, inl, inr}
+use Rattle.std.proofs.Common.{◌≡◌, ℕ, List, Bool, true, false, Option, None, Some, Result, Ok, Err, refl, sym, ap, ◌∙◌, inl, inr}
 use Rattle.std.specs.Prelude.{option_map}
 use Rattle.expr_parse.specs.declared.tree.Update.{Update}
+use Rattle.update_eval.specs.declared.fault.EvalFault.{EvalFault}
 use Rattle.item_keys.specs.declared.key.Key.{Key}
 use Rattle.item_keys.specs.ItemKey.{key_in, key_alone}
 use Rattle.row_keys.specs.declared.row_key.RowKey.{RowKey}
 use Rattle.table_schema.specs.declared.schema.Schema.{Schema}
 use Rattle.table_request.specs.declared.request.Request.{Request}
 use Rattle.table_request.specs.declared.request.Request.TheVariants as request
+use Rattle.table_request.specs.declared.items.ReturnValues.{ReturnValues}
 use Rattle.table_request.specs.declared.items.GetItem.{GetItem}
 use Rattle.table_request.specs.declared.items.PutItem.{PutItem}
 use Rattle.table_request.specs.declared.items.UpdateItem.{UpdateItem}
@@ -20,7 +22,7 @@ use Rattle.table_model.specs.declared.refusal.Invalid.TheVariants as invalid
 use Rattle.table_model.specs.Database.{Database, Table, Effect, table_named, refused, in_table, at_key, unless}
 use Rattle.table_model.specs.Effect.{IsEffect}
 use Rattle.table_model.specs.Reads.{told_read}
-use Rattle.table_model.specs.Writes.{touched_key, key_update, old_at, put_at, update_at, delete_at, told_written, used_by_write}
+use Rattle.table_model.specs.Writes.{touched_key, key_update, old_at, put_at, update_at, delete_at, told_written, used_by_write, put_fault}
 use Rattle.table_items.specs.Outcomes.{row_key_if}
 use Rattle.txn_core.specs.declared.answer.Answer.{Answer}
 use Rattle.cell_model.specs.declared.catalog.CatalogTable.{CatalogTable}
@@ -192,3 +194,18 @@ delete_states r = record {
     replies (Answer.CondFalse old) h = (_, refl)
     replies (Answer.Invalid fault) h = (_, refl)
     replies _ h = absurd (cc)
+
+-- ---- no conflict is told by an answer to which a write replies as the database does
+
+told_by_update : (fault : EvalFault → Invalid) (show_old : Bool) (capacity : Bool) (table : List ℕ) (show : ReturnValues) (update : Option Update)
+    (a : TableAnswer) (number : ℕ) → told_by fault show_old (told_written capacity table show update) a ≡ Some (Refused (refusal.Conflict number)) → ⊥
+told_by_update fault show_old capacity table show update (Answer.Written old new) number told = cc
+told_by_update fault show_old capacity table show update (Answer.CondFalse old) number told = cc
+told_by_update fault show_old capacity table show update (Answer.Invalid found) number told = cc
+told_by_update fault show_old capacity table show update _ number told = cc
+
+pub no_conflict : (asked : Request) (a : TableAnswer) (number : ℕ) → write_reply asked a ≡ Some (Refused (refusal.Conflict number)) → ⊥
+no_conflict (request.PutItem r) a number told = told_by_update put_fault r.show_old r.capacity r.table r.return_values None a number told
+no_conflict (request.UpdateItem r) a number told = told_by_update invalid.Evaluation r.show_old r.capacity r.table r.return_values r.update a number told
+no_conflict (request.DeleteItem r) a number told = told_by_update invalid.Evaluation r.show_old r.capacity r.table r.return_values None a number told
+no_conflict _ a number told = cc

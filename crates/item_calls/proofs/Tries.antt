@@ -51,7 +51,7 @@ use Rattle.cell_asks.proofs.Trails.{vain_on, gives_up_on}
 use Rattle.cell_asks.proofs.SameKeys.{same_key_alone}
 use Rattle.cell_asks.proofs.Histories.{before_legal, is_answer, told_then, looked_none, looked_some, is_there, wrote_table, got_table, IsThatTable, that_table}
 use Rattle.item_calls.proofs.Places.{row_refuses, key_behind}
-use Rattle.item_calls.proofs.Requests.{IsRefusedFor, StatesAt, read_rows}
+use Rattle.item_calls.proofs.Requests.{IsRefusedFor, StatesAt, read_rows, no_conflict}
 
 -- ---- refused by a Look
 
@@ -169,6 +169,7 @@ module _ (n : ℕ) (p : PassView TableEvent) (asked : Request) (rows : Schema �
             wrote = one;
             stated = stated a one refl;
             is = does a one refl r.0 r.1;
+            held = λ number conflict. absurd (no_conflict asked a number (r.1 ∙ ap Some conflict));
           }))
       by_answer (Wrote.CondFalse old) one =
           let a : TableAnswer = Answer.CondFalse old in
@@ -181,6 +182,7 @@ module _ (n : ℕ) (p : PassView TableEvent) (asked : Request) (rows : Schema �
             wrote = one;
             stated = stated a one refl;
             is = does a one refl r.0 r.1;
+            held = λ number conflict. absurd (no_conflict asked a number (r.1 ∙ ap Some conflict));
           }))
       by_answer (Wrote.Invalid fault) one =
           let a : TableAnswer = Answer.Invalid fault in
@@ -193,6 +195,7 @@ module _ (n : ℕ) (p : PassView TableEvent) (asked : Request) (rows : Schema �
             wrote = one;
             stated = stated a one refl;
             is = does a one refl r.0 r.1;
+            held = λ number conflict. absurd (no_conflict asked a number (r.1 ∙ ap Some conflict));
           }))
       by_answer (Wrote.Held number) one = inr (record {
         mid = mid;
@@ -202,6 +205,7 @@ module _ (n : ℕ) (p : PassView TableEvent) (asked : Request) (rows : Schema �
         wrote = one;
         stated = stated (Answer.Held number) one refl;
         is = refl;
+        held = λ other same. cc;
       })
       by_answer Wrote.Stale one = vain_on n p (table_asked asked) mid known.looked (Message.Write (act key)) Answer.Stale q one refl
 

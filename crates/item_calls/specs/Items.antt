@@ -88,7 +88,7 @@ module _ (n : ℕ) (p : PassView TableEvent) where
     pub of : IsReadAt n (past_of got) r key
     pub is : (db : Database) → HasShown n (past_of got) db → IsEffect db (request.GetItem r) p.moment db reply
 
-  -- the own Write, of the action that the request states, and the reply by its answer
+  -- the own Write, of the action that the request states, and the reply by its answer; a conflict is told only where it was held
   pub record Writes (request : Request) (reply : Reply) (q : PassView TableEvent) : Type 0 where
     pub mid : PassView TableEvent
     pub looked : Looked n p (table_asked request) mid
@@ -97,6 +97,7 @@ module _ (n : ℕ) (p : PassView TableEvent) where
     pub wrote : One n mid (Message.Write action) answer q
     pub stated : IsStated n (past_of wrote) request action
     pub is : IsWriteReply n (past_of wrote) (answered n mid (Message.Write action) answer) request reply answer
+    pub held : (number : ℕ) → reply ≡ Refused (Conflict number) → answer ≡ Answer.Held number
 
   -- ---- the tries
 
