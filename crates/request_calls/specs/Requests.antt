@@ -1,5 +1,5 @@
 -- What a try of any request comes to, each by the definition of its call.
-use Rattle.std.specs.Prelude.{◌≡◌, ℕ, List}
+use Rattle.std.specs.Prelude.{◌≡◌, ℕ, Bool, true, false, List}
 use Rattle.turnstile.specs.Passes.{PassView, most_units}
 use Rattle.cluster.specs.declared.step.StepError.{StepError}
 use Rattle.coordinator.specs.Driving.{Added}
@@ -20,6 +20,13 @@ use Rattle.page_calls.specs.Pages.{IsPageTry}
 use Rattle.transact_calls.specs.declared.write.Transacted.{Transacted}
 use Rattle.transact_calls.specs.Transactions.{IsTransactWriteTry, GivesUpOnce}
 use Rattle.transact_calls.specs.Gets.{IsTransactGetTry}
+
+-- a request that is one write
+abbrev pub is_single_write : Request → Bool
+is_single_write (request.PutItem r) = true
+is_single_write (request.UpdateItem r) = true
+is_single_write (request.DeleteItem r) = true
+is_single_write _ = false
 
 -- a call that is never tried again replied so
 abbrev pub Replies : (Reply → Type 0) → Tried → Type 0
