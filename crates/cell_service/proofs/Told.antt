@@ -1,5 +1,5 @@
 -- What a pass counted by the tries of a message, one after another.
-use Rattle.std.specs.Prelude.{All}
+use Rattle.std.specs.Prelude.{All, Bool, true, Option, Some, None, MatchOption}
 use Rattle.std.specs.List.{AllByRecursion}
 use Rattle.std.proofs.Common.{◌≡◌, ℕ, List, [], ◌∷◌, ◌++◌, map, reverse, refl, sym, ap, subst, ◌∙◌, inl, inr, arith}
 use Rattle.std.proofs.lemmas.List.{reverse-append}
@@ -15,15 +15,23 @@ use Rattle.coordinator.proofs.Moving.{added_by, added_after}
 use Rattle.cell_model.specs.Service.{service}
 use Rattle.pass_sessions.specs.PassWays.{IsStep, at_moment}
 use Rattle.pass_sessions.proofs.Meeting.{each_by_recursion, each_by_place}
-use Rattle.table_service.specs.Telling.{Told}
+use Rattle.table_request.specs.declared.request.Request.{Request}
+use Rattle.table_model.specs.declared.reply.Reply.{Reply}
+use Rattle.table_model.specs.declared.reply.Reply.TheVariants.{Refused}
+use Rattle.table_model.specs.declared.refusal.Refusal.TheVariants.{Conflict}
+use Rattle.http_session.specs.declared.answer.Answer.{Answer}
+use Rattle.table_service.specs.Telling.{Told, IsTold, told, told_reply}
 use Rattle.table_history.specs.Entries.{TableEvent}
 use Rattle.cell_asks.specs.declared.looks.Looks.{Looks}
+use Rattle.cell_asks.specs.declared.tried.Tried.{Tried}
 use Rattle.cell_asks.specs.Steps.{binds, bound, IsInVain}
 use Rattle.cell_asks.specs.Told.{AreTold}
 use Rattle.cell_asks.proofs.Kept.{all_told_later}
 use Rattle.cell_helpers.specs.Passes.{pass_in}
 use Rattle.cell_helpers.specs.declared.helper.Helper.{Helper}
-use Rattle.cell_service.specs.Right.{InVain, IsAnswered, Answers, Right, cells_of}
+use Rattle.request_calls.specs.Requests.{is_single_write, IsTry, Tries}
+use Rattle.request_calls.proofs.Held.{conflict_in_vain}
+use Rattle.cell_service.specs.Right.{InVain, IsConflict, IsServed, IsAnswered, Answers, Right, cells_of}
 
 -- entries of its own, for one unit each and one more at most
 record Counted (n : ℕ) (p q : PassView TableEvent) : Type 0 where
@@ -74,6 +82,18 @@ answered_step p ticked q message moment status body n same count answers = go (s
       trail = is.added.trail;
       right = subst (λ k. Answers k (at_moment p moment) own message (status, body) q) count is;
     }
+
+-- ---- a reply is told, or was a conflict that waits
+
+module _ (n : ℕ) (p : PassView TableEvent) (request : Request) (reply : Reply) (q : PassView TableEvent) (tries : Tries n p request (Tried.Reply reply) q) where
+  pub conflict_waits : (number : ℕ) → reply ≡ Refused (Conflict number) → is_single_write request ≡ true → IsInVain n p q
+  conflict_waits number is single = conflict_in_vain n p request number q single (subst (λ x. IsTry n p request (Tried.Reply x) q) is tries.is)
+
+  pub served : (may_wait : Bool) → (may_wait ≡ true → is_single_write request ≡ true) → (answer : Option Answer)
+      → MatchOption answer ((may_wait ≡ true) × IsConflict reply) (λ a. IsTold (told_reply reply) (told a))
+      → MatchOption answer (IsInVain n p q) (λ a. IsServed n p request (told a) q)
+  served may_wait single None (waits, (number, is)) = conflict_waits number is (single waits)
+  served may_wait single (Some answer) is = inl (reply, tries, is)
 
 -- ---- what is kept of Looks stays told
 

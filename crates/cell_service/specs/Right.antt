@@ -7,6 +7,8 @@ use Rattle.cluster.specs.Counts.{Counts}
 use Rattle.coordinator.specs.Driving.{Added}
 use Rattle.table_request.specs.declared.request.Request.{Request}
 use Rattle.table_model.specs.declared.reply.Reply.{Reply}
+use Rattle.table_model.specs.declared.reply.Reply.TheVariants.{Refused}
+use Rattle.table_model.specs.declared.refusal.Refusal.TheVariants.{Conflict}
 use Rattle.request_parts.specs.declared.refusal.Refusal.{Refusal}
 use Rattle.table_service.specs.Telling.{States, IsRefusedAtOnce, Told, IsTold, told_budget, told_memory, told_refusal, told_reply}
 use Rattle.cell_model.specs.Service.{service}
@@ -15,13 +17,17 @@ use Rattle.cell_asks.specs.declared.tried.Tried.{Tried}
 use Rattle.cell_asks.specs.Steps.{bound}
 use Rattle.request_calls.specs.Requests.{Tries, Stops}
 
+-- a transaction holds the item of a write
+abbrev pub IsConflict : Reply → Type 0
+IsConflict reply = (number : ℕ) × (reply ≡ Refused (Conflict number))
+
 -- what is told of an error
 abbrev pub told_error : StepError → Told
 told_error StepError.NoMemory = told_memory
 told_error StepError.Spent = told_budget
 
 module _ (n : ℕ) (p : PassView TableEvent) where
-  -- tries in vain, each of which found a table gone, bound nothing
+  -- tries in vain, each of which found a table gone or an item held, bound nothing
   pub record InVain (q : PassView TableEvent) : Type 0 where
     pub own : List TableEvent
     pub counts : Counts (service n) p own 0 q

@@ -8,6 +8,7 @@ ghost use Rattle.table_service.specs.Telling.{told};
 ghost use Rattle.cell_service.specs.Right.{Answers};
 
 use crate::hinting::follow;
+use crate::patience::Patience;
 use crate::serving::{Served, Shared, serve_message};
 use cell_asks::Looks;
 use cell_helpers::Hints;
@@ -17,7 +18,8 @@ use std::sync::Wait;
 use transact_asks::Transacts;
 
 /// Answers a message at the moment of the pass. It is tried again as long as a table was gone that was known; each try looks at
-/// what the one before it let go of.
+/// what the one before it let go of. A single write that finds its item held is tried again while there is patience, since the
+/// transaction that holds it is likely to end within microseconds.
 pub(crate) fn answer<R: Wait, C: Transacts>(
     rt: &R,
     shared: &Shared,
@@ -34,12 +36,14 @@ pub(crate) fn answer<R: Wait, C: Transacts>(
     ensures told { AreTold (reverse (C.seen pass.new).front) looks.new }
     ensures fits { C.fits cells.now pass.new }
 {
+    let mut patience = Patience::new();
     for _ in rt.forever() {
-        let Served { answer, hint } = serve_message(rt, shared, cells, pass, looks, message);
+        let more = patience.is_left();
+        let Served { answer, hint } = serve_message(rt, shared, cells, pass, looks, message, more);
         follow(rt, hints, hint, cells.moment(pass));
         match answer {
             Some(answer) => return answer,
-            None => {}
+            None => patience.wait(),
         }
     }
     unreachable!()

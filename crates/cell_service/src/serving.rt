@@ -1,13 +1,14 @@
 //! One try of what a message states, and what is told of it.
 
-ghost use Rattle.std.specs.Prelude.{◌≡◌, reverse, MatchOption, IfSome};
+ghost use Rattle.std.specs.Prelude.{◌≡◌, true, reverse, IsTrue, MatchOption, IfSome};
 ghost use Rattle.http_front.specs.Replies.{IsReplyStatus};
 ghost use Rattle.api_request.specs.Requests.{IsRequest};
 ghost use Rattle.request_parts.specs.Ends.{IsToldOf};
 ghost use Rattle.cell_asks.specs.Steps.{IsInVain};
 ghost use Rattle.cell_asks.specs.Told.{AreTold};
-ghost use Rattle.table_service.specs.Telling.{told};
-ghost use Rattle.cell_service.specs.Right.{IsAnswered, IsServed, told_error};
+ghost use Rattle.table_service.specs.Telling.{told, told_reply, IsTold};
+ghost use Rattle.request_calls.specs.Requests.{is_single_write};
+ghost use Rattle.cell_service.specs.Right.{IsAnswered, IsConflict, IsServed, told_error};
 
 use crate::hinting::{Hint, hint_of, may_feed};
 use api_request::RequestEnd;
@@ -18,6 +19,7 @@ use request_calls::try_request;
 use std::alloc::Global;
 use std::sync::atomic::AtomicBool;
 use std::sync::{Mutex, Wait};
+use table_model::{Refusal, Reply};
 use table_request::Request;
 use table_service::{budget_error, memory_error, read, refuse, tell};
 use transact_asks::Transacts;
@@ -47,7 +49,7 @@ impl Shared {
 /// What a try of a message came to, and what helpers are told of it.
 #[derive(Drop)]
 pub(crate) struct Served {
-    /// None where a table was gone that was known: the message is to be tried again.
+    /// None where the message is to be tried again: a table was gone that was known, or a transaction holds the item of a write.
     pub(crate) answer: Option<Answer>,
     pub(crate) hint: Hint,
 }
@@ -63,6 +65,44 @@ fn tell_error(why: StepError) -> Answer
     }
 }
 
+/// Whether a request is tried again where a transaction holds its item: one write, while the message has `patience`.
+fn may_wait(patience: bool, request: &Request) -> bool
+    ensures { IsTrue result → is_single_write request.now ≡ true }
+{
+    match request {
+        Request::PutItem(_) | Request::UpdateItem(_) | Request::DeleteItem(_) => patience,
+        _ => false,
+    }
+}
+
+/// Whether a transaction holds the item of a write.
+fn is_conflict(reply: &Reply) -> bool
+    ensures { IsTrue result → IsConflict reply.now }
+{
+    match reply {
+        Reply::Refused(Refusal::Conflict { number: _ }) => true,
+        _ => false,
+    }
+}
+
+/// What is told of a reply: nothing where its request waits for a transaction that holds its item.
+fn serve_reply(alloc: Global, reply: Reply, may_feed: bool, may_wait: bool) -> Served
+    ensures status { IfSome result.answer (λ answer. IsReplyStatus answer.status) }
+    ensures told { MatchOption result.answer (IsTrue may_wait × IsConflict reply) (λ answer. IsTold (told_reply reply) (told answer)) }
+{
+    let hint = hint_of(&reply, may_feed);
+    if may_wait && is_conflict(&reply) {
+        drop(reply);
+        return Served { answer: None, hint };
+    }
+    let answer = tell(alloc, &reply);
+    drop(reply);
+    Served {
+        answer: Some(answer),
+        hint,
+    }
+}
+
 /// Tries a request once, and tells what it came to.
 fn serve<C: Transacts>(
     indexed: &AtomicBool,
@@ -70,6 +110,7 @@ fn serve<C: Transacts>(
     pass: &mut C::Pass,
     looks: &mut Looks,
     request: Request,
+    patience: bool,
 ) -> Served
     requires fits { C.fits cells.now pass.old }
     requires told { AreTold (reverse (C.seen pass.old).front) looks.old }
@@ -80,16 +121,9 @@ fn serve<C: Transacts>(
     ensures fits { C.fits cells.now pass.new }
 {
     let may_feed = may_feed(indexed, &request);
+    let may_wait = may_wait(patience, &request);
     match try_request(cells, pass, looks, request) {
-        Ok(Tried::Reply(reply)) => {
-            let hint = hint_of(&reply, may_feed);
-            let answer = tell(cells.alloc(), &reply);
-            drop(reply);
-            Served {
-                answer: Some(answer),
-                hint,
-            }
-        }
+        Ok(Tried::Reply(reply)) => serve_reply(cells.alloc(), reply, may_feed, may_wait),
         Ok(Tried::Again) => Served {
             answer: None,
             hint: Hint::Nothing,
@@ -128,7 +162,7 @@ fn only(answer: Answer) -> Served
     }
 }
 
-/// Reads a message, and tries its request once.
+/// Reads a message, and tries its request once. With `patience` a conflict of a single write is not told.
 pub(crate) fn serve_message<R: Wait, C: Transacts>(
     rt: &R,
     shared: &Shared,
@@ -136,6 +170,7 @@ pub(crate) fn serve_message<R: Wait, C: Transacts>(
     pass: &mut C::Pass,
     looks: &mut Looks,
     message: &Message,
+    patience: bool,
 ) -> Served
     requires fits { C.fits cells.now pass.old }
     requires told { AreTold (reverse (C.seen pass.old).front) looks.old }
@@ -146,7 +181,7 @@ pub(crate) fn serve_message<R: Wait, C: Transacts>(
     ensures fits { C.fits cells.now pass.new }
 {
     match read_in_turn(&shared.large_bodies, rt, cells.alloc(), message) {
-        Ok(request) => serve(&shared.indexed, cells, pass, looks, request),
+        Ok(request) => serve(&shared.indexed, cells, pass, looks, request, patience),
         Err(RequestEnd::Fault(refusal)) => only(refuse(cells.alloc(), &refusal)),
         Err(RequestEnd::NoMemory) => only(memory_error()),
     }
