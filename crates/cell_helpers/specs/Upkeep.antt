@@ -7,7 +7,8 @@ use Rattle.table_history.specs.Entries.{TableEvent}
 use Rattle.cell_asks.specs.Steps.{bound}
 
 -- from p to q the pass added these own entries, none of which binds a request: no Write that was made, no Begin that drew a number, no
--- command that was carried out. But for these, its moment and its units it is as it was
+-- command that was carried out. Expired items may have been removed, and transactions ended. But for these entries, its moment and its
+-- units the pass is as it was
 pub record Upkeep (p q : PassView TableEvent) : Type 0 where
   pub own : List TableEvent
   pub trail : Trail pass_of p.number p.front own q.front
