@@ -90,11 +90,15 @@ fn serve_reply(alloc: Global, reply: Reply, may_feed: bool, may_wait: bool) -> S
     ensures status { IfSome result.answer (λ answer. IsReplyStatus answer.status) }
     ensures told { MatchOption result.answer (IsTrue may_wait × IsConflict reply) (λ answer. IsTold (told_reply reply) (told answer)) }
 {
-    let hint = hint_of(&reply, may_feed);
     if may_wait && is_conflict(&reply) {
         drop(reply);
-        return Served { answer: None, hint };
+        // As a rule whoever drives the transaction ends it. Helpers are told where the tries end before it does.
+        return Served {
+            answer: None,
+            hint: Hint::Nothing,
+        };
     }
+    let hint = hint_of(&reply, may_feed);
     let answer = tell(alloc, &reply);
     drop(reply);
     Served {
