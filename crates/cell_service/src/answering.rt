@@ -43,7 +43,7 @@ pub(crate) fn answer<R: Wait, C: Transacts>(
         follow(rt, hints, hint, cells.moment(pass));
         match answer {
             Some(answer) => return answer,
-            None => patience.wait(),
+            None => patience.wait(rt),
         }
     }
     unreachable!()

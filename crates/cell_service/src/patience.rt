@@ -1,22 +1,23 @@
 //! How long a message waits for a transaction.
 
-use std::hint::spin_loop;
+use std::sync::Wait;
+use std::sync::atomic::AtomicU64;
 use std::thread::yield_now;
+use std::time::Duration;
 
 /// So often in all a single write is tried that finds its item held; then the conflict is told.
 const TRIES: u32 = 7;
 
-/// How often the processor spins before the second try, and before each further one twice as often. That is 8,064 times before
-/// the seventh: some 600 microseconds where a spin takes 140 cycles of 2 GHz, and less elsewhere.
-const FIRST_SPINS: u32 = 128;
+/// How many microseconds the thread sleeps before the third try. Before each further one it sleeps twice as long: some 500 in all.
+const FIRST_SLEEP: u64 = 16;
 
 /// What is left of a message's tries.
 #[derive(Drop)]
 pub(crate) struct Patience {
     /// How many tries are left behind the next one.
     left: u32,
-    /// How often the processor spins before the one after the next.
-    spins: u32,
+    /// How many microseconds the thread sleeps before the one after the next.
+    sleep: u64,
 }
 
 impl Patience {
@@ -24,7 +25,7 @@ impl Patience {
     pub(crate) fn new() -> Patience {
         Patience {
             left: TRIES - 1,
-            spins: FIRST_SPINS,
+            sleep: 0,
         }
     }
 
@@ -33,17 +34,26 @@ impl Patience {
         self.left > 0
     }
 
-    /// Waits until the next try, each time for longer. It also lets other threads run, since a transaction's own may have lost its
-    /// processor. Where no try is left it returns at once.
-    pub(crate) fn wait(&mut self) {
+    /// Waits until the next try, each time for longer. The second try comes at once, since the message is read again for it, which
+    /// takes as long as a transaction does as a rule. Later ones leave the processor to a transaction's thread that lost its own.
+    /// Where no try is left it returns at once.
+    pub(crate) fn wait<R: Wait>(&mut self, rt: &R) {
         if self.left == 0 {
             return;
         }
         self.left -= 1;
-        for _ in 0..self.spins {
-            spin_loop();
+        if self.sleep == 0 {
+            yield_now();
+            self.sleep = FIRST_SLEEP;
+            return;
         }
-        self.spins = self.spins.saturating_mul(2);
-        yield_now();
+        sleep(rt, self.sleep);
+        self.sleep = self.sleep.saturating_mul(2);
     }
+}
+
+/// Sleeps so many microseconds.
+fn sleep<R: Wait>(rt: &R, microseconds: u64) {
+    // Nobody else knows this word, so nobody wakes who sleeps on it.
+    AtomicU64::new(0).park_timeout(rt, 0, Duration::from_micros(microseconds));
 }
