@@ -1,14 +1,13 @@
 -- What a pass counted by a call, whatever the call: its own entries, and one unit more at most.
-use Rattle.std.proofs.Common.{◌≡◌, ℕ, List, [], ◌∷◌, ◌++◌, reverse, sym, ap, subst, inl, inr, arith, refl, ◌∙◌}
-use Rattle.std.proofs.lemmas.List.{append-nil, reverse-append}
+use Rattle.std.proofs.Common.{◌≡◌, ℕ, List, [], ◌∷◌, ◌++◌, reverse, sym, ap, subst, inl, inr, arith, ◌∙◌}
+use Rattle.std.proofs.lemmas.List.{reverse-append}
 use Rattle.turnstile.specs.Passes.{PassView, most_units}
 use Rattle.cluster.specs.declared.step.StepError.{StepError}
-use Rattle.cluster.specs.Counts.{Counts, CountsUntil}
+use Rattle.cluster.specs.Counts.{Counts}
 use Rattle.cluster.proofs.OwnEntries.{counts_none, counts_on}
 use Rattle.coordinator.specs.Driving.{Added}
 use Rattle.coordinator.proofs.Moving.{added_by, added_on, added_after, until_added, until_spent}
 use Rattle.cell_model.specs.Service.{service}
-use Rattle.cell_model.specs.declared.answer.TableLook.{TableLook}
 use Rattle.table_history.specs.Entries.{TableMessage, TableAnswer, TableEvent}
 use Rattle.cell_asks.specs.declared.looks.Looks.{Looks}
 use Rattle.cell_asks.specs.Steps.{answered, One, Stops, GivesUp, IsInVain}

@@ -1,12 +1,10 @@
 -- What each call counted.
 use Rattle.std.specs.Prelude.{◌⊎◌, Option}
-use Rattle.std.proofs.Common.{◌≡◌, ℕ, List, [], ◌∷◌, reverse, subst, sym, ◌∙◌, inl, inr}
+use Rattle.std.proofs.Common.{◌≡◌, ℕ, List, [], ◌∷◌, reverse, sym, ◌∙◌, inl, inr}
 use Rattle.attr_value.specs.Tree.{Attributes}
 use Rattle.turnstile.specs.Passes.{PassView, most_units}
 use Rattle.cluster.specs.declared.step.StepError.{StepError}
-use Rattle.coordinator.specs.Driving.{Added}
 use Rattle.coordinator.specs.declared.transact_end.TransactEnd.{TransactEnd}
-use Rattle.cell_model.specs.Service.{service}
 use Rattle.cell_model.specs.Actions.{ItemAction}
 use Rattle.cell_model.specs.Parts.{PagePart}
 use Rattle.cell_model.specs.declared.answer.TableLook.{TableLook}
@@ -25,7 +23,6 @@ use Rattle.table_history.specs.Entries.{TableEvent}
 use Rattle.cell_asks.specs.declared.asks.Wrote.{Wrote}
 use Rattle.cell_asks.specs.declared.tried.Tried.{Tried}
 use Rattle.cell_asks.specs.declared.looks.Looks.{Looks}
-use Rattle.cell_asks.specs.Steps.{GivesUp}
 use Rattle.cell_asks.specs.Told.{AreTold}
 use Rattle.table_calls.specs.Commands.{IsCommanded, CreatesTable}
 use Rattle.table_calls.specs.Questions.{ByLook, ByNames}
@@ -39,7 +36,7 @@ use Rattle.transact_asks.specs.Several.{WritesEnd}
 use Rattle.transact_calls.specs.declared.write.Transacted.{Transacted}
 use Rattle.transact_calls.specs.Looks.{Told, LookedAll as AllLooked}
 use Rattle.transact_calls.specs.Ends.{FindsGone, IsGone, IsToldEnd}
-use Rattle.transact_calls.specs.Transactions.{IsTransactWriteTry, GivesUpOnce}
+use Rattle.transact_calls.specs.Transactions.{IsTransactWriteTry}
 use Rattle.transact_calls.specs.Gets.{ReadsTogether, ReadsApart, IsTransactGetTry}
 use Rattle.transact_calls.proofs.Looking.{own_looks}
 use Rattle.request_calls.specs.Requests.{Replies, IsTry, IsGivenUp, Tries, Stops}
@@ -98,7 +95,7 @@ module _ (n : ℕ) where
   all_looked p (name ∷ names) [] q it = absurd it
   all_looked p (name ∷ names) (t ∷ told) q (mid, one, rest) = stretch_on n p mid q (one_counted n p _ _ mid one) (all_looked mid names told q rest)
 
-  looked_or_not : (p : PassView TableEvent) (names : List (List ℕ)) (q : PassView TableEvent) → LookedAll n p names q → Stretch n p q
+  pub looked_or_not : (p : PassView TableEvent) (names : List (List ℕ)) (q : PassView TableEvent) → LookedAll n p names q → Stretch n p q
   looked_or_not p names q (inl same) = none_counted n p q same
   looked_or_not p names q (inr (told, looks)) = all_looked p names told q looks
 
@@ -113,7 +110,7 @@ module _ (n : ℕ) where
       is_counted n p q (stretch_on n p it.mid q (looked_or_not p _ it.mid it.looked) (all_got it.mid _ it.items q it.gets))
   batch_read p r Tried.Again q it = vain_counted n p q it
 
-  all_written : (p : PassView TableEvent) (ws : List (List ℕ × WriteRequest)) (wrotes : List Wrote) (q : PassView TableEvent) → AreWritten n p ws wrotes q → Stretch n p q
+  pub all_written : (p : PassView TableEvent) (ws : List (List ℕ × WriteRequest)) (wrotes : List Wrote) (q : PassView TableEvent) → AreWritten n p ws wrotes q → Stretch n p q
   all_written p ws [] q same = none_counted n p q same
   all_written p [] (wrote ∷ wrotes) q it = absurd it
   all_written p (w ∷ ws) (wrote ∷ wrotes) q (mid, one, rest) = stretch_on n p mid q (one_counted n p _ _ mid one.one) (all_written mid ws wrotes q rest)
@@ -149,7 +146,7 @@ module _ (n : ℕ) where
 
   -- ---- transactions
 
-  looks_counted : (p : PassView TableEvent) (told : Told) (q : PassView TableEvent) → AllLooked n p told q → Stretch n p q
+  pub looks_counted : (p : PassView TableEvent) (told : Told) (q : PassView TableEvent) → AllLooked n p told q → Stretch n p q
   looks_counted p told q looks = let own = own_looks n p told q looks in record { own = own.own; counts = own.counts }
 
   finding : (p : PassView TableEvent) (actions : List ItemAction) (name : List ℕ) (q : PassView TableEvent) → FindsGone n p actions name q → Stretch n p q
@@ -161,7 +158,7 @@ module _ (n : ℕ) where
   gone p actions place name q (inl at) = none_counted n p q at.1
   gone p actions place name q (inr finds) = finding p actions name q finds
 
-  told_end : (p : PassView TableEvent) (actions : List ItemAction) (consumed : Option (List Consumed)) (end : WritesEnd) (reply : Reply) (q : PassView TableEvent)
+  pub told_end : (p : PassView TableEvent) (actions : List ItemAction) (consumed : Option (List Consumed)) (end : WritesEnd) (reply : Reply) (q : PassView TableEvent)
       → IsToldEnd n p actions consumed end reply q → Stretch n p q
   told_end p actions consumed TransactEnd.Committed reply q it = none_counted n p q it.0
   told_end p actions consumed (TransactEnd.Cancelled reasons) reply q it = none_counted n p q it.0

@@ -1,2 +1,3 @@
--- The definitions in reading order: what a try of any request comes to.
+-- The definitions in reading order: what a try of any request comes to; when its reply is that of the tables.
 pub mod Requests
+pub mod Complete

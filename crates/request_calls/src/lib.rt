@@ -5,6 +5,8 @@
 #![tactic(auto)]
 
 mod call;
+mod laws;
 mod tried;
 
+pub use laws::replies_are_complete;
 pub use tried::try_request;
