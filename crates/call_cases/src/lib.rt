@@ -6,8 +6,6 @@ mod calls;
 #[cfg(test)]
 mod expiry;
 #[cfg(test)]
-mod gates;
-#[cfg(test)]
 mod held;
 #[cfg(test)]
 mod late;
