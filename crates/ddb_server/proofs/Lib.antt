@@ -1,3 +1,4 @@
 pub mod Unserved
 pub mod Statuses
 pub mod Serving
+pub mod Clients

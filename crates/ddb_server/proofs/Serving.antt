@@ -16,7 +16,7 @@ use Rattle.cell_helpers.specs.Upkeep.{Upkeep}
 use Rattle.cell_helpers.proofs.Kept.{kept_none, rests_still}
 
 -- there are as many passes as were asked for
-count : (cells : TurnstileView) (passes k : ℕ) → length (first_passes {E = TableEvent} cells.id passes k) ≡ k
+pub count : (cells : TurnstileView) (passes k : ℕ) → length (first_passes {E = TableEvent} cells.id passes k) ≡ k
 count cells passes Rattle.std.specs.Prelude.zero = refl
 count cells passes (suc k) =
     let one = length-append (first_passes {E = TableEvent} cells.id passes k) (first_pass cells.id passes k ∷ []) in

@@ -11,6 +11,7 @@ use Rattle.table_service.specs.Plain.{plain_ways}
 use Rattle.command_words.specs.declared.words.Command.TheVariants.{Stdio, Serve, Load}
 use Rattle.command_words.specs.States.{States, StatesNone}
 use Rattle.ddb_server.specs.Served.{RunsListener}
+use Rattle.ddb_server.specs.Loaded.{RunsLoad}
 
 -- the status by the session's end
 abbrev pub session_status : SessionEnd → ℕ
@@ -67,13 +68,19 @@ abbrev pub RefusesAll : Outside → Outside → ℕ → Type 0
 RefusesAll old new status =
     RefusesWords old.written new.written status × (new.input ≡ old.input) × (new.connections ≡ old.connections)
 
--- the words state a command, which is run, or none; `load` is refused as if it were none
+-- a load of so many clients out of so many partitions, whose summary is written; all else is left alone
+abbrev pub RunsClients : ℕ → ℕ → ℕ → ℕ → Outside → Outside → ℕ → Type 0
+RunsClients start clients count partitions old new status =
+    RunsLoad start clients count partitions old.written new.written status
+    × (new.input ≡ old.input) × (new.moments ≡ old.moments) × (new.connections ≡ old.connections)
+
+-- the words state a command, which is run, or none
 abbrev pub RunsWords : List (List ℕ) → Outside → Outside → ℕ → Type 0
 RunsWords words old new status =
     ((partitions : ℕ) × States words (Stdio partitions) × RunsStdio old new status)
     ⊎ ((port : ℕ) × (partitions : ℕ) × (workers : ℕ) × States words (Serve port partitions workers) × RunsServe partitions workers old new status)
     ⊎ ((start : ℕ) × (clients : ℕ) × (count : ℕ) × (partitions : ℕ) × States words (Load start clients count partitions)
-    × RefusesAll old new status)
+    × RunsClients start clients count partitions old new status)
     ⊎ (StatesNone words × RefusesAll old new status)
 
 -- the same; or memory was refused for the words, and nothing was done

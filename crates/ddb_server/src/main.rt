@@ -3,14 +3,16 @@
 //! [`run`] carries the theorem. With the word `stdio` what it writes is, message by message, the bytes of the replies that
 //! the sequential database of `table_model` gives to the messages that it reads, from the empty database on. With the word
 //! `serve` each connection of a listener is answered by right replies, by the events of one history of whole requests, in
-//! as many threads as there are workers. Each exit status has its cause. `specs/` has the definitions, in reading order:
-//! what is served at a port, the program.
+//! as many threads as there are workers. With the word `load` clients move money between accounts at once, and what is written
+//! is what their bank comes to. Each exit status has its cause. `specs/` has the definitions, in reading order:
+//! what is served at a port, what a load does, the program.
 //!
 //! `main` hands `run` the real streams, sockets and the system's clock, and ends with its status. Where a run ended badly it
 //! says why on standard error.
 #![tactic(auto)]
 
 mod announced;
+mod loading;
 mod program;
 
 use announced::Announced;
@@ -19,6 +21,7 @@ pub use program::run;
 use socket_listener::{Interfaces, SocketListener};
 use std::env;
 use std::process::ExitCode;
+use table_load::PointGate;
 
 /// The environment variable that says whom `serve` listens to: everybody where it is `all`, and else this machine alone.
 const LISTEN: &str = "DDB_SERVER_LISTEN";
@@ -41,6 +44,7 @@ fn main(rt: HostRuntime) -> ExitCode {
         &mut sink,
         &mut clock,
         &mut listener,
+        &mut PointGate::open(),
     );
     if let Some(reason) = reason(status) {
         // where standard error fails too, the status alone tells

@@ -5,8 +5,10 @@ ghost use Rattle.ddb_outside.specs.Causes.{Rose};
 ghost use Rattle.ddb_server.specs.Programs.{Runs, RunsSession, RefusesWords, outside, session_status, usage};
 ghost use Rattle.ddb_server.specs.Served.{RunsListener, serve_status};
 
+use crate::loading::load;
 use cell_service::CellService;
 use command_words::{Command, WordsEnd, command};
+use coordinator::Gate;
 use ddb_outside::{Clock, Failed, Listener, Sink, Source, write_all};
 use http_front::Reader;
 use http_session::{SessionEnd, serve_session};
@@ -14,6 +16,7 @@ use http_workers::{ServeEnd, serve_all};
 use plain_database::SlowDb;
 use std::sync::Wait;
 use std::thread::Threads;
+use table_load::PointGate;
 use table_service::PlainService;
 
 /// What is written where the words are none of the commands.
@@ -34,8 +37,13 @@ const USAGE: &str =
 /// bound, a share of the listener was refused, or accepting failed 16 times in a row; 7 where memory was refused before
 /// anything was served.
 ///
-/// Other words are answered by the usage line and status 2, or 3 where the sink failed at it; `load` is not built yet, and
-/// is answered so. Where memory was refused for the words the status is 7.
+/// `load` makes a bank of 64 accounts in empty tables, lets so many clients move money between them at the same time, each in a
+/// thread of its own, until each of `count` transfers was made once, and writes six lines of what the bank comes to. Its status
+/// is 0 where they were written, 3 where the sink failed at them, 6 where the units of a pass are used up, 7 where memory was
+/// refused, 8 where the gate stopped it, which may stop transactions in the middle.
+///
+/// Other words are answered by the usage line and status 2, or 3 where the sink failed at it. Where memory was refused for the
+/// words the status is 7.
 pub fn run<R, S, K, C, L>(
     rt: &R,
     words: &[String],
@@ -43,6 +51,7 @@ pub fn run<R, S, K, C, L>(
     sink: &mut K,
     clock: &mut C,
     listener: &mut L,
+    gate: &mut PointGate,
 ) -> u8
 where
     R: AllocGlobal + Threads + Wait + Sync,
@@ -57,6 +66,7 @@ where
     ensures read { result ≡ 1 → Rose (S.faults source.old) (S.faults source.new) }
     ensures write { result ≡ 3 → Rose (K.faults sink.old) (K.faults sink.new) }
     ensures net { result ≡ 4 → Rose (L.faults listener.old) (L.faults listener.new) }
+    ensures stopped { result ≡ 8 → Rose (⟦<PointGate as Gate>⟧.stops gate.old) (⟦<PointGate as Gate>⟧.stops gate.new) }
 {
     match command(rt.alloc(), words) {
         Ok(Command::Stdio { partitions: _ }) => serve_stream(rt, source, sink, clock),
@@ -67,7 +77,14 @@ where
                 workers,
             },
         ) => serve_port(rt, clock, listener, port, partitions, workers),
-        Ok(Command::Load { .. }) => refuse_words(sink),
+        Ok(
+            Command::Load {
+                start,
+                clients,
+                count,
+                partitions,
+            },
+        ) => load(rt, sink, gate, start, clients, u64::from(count), partitions),
         Err(WordsEnd::Refused) => refuse_words(sink),
         Err(WordsEnd::NoMemory) => 7,
     }

@@ -1,0 +1,5 @@
+pub mod Tried
+pub mod Seen
+pub mod Upkept
+pub mod Places
+pub mod Crossings
